@@ -1,0 +1,70 @@
+-- The limits of the counts, the places of the sections, and the length that the counts give. `Counts` are those of the code's `Bundle`.
+use Prim.Native.Nat.{ℕ, _+_, _*_, _≤_}
+use mathlib.Core.Bool.{Bool, _&&_}
+use lib.Dec.{leb}
+use Rattle.bundle.specs.declared.Bundle.{Bundle as Counts}
+
+-- S 64, V 64, T 1,024, L 2,048, C 256, P 1,024
+abbrev pub limits : Counts
+limits = record {
+  version = 1;
+  symbols = 64;
+  variables = 64;
+  terms = 1024;
+  links = 2048;
+  contexts = 256;
+  steps = 1024;
+}
+
+-- words of 64 bits for a set of variables: a bit for each of the variables that there can be
+abbrev pub setWords : ℕ
+setWords = 1
+
+-- words of the header of a file of a version
+unfoldable pub headerWords : ℕ → ℕ
+headerWords version = 9
+
+-- the word at which each section starts: symbols (2 words a record), variables (1), terms (4), links (2), contexts (4), steps (5)
+abbrev pub symbolsAt : Counts → ℕ
+symbolsAt c = headerWords (c .version)
+
+abbrev pub variablesAt : Counts → ℕ
+variablesAt c = symbolsAt c + 2 * c .symbols
+
+abbrev pub termsAt : Counts → ℕ
+termsAt c = variablesAt c + c .variables
+
+abbrev pub linksAt : Counts → ℕ
+linksAt c = termsAt c + 4 * c .terms
+
+abbrev pub contextsAt : Counts → ℕ
+contextsAt c = linksAt c + 2 * c .links
+
+abbrev pub stepsAt : Counts → ℕ
+stepsAt c = contextsAt c + 4 * c .contexts
+
+-- the length of a file, in words and in bytes
+abbrev pub wordsOf : Counts → ℕ
+wordsOf c = stepsAt c + 5 * c .steps
+
+abbrev pub bytesOf : Counts → ℕ
+bytesOf c = 4 * wordsOf c
+
+-- each count is within its limit
+pub record Within (c : Counts) : Type 0 where
+  pub symbols : c .symbols ≤ limits .symbols
+  pub variables : c .variables ≤ limits .variables
+  pub terms : c .terms ≤ limits .terms
+  pub links : c .links ≤ limits .links
+  pub contexts : c .contexts ≤ limits .contexts
+  pub steps : c .steps ≤ limits .steps
+
+-- the same as a test
+abbrev pub withinOf : Counts → Bool
+withinOf c =
+    leb (c .symbols) (limits .symbols)
+    && leb (c .variables) (limits .variables)
+    && leb (c .terms) (limits .terms)
+    && leb (c .links) (limits .links)
+    && leb (c .contexts) (limits .contexts)
+    && leb (c .steps) (limits .steps)

@@ -1,0 +1,12 @@
+-- The words of a file: little-endian, 32 bits each.
+use Prim.Native.Nat.{ℕ, _+_, _*_}
+use mathlib.Core.List.{List}
+use lib.ListN.{getD}
+
+-- four bytes as one word, little-endian
+abbrev pub joinedOf : ℕ → ℕ → ℕ → ℕ → ℕ
+joinedOf a b c d = a + 256 * b + 65536 * c + 16777216 * d
+
+-- word k of a file of bytes, counted from 0
+unfoldable pub wordAt : List ℕ → ℕ → ℕ
+wordAt f k = joinedOf (getD f (4 * k) 0) (getD f (4 * k + 1) 0) (getD f (4 * k + 2) 0) (getD f (4 * k + 3) 0)

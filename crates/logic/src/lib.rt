@@ -1,0 +1,33 @@
+// Types that the definitions and the code of the checks share. The matter of this crate is in specs/ and proofs/.
+ghost use mathlib.Core.Path.{_≡_};
+ghost use Rattle.logic.specs.Tests.{fault};
+
+// What is wrong with a record: the number of the check that fails, and the record. Number 0: nothing is wrong.
+pub struct Fault {
+    pub number: usize,
+    pub record: usize,
+}
+
+// The signature of a symbol.
+pub enum Signature {
+    // Built in: `count` arguments, each of sort `sort`, and a result of sort `result`.
+    BuiltIn {
+        count: usize,
+        sort: usize,
+        result: usize,
+    },
+    // Declared, by the symbol's record of this number.
+    Declared(usize),
+    // No symbol: 0, reserved, or not declared.
+    Unknown,
+}
+
+// Nothing is wrong.
+pub fn no_fault() -> Fault
+    ensures { λ r. ⌜ r ≡ fault 0 0 ⌝ }
+{
+    Fault {
+        number: 0,
+        record: 0,
+    }
+}

@@ -1,0 +1,117 @@
+// Sets of variables in lent words, for any number of words a set. Laws of membership are in proofs/Members.antt.
+ghost use mathlib.Core.Path.{_≡_};
+ghost use Prim.Native.Nat.{ℕ, _+_, _^_, _≤_, _<_};
+ghost use lib.ListN.{length};
+ghost use Rattle.sets.specs.Sets.{bitAt, withBit, withoutBit, member, inserted, removed, cleared, united, disjointOf};
+
+// ---- One word
+
+// Bit k of x, x with bit k set, x with bit k cleared.
+fn bit_at(x: u64, k: usize) -> bool
+    requires { ⌜ k < 64 ⌝ }
+    ensures { λ r. ⌜ r ≡ bitAt x k ⌝ }
+{
+    (x >> k) & 1 == 1
+}
+
+fn with_bit(x: u64, k: usize) -> u64
+    requires { ⌜ k < 64 ⌝ }
+    ensures { λ r. ⌜ r ≡ withBit x k ⌝ }
+{
+    x | (1u64 << k)
+}
+
+fn without_bit(x: u64, k: usize) -> u64
+    requires { ⌜ k < 64 ⌝ }
+    ensures { λ r. ⌜ r ≡ withoutBit x k ⌝ }
+{
+    x ^ (x & (1u64 << k))
+}
+
+// ---- Sets: the n words of `area` from `at` on
+
+pub fn member(area: &[u64], at: usize, n: usize, v: usize) -> bool
+    requires { ⌜ at + n ≤ length (now area) ⌝ }
+    ensures { λ r. ⌜ r ≡ member (now (area .entry)) at n v ⌝ }
+{
+    if v == 0 {
+        return false;
+    }
+    let k = (v - 1) / 64;
+    if k >= n {
+        return false;
+    }
+    bit_at(area[at + k], (v - 1) % 64)
+}
+
+pub fn insert(area: &mut [u64], at: usize, n: usize, v: usize)
+    requires { ⌜ at + n ≤ length (now area) ⌝ }
+    ensures { λ _. ⌜ now (area .exit) ≡ inserted (now (area .entry)) at n v ⌝ }
+{
+    if v == 0 {
+        return;
+    }
+    let k = (v - 1) / 64;
+    if k >= n {
+        return;
+    }
+    let x = with_bit(area[at + k], (v - 1) % 64);
+    area[at + k] = x;
+}
+
+pub fn remove(area: &mut [u64], at: usize, n: usize, v: usize)
+    requires { ⌜ at + n ≤ length (now area) ⌝ }
+    ensures { λ _. ⌜ now (area .exit) ≡ removed (now (area .entry)) at n v ⌝ }
+{
+    if v == 0 {
+        return;
+    }
+    let k = (v - 1) / 64;
+    if k >= n {
+        return;
+    }
+    let x = without_bit(area[at + k], (v - 1) % 64);
+    area[at + k] = x;
+}
+
+pub fn clear(area: &mut [u64], at: usize, n: usize)
+    requires { ⌜ at + n ≤ length (now area) ⌝ }
+    ensures { λ _. ⌜ now (area .exit) ≡ cleared (now (area .entry)) at n ⌝ }
+{
+    let mut k = 0;
+    while k < n {
+        area[at + k] = 0;
+        k += 1;
+    }
+}
+
+// Adds the members of the set at `from` to the set at `to`, which stands above it.
+pub fn unite(area: &mut [u64], to: usize, from: usize, n: usize)
+    requires { ⌜ (from + n ≤ to) × (to + n ≤ length (now area)) ⌝ }
+    ensures { λ _. ⌜ now (area .exit) ≡ united (now (area .entry)) to from n ⌝ }
+{
+    let mut k = 0;
+    while k < n {
+        let x = area[to + k];
+        let y = area[from + k];
+        area[to + k] = x | y;
+        k += 1;
+    }
+}
+
+// Whether no number is a member of both the set at `first` and the set at `second`.
+pub fn disjoint(area: &[u64], first: usize, second: usize, n: usize) -> bool
+    requires { ⌜ (first + n ≤ length (now area)) × (second + n ≤ length (now area)) ⌝ }
+    ensures { λ r. ⌜ r ≡ disjointOf (now (area .entry)) first second n ⌝ }
+{
+    let mut k = n;
+    while k != 0 {
+        k -= 1;
+        let x = area[first + k];
+        let y = area[second + k];
+        if (x & y) != 0 {
+            return false;
+        }
+    }
+    true
+}

@@ -1,0 +1,186 @@
+-- The set that a term's record asks for, by its kind; and from the sets below t to those below t + 1.
+--     Ready, ready-room     what the code has once it has read a term's record and cleared its set
+--     by-variable, by-unknown, by-application, by-quantifier, by-let, by-other     what it writes then is what the record asks for
+--     SoFar, so-on          the sets below t are the free variables; so are those below t + 1, once that of t is written
+use mathlib.Core.Path.{_≡_, refl, sym, ap, _∙_, fun-ext}
+use mathlib.Core.Logic.{_⊎_, inl, inr, ⊎-elim}
+use mathlib.Core.Bool.{Bool, true, false, cond, not, _&&_, _||_, or-false, false≢true}
+use mathlib.Core.List.{List, [], _∷_}
+use Prim.Native.Nat.{ℕ, zero, suc, _+_, _*_, _-_, _≤_, _<_}
+use native.Mathlib.Omega.{arith}
+use native.Mathlib.Decide.{ℕ-discrete}
+use lib.ListN.{length, getD}
+use lib.Dec.{eqb, ltb, leb}
+use borrow.Author.Tests.{ltb-true, ltb-false, leb-true, ne-eqb}
+use Rattle.bundle.specs.Bundle.{Bundle, TermRecord, noTerm, termOf}
+use Rattle.bundle.specs.Links.{items}
+use Rattle.bundle.specs.Lists.{has, numbers}
+use Rattle.bundle.proofs.Limits.{both}
+use Rattle.bundle.proofs.Fields.{record-within}
+use Rattle.sets.specs.Sets.{holds, member, withBit, inserted, removed, cleared}
+use Rattle.sets.proofs.Members.{holds-small, member-same, member-inserted, member-cleared, changed-length, changed-out, filled-length, filled-out}
+use Rattle.logic.specs.Table.{table, below}
+use Rattle.logic.proofs.Tables.{table-below}
+use Rattle.logic.specs.Terms.{kindOf, binder, forAll, exists, letting, other}
+use Rattle.logic.specs.Free.{freesOf, freeBy, freeAt, nothingFree}
+use Rattle.tables.specs.Put.{Room, Kept, Put, setBelow}
+use Rattle.tables.proofs.Puts.{kept-trans, below-kept, room-kept, remove-put}
+
+abbrev mk : ℕ → ℕ → ℕ → ℕ → TermRecord
+mk k a y z = record { kind = k; a = a; b = y; c = z }
+
+-- a record is its four fields
+record-is : (r : TermRecord) (k a y z : ℕ) → k ≡ r .kind → a ≡ r .a → y ≡ r .b → z ≡ r .c → r ≡ mk k a y z
+record-is r k a y z p q s u = λ i. record { kind = sym p i; a = sym q i; b = sym s i; c = sym u i }
+
+-- a number that is a variable's, as the code tests it
+known-pos : (m a : ℕ) → numbers m a ≡ true → (0 < a) × (a ≤ m)
+known-pos m a e = let h = both (ltb 0 a) e in (ltb-true 0 a (h .0), leb-true a m (h .1))
+
+-- the kind of a number, as the code tests it
+kind-quantifier : (k : ℕ) → (k ≡ 1 → ⊥) → (k ≡ 2 → ⊥) → (eqb k 3 || eqb k 4) ≡ true → (kindOf k ≡ binder forAll) ⊎ (kindOf k ≡ binder exists)
+unfolding kindOf
+kind-quantifier k not1 not2 = rw (ne-eqb k 1 not1, ne-eqb k 2 not2) (go (eqb k 3) (eqb k 4))
+  where
+    go : (p q : Bool) → (p || q) ≡ true
+        → (cond p (binder forAll) (cond q (binder exists) (cond (eqb k 5) letting other)) ≡ binder forAll)
+        ⊎ (cond p (binder forAll) (cond q (binder exists) (cond (eqb k 5) letting other)) ≡ binder exists)
+    go true q h = inl refl
+    go false true h = inr refl
+    go false false h = absurd (false≢true h)
+
+kind-other : (k : ℕ) → (k ≡ 1 → ⊥) → (k ≡ 2 → ⊥) → (eqb k 3 || eqb k 4) ≡ false → (k ≡ 5 → ⊥) → kindOf k ≡ other
+unfolding kindOf
+kind-other k not1 not2 e not5 = rw (ne-eqb k 1 not1, ne-eqb k 2 not2, ne-eqb k 5 not5) (go (eqb k 3) (eqb k 4) e)
+  where
+    go : (p q : Bool) → (p || q) ≡ false → cond p (binder forAll) (cond q (binder exists) other) ≡ other
+    go true q h = absurd (false≢true (sym h))
+    go false true h = absurd (false≢true (sym h))
+    go false false h = refl
+
+put-clear : (w v : List ℕ) (n at : ℕ) → at + n ≤ length w → v ≡ cleared w at n → Put w v n at (λ x. false)
+put-clear w v n at room e = rw e (record {
+  kept = record { long = filled-length (λ k. 0) w at n; others = λ j out. filled-out (λ k. 0) w at n j out };
+  members = λ x. member-cleared w at n room x;
+})
+
+-- What the code has once it has read the four fields of term t, of a bundle with m variables, and cleared its set: v is w with that set cleared.
+pub record Ready (b : Bundle) (m : ℕ) (w v : List ℕ) (n t at k a y z : ℕ) : Type 0 where
+  pub variables : length (b .variables) ≡ m
+  pub enough : m ≤ 64 * n
+  pub room : Room w n t at
+  pub kind : k ≡ termOf b t .kind
+  pub first : a ≡ termOf b t .a
+  pub second : y ≡ termOf b t .b
+  pub third : z ≡ termOf b t .c
+  pub clear : v ≡ cleared w at n
+
+module _ {b : Bundle} {m : ℕ} {w v : List ℕ} {n t at k a y z : ℕ} (ready : Ready b m w v n t at k a y z) where
+  same : termOf b t ≡ mk k a y z
+  same = record-is (termOf b t) k a y z (ready .kind) (ready .first) (ready .second) (ready .third)
+
+  none : Put w v n at (λ x. false)
+  none = put-clear w v n at (ready .room .room) (ready .clear)
+
+  empty : (x : ℕ) → member v at n x ≡ false
+  empty x = none .members x
+
+  pub ready-room : Room v n t at
+  ready-room = room-kept w v n t at (ready .room) (none .kept)
+
+  -- lower sets are read as they were
+  lower : (u : List ℕ) → Kept w u n at → setBelow u n t ≡ setBelow w n t
+  lower u kept = fun-ext (λ i. fun-ext (λ x. below-kept w u n t at (ready .room) kept i x))
+
+  pub by-variable : (u : List ℕ) → k ≡ 1 → numbers m a ≡ true → u ≡ inserted v at n a → Put w u n at (freeBy b (setBelow w n t) (termOf b t))
+  unfolding freeBy
+  by-variable u e known ins =
+      let p : (0 < a) × (a ≤ m) = known-pos m a known in
+      let has-bit : holds n a ≡ true = holds-small n a (p .0) (omega (arith, p .1, ready .enough)) in
+      rw (same, e, ins) (record {
+        kept = kept-trans w v (inserted v at n a) n at (none .kept)
+            (record { long = changed-length withBit v at n a; others = λ j out. changed-out withBit v at n a j out });
+        members = λ x. rw (ready .variables, known) (member-inserted v at n a (ready-room .room) has-bit x ∙ rw (empty x) (or-false (eqb x a)));
+      })
+
+  pub by-unknown : k ≡ 1 → numbers m a ≡ false → Put w v n at (freeBy b (setBelow w n t) (termOf b t))
+  unfolding freeBy
+  by-unknown e known = rw (same, e) (record { kept = none .kept; members = λ x. rw (ready .variables, known) (empty x) })
+
+  pub by-application : (u : List ℕ) → k ≡ 2 → Put v u n at (λ x. member v at n x || freesOf (setBelow v n t) (items b y) x)
+      → Put w u n at (freeBy b (setBelow w n t) (termOf b t))
+  unfolding freeBy
+  by-application u e put = rw (same, e) (record {
+    kept = kept-trans w v u n at (none .kept) (put .kept);
+    members = λ x. put .members x ∙ rw (empty x, lower v (none .kept));
+  })
+
+  quantifier-is : (k ≡ 1 → ⊥) → (k ≡ 2 → ⊥) → (eqb k 3 || eqb k 4) ≡ true → (f : ℕ → ℕ → Bool) (x : ℕ) → freeBy b f (mk k a y z) x ≡ (not (eqb x a) && f y x)
+  unfolding freeBy
+  quantifier-is not1 not2 e f x = ⊎-elim (λ d. rw d) (λ d. rw d) (kind-quantifier k not1 not2 e)
+
+  other-is : (k ≡ 1 → ⊥) → (k ≡ 2 → ⊥) → (eqb k 3 || eqb k 4) ≡ false → (k ≡ 5 → ⊥) → (f : ℕ → ℕ → Bool) (x : ℕ) → freeBy b f (mk k a y z) x ≡ false
+  unfolding freeBy
+  other-is not1 not2 e not5 f x = rw (kind-other k not1 not2 e not5)
+
+  pub by-quantifier : (u q : List ℕ) → (k ≡ 1 → ⊥) → (k ≡ 2 → ⊥) → (eqb k 3 || eqb k 4) ≡ true
+      → Put v u n at (λ x. member v at n x || setBelow v n t y x) → q ≡ removed u at n a → Put w q n at (freeBy b (setBelow w n t) (termOf b t))
+  by-quantifier u q not1 not2 e put rem =
+      let over : Put u q n at (λ x. not (eqb x a) && member u at n x)
+      = remove-put u q n at a (omega (arith, ready .room .room, kept-trans w v u n at (none .kept) (put .kept) .long)) rem in
+      rw same (record {
+        kept = kept-trans w u q n at (kept-trans w v u n at (none .kept) (put .kept)) (over .kept);
+        members = λ x. over .members x ∙ ap (λ (p : Bool). not (eqb x a) && p) (put .members x ∙ rw (empty x, lower v (none .kept)))
+            ∙ sym (quantifier-is not1 not2 e (setBelow w n t) x);
+      })
+
+  pub by-let : (u q p : List ℕ) → k ≡ 5
+      → Put v u n at (λ x. member v at n x || setBelow v n t z x)
+      → Put u q n at (λ x. member u at n x && not (has x (items b a)))
+      → Put q p n at (λ x. member q at n x || freesOf (setBelow q n t) (items b y) x)
+      → Put w p n at (freeBy b (setBelow w n t) (termOf b t))
+  unfolding freeBy
+  by-let u q p e body but bound =
+      let upto-u : Kept w u n at = kept-trans w v u n at (none .kept) (body .kept) in
+      let upto-q : Kept w q n at = kept-trans w u q n at upto-u (but .kept) in
+      rw (same, e) (record {
+        kept = kept-trans w q p n at upto-q (bound .kept);
+        members = λ x. bound .members x ∙ rw (lower q upto-q, but .members x, body .members x, empty x, lower v (none .kept));
+      })
+
+  pub by-other : (k ≡ 1 → ⊥) → (k ≡ 2 → ⊥) → (eqb k 3 || eqb k 4) ≡ false → (k ≡ 5 → ⊥) → Put w v n at (freeBy b (setBelow w n t) (termOf b t))
+  by-other not1 not2 e not5 =
+      rw same (record { kept = none .kept; members = λ x. empty x ∙ sym (other-is not1 not2 e not5 (setBelow w n t) x) })
+
+-- ---- all terms
+
+-- the sets below t are the free variables
+abbrev pub SoFar : List ℕ → ℕ → ℕ → Bundle → Type 0
+SoFar w n t b = (i x : ℕ) → 1 ≤ i → i < t → member w (n * (i - 1)) n x ≡ freeAt b i x
+
+so-below : (w : List ℕ) (n t : ℕ) (b : Bundle) → SoFar w n t b → setBelow w n t ≡ below nothingFree t (freeAt b)
+unfolding setBelow freeAt
+so-below w n t b so = fun-ext (λ i. fun-ext (λ x. go i x (ltb 0 i) refl (ltb i t) refl))
+  where
+    go : (i x : ℕ) (p : Bool) → ltb 0 i ≡ p → (q : Bool) → ltb i t ≡ q
+        → cond (p && q) (member w (n * (i - 1)) n x) false ≡ cond q (freeAt b i) nothingFree x
+    go i x true d true e = so i x (ltb-true 0 i d) (ltb-true i t e)
+    go i x true d false e = refl
+    go i x false d false e = refl
+    go i x false d true e = let z : i ≡ 0 = (let h : i ≤ 0 = ltb-false 0 i d in omega arith) in rw z
+
+free-below : (b : Bundle) (t : ℕ) → freeAt b t ≡ freeBy b (below nothingFree t (freeAt b)) (termOf b t)
+unfolding freeAt freeBy
+free-below b t = table-below (freeBy b) nothingFree noTerm (λ f. refl) (b .terms) t
+
+pub so-on : (w v : List ℕ) (n t at : ℕ) (b : Bundle) → Room w n t at → SoFar w n t b → Put w v n at (freeBy b (setBelow w n t) (termOf b t)) → SoFar v n (t + 1) b
+so-on w v n t at b room so put i x one low = go (ℕ-discrete i t)
+  where
+    go : Dec (i ≡ t) → member v (n * (i - 1)) n x ≡ freeAt b i x
+    go (yes e) =
+        rw (e, ← room .start) (put .members x ∙ ap (λ (f : ℕ → ℕ → Bool). freeBy b f (termOf b t) x) (so-below w n t b so) ∙ sym (ap (λ (f : ℕ → Bool). f x) (free-below b t)))
+    go (no ne) =
+        let below-t : i < t = omega arith in
+        let fits : n * (i - 1) + n ≤ n * (t - 1) = record-within n (t - 1) i (λ z. omega arith) (omega arith) in
+        let start : at ≡ n * (t - 1) = room .start in
+        member-same v w (n * (i - 1)) n (λ k h. put .kept .others (n * (i - 1) + k) (inl (omega arith))) x ∙ so i x one below-t

@@ -1,0 +1,39 @@
+-- The kind of a term's record, from the tests of the code, and the record by its fields.
+--     kind-binder      3 and 4 are binders
+--     kind-rest        a number that is none of 2 to 5 is a variable's or no kind
+--     kind-other       a number that is none of 1 to 5 is no kind
+--     record-is        a record is its four fields
+-- Assumes nothing.
+use mathlib.Core.Path.{_≡_, refl, sym}
+use mathlib.Core.Bool.{Bool, true, false, cond, _||_, false≢true}
+use Prim.Native.Nat.{ℕ}
+use lib.Dec.{eqb}
+use borrow.Author.Tests.{eqb-true, ne-eqb}
+use Rattle.bundle.specs.Bundle.{TermRecord}
+use Rattle.bundle.proofs.Walks.{or-none}
+use Rattle.logic.specs.Terms.{Binder, forAll, exists, kindOf, variable, binder, other}
+
+pub kind-binder : (k : ℕ) → (eqb k 3 || eqb k 4) ≡ true → (q : Binder) × (kindOf k ≡ binder q)
+unfolding kindOf
+kind-binder k = go (eqb k 3) refl (eqb k 4) refl
+  where
+    go : (p : Bool) → eqb k 3 ≡ p → (s : Bool) → eqb k 4 ≡ s → (p || s) ≡ true → (q : Binder) × (kindOf k ≡ binder q)
+    go true d s e h = (forAll, rw (eqb-true k 3 d))
+    go false d true e h = (exists, rw (eqb-true k 4 e))
+    go false d false e h = absurd (false≢true h)
+
+module _ (k : ℕ) (not2 : k ≡ 2 → ⊥) (no-binder : (eqb k 3 || eqb k 4) ≡ false) (not5 : k ≡ 5 → ⊥) where
+  pub kind-rest : kindOf k ≡ cond (eqb k 1) variable other
+  unfolding kindOf
+  kind-rest =
+      let none = or-none (eqb k 3) (eqb k 4) no-binder in
+      rw (ne-eqb k 2 not2, none .0, none .1, ne-eqb k 5 not5)
+
+  pub kind-other : (k ≡ 1 → ⊥) → kindOf k ≡ other
+  kind-other not1 = rw (kind-rest, ne-eqb k 1 not1)
+
+abbrev pub termRecord : ℕ → ℕ → ℕ → ℕ → TermRecord
+termRecord k x y z = record { kind = k; a = x; b = y; c = z }
+
+pub record-is : (r : TermRecord) {k x y z : ℕ} → k ≡ r .kind → x ≡ r .a → y ≡ r .b → z ≡ r .c → r ≡ termRecord k x y z
+record-is r p q s u = λ i. record { kind = sym p i; a = sym q i; b = sym s i; c = sym u i }

@@ -1,0 +1,2 @@
+-- What the inner functions of free.rt leave.
+pub mod Put
