@@ -1,7 +1,6 @@
 -- Different numbers stand for different terms, where the checks 5 to 9 find nothing.
 --     distinct         THE THEOREM: numbers of terms with equal trees are equal
 --     distinct-pass    the same, of a bundle whose records pass
--- Assumes nothing.
 use mathlib.Core.Path.{_≡_, refl, sym, ap, ap₂, _∙_, subst}
 use Prim.Native.Nat.{ℕ, zero, suc, _≤_, _<_}
 use mathlib.Core.Bool.{Bool, true, false, false≢true}

@@ -4,7 +4,6 @@
 --     rest-start, rest-on, rest-here, rest-end     a loop's start, a good record, a bad one, no record left
 --     none-bad, none-bad-first     nothing is wrong in a section exactly where nothing is wrong with each record
 --     next-both, both-next         nothing is wrong in two sections exactly where nothing is wrong in each
--- Assumes nothing.
 use mathlib.Core.Path.{_≡_, refl, sym, ap, subst, _∙_}
 use mathlib.Core.Logic.{⊎-elim}
 use native.Mathlib.Nat.{eq-or-lt-of-le}

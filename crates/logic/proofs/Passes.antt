@@ -5,7 +5,6 @@
 --     term-good                the other way round for a term
 --     lower-of, known-of       of every number: its record refers to lower terms; its variable, if it is one, is a variable's number
 --     tree-step, sort-step, free-step, free-trees     so the tables' equations hold at every number, and trees agree with them
--- Assumes nothing.
 use mathlib.Core.Path.{_≡_, refl, ap}
 use Prim.Native.Nat.{ℕ, _-_, _≤_, _<_}
 use native.Mathlib.Omega.{arith}

@@ -6,7 +6,6 @@
 --     table-all       what holds of the default and is kept by each record holds of every cell
 --     table-map       two tables whose records build alike are alike (fold fusion)
 --     everywhere      what holds of the default and of each record holds at every number
--- Assumes nothing.
 use mathlib.Core.Path.{_≡_, refl, sym, ap, _∙_, fun-ext}
 use Prim.Native.Nat.{ℕ, zero, suc, _+_, _≤_, _<_}
 use native.Mathlib.Nat.{not-suc-le-zero, le-of-suc-le-suc}

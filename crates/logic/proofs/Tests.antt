@@ -7,7 +7,6 @@
 --     same-list, list-same                   lists that are the same, item by item, are equal
 --     has-at, at-has                         a member stands at some index
 --     each-has, each-at, has-each, at-each   a test of every item, by member and by index
--- Assumes nothing.
 use mathlib.Core.Path.{_≡_, refl, sym, ap, _∙_}
 use Prim.Native.Nat.{ℕ, zero, suc, _≤_, _<_}
 use mathlib.Core.Bool.{Bool, true, false, cond, not, _&&_, _||_, false≢true}

@@ -6,7 +6,6 @@
 --     free-sub, free-tree              the free variables of a number are free in its tree, and the other way round
 --                                      where each variable term has a variable's number
 --     free-known                       a free variable is a variable's number
--- Assumes nothing.
 use mathlib.Core.Path.{_≡_, refl, sym, ap, ap₂, _∙_, fun-ext}
 use Prim.Native.Nat.{ℕ, _-_, _≤_, _<_}
 use mathlib.Core.Bool.{Bool, true, false, not, _&&_, _||_, false≢true}

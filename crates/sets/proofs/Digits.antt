@@ -7,7 +7,7 @@
 use mathlib.Core.Path.{_≡_, refl, sym, ap, _∙_}
 use mathlib.Core.Bool.{Bool, true, false, not, _&&_, _||_, false≢true}
 use Prim.Native.Nat.{ℕ, zero, suc, _+_, _-_, _*_, _/_, _%_, _^_, _≤_, _<_, min, max}
-use native.Mathlib.Nat.{mod-lt, div-eq-of-lt, one-mul, zero-mod, zero-div, sub-add-cancel, pow-zero, pow-succ', div-div-eq-div-mul, div-one}
+use native.Mathlib.Nat.{mod-lt, div-eq-of-lt, one-mul, zero-div, sub-add-cancel, pow-succ', div-div-eq-div-mul, div-one}
 use native.Mathlib.Omega.{arith}
 use native.Mathlib.Decide.{decLt, ℕ-discrete}
 use lib.Dec.{eqb}

@@ -3,60 +3,28 @@
 --     by-variable, by-unknown, by-application, by-quantifier, by-let, by-other     what it writes then is what the record asks for
 --     SoFar, so-on          the sets below t are the free variables; so are those below t + 1, once that of t is written
 use mathlib.Core.Path.{_≡_, refl, sym, ap, _∙_, fun-ext}
-use mathlib.Core.Logic.{_⊎_, inl, inr, ⊎-elim}
+use mathlib.Core.Logic.{inl}
 use mathlib.Core.Bool.{Bool, true, false, cond, not, _&&_, _||_, or-false, false≢true}
-use mathlib.Core.List.{List, [], _∷_}
-use Prim.Native.Nat.{ℕ, zero, suc, _+_, _*_, _-_, _≤_, _<_}
+use mathlib.Core.List.{List}
+use Prim.Native.Nat.{ℕ, _+_, _*_, _-_, _≤_, _<_}
 use native.Mathlib.Omega.{arith}
 use native.Mathlib.Decide.{ℕ-discrete}
-use lib.ListN.{length, getD}
-use lib.Dec.{eqb, ltb, leb}
-use borrow.Author.Tests.{ltb-true, ltb-false, leb-true, ne-eqb}
-use Rattle.bundle.specs.Bundle.{Bundle, TermRecord, noTerm, termOf}
+use lib.ListN.{length}
+use lib.Dec.{eqb, ltb}
+use borrow.Author.Tests.{ltb-true, ltb-false}
+use Rattle.bundle.specs.Bundle.{Bundle, noTerm, termOf}
 use Rattle.bundle.specs.Links.{items}
 use Rattle.bundle.specs.Lists.{has, numbers}
-use Rattle.bundle.proofs.Limits.{both}
 use Rattle.bundle.proofs.Fields.{record-within}
 use Rattle.sets.specs.Sets.{holds, member, withBit, inserted, removed, cleared}
 use Rattle.sets.proofs.Members.{holds-small, member-same, member-inserted, member-cleared, changed-length, changed-out, filled-length, filled-out}
-use Rattle.logic.specs.Table.{table, below}
+use Rattle.logic.specs.Table.{below}
 use Rattle.logic.proofs.Tables.{table-below}
-use Rattle.logic.specs.Terms.{kindOf, binder, forAll, exists, letting, other}
+use Rattle.logic.proofs.Tests.{numbers-of}
 use Rattle.logic.specs.Free.{freesOf, freeBy, freeAt, nothingFree}
 use Rattle.tables.specs.Put.{Room, Kept, Put, setBelow}
+use Rattle.tables.proofs.TermKinds.{termRecord, record-is, kind-binder, kind-other}
 use Rattle.tables.proofs.Puts.{kept-trans, below-kept, room-kept, remove-put}
-
-abbrev mk : ℕ → ℕ → ℕ → ℕ → TermRecord
-mk k a y z = record { kind = k; a = a; b = y; c = z }
-
--- a record is its four fields
-record-is : (r : TermRecord) (k a y z : ℕ) → k ≡ r .kind → a ≡ r .a → y ≡ r .b → z ≡ r .c → r ≡ mk k a y z
-record-is r k a y z p q s u = λ i. record { kind = sym p i; a = sym q i; b = sym s i; c = sym u i }
-
--- a number that is a variable's, as the code tests it
-known-pos : (m a : ℕ) → numbers m a ≡ true → (0 < a) × (a ≤ m)
-known-pos m a e = let h = both (ltb 0 a) e in (ltb-true 0 a (h .0), leb-true a m (h .1))
-
--- the kind of a number, as the code tests it
-kind-quantifier : (k : ℕ) → (k ≡ 1 → ⊥) → (k ≡ 2 → ⊥) → (eqb k 3 || eqb k 4) ≡ true → (kindOf k ≡ binder forAll) ⊎ (kindOf k ≡ binder exists)
-unfolding kindOf
-kind-quantifier k not1 not2 = rw (ne-eqb k 1 not1, ne-eqb k 2 not2) (go (eqb k 3) (eqb k 4))
-  where
-    go : (p q : Bool) → (p || q) ≡ true
-        → (cond p (binder forAll) (cond q (binder exists) (cond (eqb k 5) letting other)) ≡ binder forAll)
-        ⊎ (cond p (binder forAll) (cond q (binder exists) (cond (eqb k 5) letting other)) ≡ binder exists)
-    go true q h = inl refl
-    go false true h = inr refl
-    go false false h = absurd (false≢true h)
-
-kind-other : (k : ℕ) → (k ≡ 1 → ⊥) → (k ≡ 2 → ⊥) → (eqb k 3 || eqb k 4) ≡ false → (k ≡ 5 → ⊥) → kindOf k ≡ other
-unfolding kindOf
-kind-other k not1 not2 e not5 = rw (ne-eqb k 1 not1, ne-eqb k 2 not2, ne-eqb k 5 not5) (go (eqb k 3) (eqb k 4) e)
-  where
-    go : (p q : Bool) → (p || q) ≡ false → cond p (binder forAll) (cond q (binder exists) other) ≡ other
-    go true q h = absurd (false≢true (sym h))
-    go false true h = absurd (false≢true (sym h))
-    go false false h = refl
 
 put-clear : (w v : List ℕ) (n at : ℕ) → at + n ≤ length w → v ≡ cleared w at n → Put w v n at (λ x. false)
 put-clear w v n at room e = rw e (record {
@@ -76,8 +44,8 @@ pub record Ready (b : Bundle) (m : ℕ) (w v : List ℕ) (n t at k a y z : ℕ) 
   pub clear : v ≡ cleared w at n
 
 module _ {b : Bundle} {m : ℕ} {w v : List ℕ} {n t at k a y z : ℕ} (ready : Ready b m w v n t at k a y z) where
-  same : termOf b t ≡ mk k a y z
-  same = record-is (termOf b t) k a y z (ready .kind) (ready .first) (ready .second) (ready .third)
+  same : termOf b t ≡ termRecord k a y z
+  same = record-is (termOf b t) (ready .kind) (ready .first) (ready .second) (ready .third)
 
   none : Put w v n at (λ x. false)
   none = put-clear w v n at (ready .room .room) (ready .clear)
@@ -95,7 +63,7 @@ module _ {b : Bundle} {m : ℕ} {w v : List ℕ} {n t at k a y z : ℕ} (ready :
   pub by-variable : (u : List ℕ) → k ≡ 1 → numbers m a ≡ true → u ≡ inserted v at n a → Put w u n at (freeBy b (setBelow w n t) (termOf b t))
   unfolding freeBy
   by-variable u e known ins =
-      let p : (0 < a) × (a ≤ m) = known-pos m a known in
+      let p : (0 < a) × (a ≤ m) = numbers-of m a known in
       let has-bit : holds n a ≡ true = holds-small n a (p .0) (omega (arith, p .1, ready .enough)) in
       rw (same, e, ins) (record {
         kept = kept-trans w v (inserted v at n a) n at (none .kept)
@@ -115,23 +83,23 @@ module _ {b : Bundle} {m : ℕ} {w v : List ℕ} {n t at k a y z : ℕ} (ready :
     members = λ x. put .members x ∙ rw (empty x, lower v (none .kept));
   })
 
-  quantifier-is : (k ≡ 1 → ⊥) → (k ≡ 2 → ⊥) → (eqb k 3 || eqb k 4) ≡ true → (f : ℕ → ℕ → Bool) (x : ℕ) → freeBy b f (mk k a y z) x ≡ (not (eqb x a) && f y x)
+  quantifier-is : (eqb k 3 || eqb k 4) ≡ true → (f : ℕ → ℕ → Bool) (x : ℕ) → freeBy b f (termRecord k a y z) x ≡ (not (eqb x a) && f y x)
   unfolding freeBy
-  quantifier-is not1 not2 e f x = ⊎-elim (λ d. rw d) (λ d. rw d) (kind-quantifier k not1 not2 e)
+  quantifier-is e f x = rw (kind-binder k e .1)
 
-  other-is : (k ≡ 1 → ⊥) → (k ≡ 2 → ⊥) → (eqb k 3 || eqb k 4) ≡ false → (k ≡ 5 → ⊥) → (f : ℕ → ℕ → Bool) (x : ℕ) → freeBy b f (mk k a y z) x ≡ false
+  other-is : (k ≡ 1 → ⊥) → (k ≡ 2 → ⊥) → (eqb k 3 || eqb k 4) ≡ false → (k ≡ 5 → ⊥) → (f : ℕ → ℕ → Bool) (x : ℕ) → freeBy b f (termRecord k a y z) x ≡ false
   unfolding freeBy
-  other-is not1 not2 e not5 f x = rw (kind-other k not1 not2 e not5)
+  other-is not1 not2 e not5 f x = rw (kind-other k not2 e not5 not1)
 
-  pub by-quantifier : (u q : List ℕ) → (k ≡ 1 → ⊥) → (k ≡ 2 → ⊥) → (eqb k 3 || eqb k 4) ≡ true
+  pub by-quantifier : (u q : List ℕ) → (eqb k 3 || eqb k 4) ≡ true
       → Put v u n at (λ x. member v at n x || setBelow v n t y x) → q ≡ removed u at n a → Put w q n at (freeBy b (setBelow w n t) (termOf b t))
-  by-quantifier u q not1 not2 e put rem =
+  by-quantifier u q e put rem =
       let over : Put u q n at (λ x. not (eqb x a) && member u at n x)
       = remove-put u q n at a (omega (arith, ready .room .room, kept-trans w v u n at (none .kept) (put .kept) .long)) rem in
       rw same (record {
         kept = kept-trans w u q n at (kept-trans w v u n at (none .kept) (put .kept)) (over .kept);
         members = λ x. over .members x ∙ ap (λ (p : Bool). not (eqb x a) && p) (put .members x ∙ rw (empty x, lower v (none .kept)))
-            ∙ sym (quantifier-is not1 not2 e (setBelow w n t) x);
+            ∙ sym (quantifier-is e (setBelow w n t) x);
       })
 
   pub by-let : (u q p : List ℕ) → k ≡ 5

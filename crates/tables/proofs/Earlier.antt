@@ -1,6 +1,5 @@
 -- A test of every number from n down to 1, for a loop that counts down from n and ends at the first number that fails.
 --     upto-on, upto-here, upto-end     a number that passes, one that fails, none left
--- Assumes nothing.
 use mathlib.Core.Path.{_≡_, refl}
 use mathlib.Core.Bool.{Bool, true, false}
 use Prim.Native.Nat.{ℕ, zero, suc, _-_}

@@ -4,7 +4,6 @@
 --     differs, on      both have an item: they differ, or the walk goes on
 --     some-start       a list is not empty
 --     replicate-cons, variables-cons, variables-nil     the equation of the first list, for sorts that are all the same and for those of variables
--- Assumes nothing.
 use mathlib.Core.Path.{_≡_, refl, sym, ap, _∙_}
 use mathlib.Core.Bool.{Bool, false, not, _&&_}
 use mathlib.Core.List.{List, [], _∷_, map}

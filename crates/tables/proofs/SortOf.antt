@@ -4,7 +4,6 @@
 --     sort-on, sort-not-lower            kind 5, a let: the sort of its body, if that is lower; else truth
 --     sort-zero, sort-other              0 is no term's number; all other kinds: truth
 --     signature-is                       a symbol's signature, by the count of symbols and in the file's bundle
--- Assumes nothing.
 use mathlib.Core.Path.{_≡_, refl, _∙_}
 use mathlib.Core.List.{List}
 use mathlib.Core.Bool.{Bool, true, false, cond}

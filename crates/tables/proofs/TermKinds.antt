@@ -3,7 +3,6 @@
 --     kind-rest        a number that is none of 2 to 5 is a variable's or no kind
 --     kind-other       a number that is none of 1 to 5 is no kind
 --     record-is        a record is its four fields
--- Assumes nothing.
 use mathlib.Core.Path.{_≡_, refl, sym}
 use mathlib.Core.Bool.{Bool, true, false, cond, _||_, false≢true}
 use Prim.Native.Nat.{ℕ}

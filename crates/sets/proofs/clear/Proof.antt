@@ -1,7 +1,7 @@
 -- `sets::clear` meets its contract. The invariant: the first k words are cleared.
 use native.Mathlib.Omega.{arith}
 use Prim.Native.Nat.{_-_, _≤_}
-use mathlib.Core.Path.{_≡_, refl, ap, sym, _∙_}
+use mathlib.Core.Path.{_≡_, refl, _∙_}
 use lib.ListN.{length, length-set}
 use Rattle.sets.specs.Sets.{filled, cleared}
 use Rattle.sets.proofs.Members.{filled-more}

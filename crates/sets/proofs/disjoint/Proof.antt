@@ -1,6 +1,6 @@
 -- `sets::disjoint` meets its contract. The invariant: the sets are disjoint exactly if their first k words are.
 use native.Mathlib.Omega.{arith}
-use Prim.Native.Nat.{_≤_, _-_}
+use Prim.Native.Nat.{_≤_}
 use mathlib.Core.Path.{_≡_, refl, sym, _∙_}
 use Rattle.sets.specs.Sets.{disjointOf}
 use Rattle.sets.proofs.Members.{disjoint-on, disjoint-here}

@@ -1,7 +1,7 @@
 -- `sets::unite` meets its contract. The invariant: the first k words are united; those that are read next are as they were.
 use native.Mathlib.Omega.{arith}
 use Prim.Native.Nat.{ℕ, _+_, _-_, _≤_}
-use mathlib.Core.Path.{_≡_, refl, ap, sym, _∙_}
+use mathlib.Core.Path.{_≡_, refl, _∙_}
 use mathlib.Core.Logic.{inl, inr}
 use lib.ListN.{length, getD, length-set}
 use lib.Bits.{bitOr}

@@ -1,6 +1,4 @@
 -- `tables::free::free_term` meets its contract: one law for each kind of term, from what is known once its set is cleared.
-use Prim.Native.Nat.{_≤_}
-use mathlib.Core.Path.{_≡_}
 use Rattle.bundle.specs.File.{bundleAt}
 use Rattle.bundle.proofs.Fields.{variables-length}
 use Rattle.bundle.proofs.records.term_field.Reads as term-field-reads
@@ -86,7 +84,7 @@ same-length-4 c = search needs
 returns-4 : tie.Need-returns-4
 returns-4 c =
     by-quantifier (ready (c .before .before .before .before .before .before .before .before .before .before .before .before .before)) (c .before .before .before .before .before .before .unite-term .last .0) (c .before .before .remove .last .0)
-    (c .before .before .before .before .before .before .before .before .before .before .if1 .left) (c .before .before .before .before .before .before .before .before .before .if3 .left) (c .before .before .before .before .before .before .before .before .if4 .taken)
+    (c .before .before .before .before .before .before .before .before .if4 .taken)
     (c .before .before .before .before .before .before .unite-term .ensures) (c .before .before .remove .ensures)
 
 unite-term-requires-2 : tie.Need-unite-term-requires-2
