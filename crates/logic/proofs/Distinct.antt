@@ -1,5 +1,5 @@
 -- Different numbers stand for different terms, where the checks 5 to 9 find nothing.
---     distinct         THE THEOREM: numbers of terms with equal trees are equal
+--     terms-distinct   THE THEOREM: numbers of terms with equal trees are equal
 --     distinct-pass    the same, of a bundle whose records pass
 use mathlib.Core.Path.{_≡_, refl, sym, ap, ap₂, _∙_, subst}
 use Prim.Native.Nat.{ℕ, zero, suc, _≤_, _<_}
@@ -16,6 +16,7 @@ use Rattle.logic.specs.Tests.{passed}
 use Rattle.logic.specs.Terms.{Term, var, app, bind, letIn, Kind, kindOf, variable, application, binder, letting, other, gather, treeAs, treeBy, tree}
 use Rattle.logic.specs.Checks.{refersAs, refers, firstIsList, secondIsList, sameField, sameTerm, sectionsFault}
 use Rattle.logic.specs.Distinct.{Distinct}
+use Rattle.logic.specs.Statements.{TermsDistinct}
 use Rattle.logic.proofs.Tests.{not-in, tested, all-passed, list-same}
 use Rattle.logic.proofs.Trees.{numberOf, kind-number, refsAs, Before, lower-as}
 use Rattle.logic.proofs.Passes.{TablesPass, sections-pass, refers-of, new-of, new-before, tree-step}
@@ -173,5 +174,5 @@ module _ (b : Bundle) (pass : TablesPass b) where
   distinct-pass i j lo hi j-lo j-hi e = own-upto i i (omega arith) lo hi j j-lo j-hi e
 
 -- THE THEOREM
-pub distinct : (b : Bundle) → sectionsFault b .number ≡ 0 → Distinct b
-distinct b e = distinct-pass b (sections-pass b e)
+pub terms-distinct : TermsDistinct
+terms-distinct b e = distinct-pass b (sections-pass b e)

@@ -1,13 +1,45 @@
 -- Laws and theorems. Each file stands on those above it.
---     Tables     tables that grow: a cell is what its record builds from the cells below it
---     Firsts     first faults, for loops over a section
---     Tests      tests put together and taken apart
---     Trees      trees, sorts and free variables of numbers
---     Passes     what is known of a bundle in which the checks 5 to 9 find nothing
---     Distinct   THE THEOREM: different numbers stand for different terms
+--     Tables           tables that grow: a cell is what its record builds from the cells below it
+--     Firsts           first faults, for loops over a section
+--     Tests            tests put together and taken apart
+--     Trees            trees, sorts and free variables of numbers
+--     Passes           what is known of a bundle in which the checks 5 to 9 find nothing
+--     Distinct         THE THEOREM: different numbers stand for different terms
+--     Exactly          tests that hold exactly where a proposition does, put together
+--     FreeSettled      free variables, moved variables and settled terms: tests on numbers and propositions of trees
+--     Formed           THE THEOREMS: checks 5 to 9, and 5 to 11, find nothing exactly in well-formed bundles
+--     TermNumbers      what records and contexts name are terms; what a tree says of its record
+--     Instances        THE THEOREMS: a step passes 12 to 14 exactly where it is an instance of its rule with its premises
+--     Values           laws of values: domains, quantifiers, valuations; a value depends on the free variables only
+--     Images           equations of images, from what a context's record says
+--     Sound            THE THEOREMS: where every step holds, both sides of a step in context 0 have equal values in every world
+--     CounterExample   document 01's counter-example: with BIND's printed condition alone a step leads from false to true
+--     Symbols          the symbol table: declared symbols have records, and stay where more are declared
+--     Shapes           the tree of a well-formed term, by its kind
+--     ValueSorts       THE THEOREM: values keep sorts
+--     Longer           longer bundles: records and lists appended
+--     Kept             what old numbers of a well-formed bundle stand for in a longer one
+--     FormedKept       old records of a well-formed bundle are well formed in a longer one
+--     Later            THE THEOREM: later records change nothing earlier
 pub mod Tables
 pub mod Firsts
 pub mod Tests
 pub mod Trees
 pub mod Passes
 pub mod Distinct
+pub mod Exactly
+pub mod FreeSettled
+pub mod Formed
+pub mod TermNumbers
+pub mod Instances
+pub mod Values
+pub mod Images
+pub mod Sound
+pub mod CounterExample
+pub mod Symbols
+pub mod Shapes
+pub mod ValueSorts
+pub mod Longer
+pub mod Kept
+pub mod FormedKept
+pub mod Later

@@ -3,6 +3,7 @@
 --     table-step      the same from the whole table, for a record that reads lower numbers only
 --     table-append    appended records leave the cells as they are
 --     table-both      two tables of one list of records: what the defaults are to each other, and each record keeps, the cells are
+--     table-kept      a longer list of records, built in another way that agrees on the old ones: the old cells are as they were
 --     table-all       what holds of the default and is kept by each record holds of every cell
 --     table-map       two tables whose records build alike are alike (fold fusion)
 --     everywhere      what holds of the default and of each record holds at every number
@@ -131,6 +132,16 @@ module _ {A B R : Type 0} (buildA : (ℕ → A) → R → A) (a₀ : A) (buildB 
   pub table-both : (r₀ : R) (rs : List R) → ((t : ℕ) → KeepsBoth (at r₀ rs t)) → (t : ℕ) → S (table buildA a₀ rs t) (table buildB b₀ rs t)
   unfolding table
   table-both r₀ rs k t = pairs-at (grow buildA a₀ [] rs) (grow buildB b₀ [] rs) (grow-both r₀ rs (λ i. k (suc i)) [] [] tt) t
+
+-- A table, and one of a longer list of records, built in a way that agrees on the old ones: the old cells are as they were.
+pub table-kept : {A R : Type 0} (build build′ : (ℕ → A) → R → A) (d : A) (r₀ : R) (rs rs′ more : List R) → rs′ ≡ rs ++ more
+    → ((i : ℕ) (f : ℕ → A) → build′ f (at r₀ rs i) ≡ build f (at r₀ rs i)) → (t : ℕ) → t ≤ length rs
+    → table build′ d rs′ t ≡ table build d rs t
+table-kept {A} {R} build build′ d r₀ rs rs′ more e same t h =
+    ap (λ (l : List R). table build′ d l t) e
+    ∙ table-append build′ d rs more t h
+    ∙ table-both build′ d build d (λ x y. x ≡ y) refl r₀ rs
+    (λ i f g eq. same i f ∙ ap (λ (k : ℕ → A). build k (at r₀ rs i)) (fun-ext eq)) t
 
 -- What holds of the default, and of whatever a listed record builds from cells of which it holds, holds of every cell.
 module _ {A R : Type 0} (build : (ℕ → A) → R → A) (d : A) (P : A → Type 0) (P-d : P d) where

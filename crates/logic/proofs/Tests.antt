@@ -2,7 +2,8 @@
 --     and-left, and-right, and-both, or-cases, or-left, or-right, or-neither, not-of, not-in, both-ways     of truth values
 --     numbers-of, numbers-in                 a number 1 to n, as a test and as two facts
 --     passed-each, tested, all-passed        all tests of a list passed: each did (test i too), and the other way round
---     up-to, up-to-all                       the same of the numbers 1 to n
+--     passed-same                            lists that are the same wherever one passes pass together
+--     up-to, up-to-all, up-to-more           the same of the numbers 1 to n; and where there are more of them, which pass
 --     failing-none, none-failing             no test fails: each holds, and the other way round
 --     same-list, list-same                   lists that are the same, item by item, are equal
 --     has-at, at-has                         a member stands at some index
@@ -14,7 +15,7 @@ use mathlib.Core.Logic.{_⊎_, inl, inr}
 use mathlib.Core.List.{List, [], _∷_}
 use native.Mathlib.Nat.{not-suc-le-zero, le-of-suc-le-suc}
 use native.Mathlib.Omega.{arith}
-use native.Mathlib.Decide.{ℕ-discrete}
+use native.Mathlib.Decide.{ℕ-discrete, decLe}
 use lib.Dec.{eqb, ltb, leb}
 use lib.ListN.{length, getD}
 use borrow.Author.Tests.{eqb-true, eq-eqb, ltb-true, leb-true, lt-ltb, le-leb}
@@ -115,6 +116,10 @@ each-test (t ∷ ts) h (suc i) = each-test ts (h .1) i
 pub tested : (ts : List Bool) → passed ts ≡ true → (i : ℕ) → getD ts i true ≡ true
 tested ts e i = each-test ts (passed-each ts e) i
 
+pub passed-same : (ts us : List Bool) → (Each ts → ts ≡ us) → (Each us → ts ≡ us) → passed ts ≡ passed us
+passed-same ts us f g =
+    both-ways (passed ts) (passed us) (λ e. sym (ap passed (f (passed-each ts e))) ∙ e) (λ e. ap passed (g (passed-each us e)) ∙ e)
+
 -- ---- the numbers 1 to n
 
 pub up-to : (n : ℕ) (p : ℕ → Bool) → upTo n p ≡ true → (x : ℕ) → 1 ≤ x → x ≤ n → p x ≡ true
@@ -131,6 +136,16 @@ unfolding upTo
 up-to-all zero p h = refl
 up-to-all (suc n) p h =
     and-both (p (suc n)) (upTo n p) (h (suc n) (omega arith) (omega arith)) (up-to-all n p (λ x a b. h x a (omega arith)))
+
+pub up-to-more : (n m : ℕ) (p q : ℕ → Bool) → n ≤ m → ((x : ℕ) → q x ≡ p x) → ((x : ℕ) → n < x → p x ≡ true) → upTo m q ≡ upTo n p
+up-to-more n m p q h same more =
+    both-ways (upTo m q) (upTo n p)
+    (λ e. up-to-all n p (λ x a b. sym (same x) ∙ up-to m q e x a (omega arith)))
+    (λ e. up-to-all m q (λ x a b. same x ∙ go e x a (decLe x n)))
+  where
+    go : upTo n p ≡ true → (x : ℕ) → 1 ≤ x → Dec (x ≤ n) → p x ≡ true
+    go e x a (yes l) = up-to n p e x a l
+    go e x a (no l) = more x (omega arith)
 
 -- ---- numbered tests
 

@@ -1,6 +1,8 @@
 -- The free variables of a term: of its tree, and of its number as a table that grows. proofs/Trees.antt shows that they agree.
 -- And how the free sets of all terms stand in an area of words.
 use Prim.Native.Nat.{ℕ, zero, suc, _+_, _*_, _/_, _%_}
+use mathlib.Core.Path.{_≡_}
+use mathlib.Core.Logic.{_⊎_}
 use mathlib.Core.Bool.{Bool, true, false, cond, not, _&&_, _||_}
 use mathlib.Core.List.{List, [], _∷_}
 use lib.ListN.{length}
@@ -9,6 +11,7 @@ use Rattle.bundle.specs.Bundle.{Bundle, TermRecord}
 use Rattle.bundle.specs.Links.{items}
 use Rattle.bundle.specs.Lists.{has, numbers}
 use Rattle.bundle.specs.File.{tab}
+use Rattle.logic.specs.Lists.{Among}
 use Rattle.logic.specs.Table.{table}
 use Rattle.logic.specs.Terms.{Term, Terms, Kind, kindOf, var, app, bind, letIn, none, more, variable, application, binder, letting, other}
 
@@ -26,6 +29,22 @@ unfoldable mutual
   pub frees : Terms → ℕ → Bool
   frees none x = false
   frees (more t ts) x = free t x || frees ts x
+
+-- the same in propositions: x is free in a tree
+abbrev mutual
+  pub Free : ℕ → Term → Type 0
+  Free x (var y) = x ≡ y
+  Free x (app f ts) = Frees x ts
+  Free x (bind q y t) = (x ≡ y → ⊥) × Free x t
+  Free x (letIn vs ts u) = Frees x ts ⊎ ((Among x vs → ⊥) × Free x u)
+
+  pub Frees : ℕ → Terms → Type 0
+  Frees x none = ⊥
+  Frees x (more t ts) = Free x t ⊎ Frees x ts
+
+-- A term is closed if it has none.
+abbrev pub Closed : Term → Type 0
+Closed t = (x : ℕ) → Free x t → ⊥
 
 -- the same of a list of numbers, and of a record, from the free variables f of lower numbers. A variable term whose number is no variable's has
 -- none: in files that pass check 7 there is no such term.

@@ -22,6 +22,19 @@ pub enum Signature {
     Unknown,
 }
 
+// What one entry of a context says of a variable.
+pub enum Mention {
+    Fixed,
+    Replaced(usize),
+    Absent,
+}
+
+// The image of a variable in a context: itself, or a term.
+pub enum Image {
+    Own,
+    Gives(usize),
+}
+
 // Nothing is wrong.
 pub fn no_fault() -> Fault
     ensures { λ r. ⌜ r ≡ fault 0 0 ⌝ }

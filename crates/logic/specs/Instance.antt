@@ -1,0 +1,78 @@
+-- THE RULES AS PRINTED (source document 003, section 2, in document 01's words): when a judgement follows from its premises. Terms are trees;
+-- contexts are compared by number, as document 01 says.
+use Prim.Native.Nat.{ℕ, _≤_}
+use mathlib.Core.Path.{_≡_}
+use mathlib.Core.List.{List, [], _∷_, _++_}
+use lib.ListN.{length}
+use Rattle.bundle.specs.Bundle.{Bundle, contextOf, stepOf}
+use Rattle.bundle.specs.Links.{items}
+use Rattle.logic.specs.Lists.{All, Number}
+use Rattle.logic.specs.Terms.{Binder, Term, Terms, var, app, bind, letIn, none, more, gather, tree}
+use Rattle.logic.specs.Free.{Free}
+use Rattle.logic.specs.Contexts.{imageTree, Settled}
+use Rattle.logic.specs.Rules.{Rule, REFL, CONG, TRANS, BIND, LET, ruleOf}
+use Rattle.logic.specs.WellFormed.{StartsList, Lower}
+
+-- step p says: in context Γ, l is r
+pub record Says (b : Bundle) (p Γ : ℕ) (l r : Term) : Type 0 where
+  pub context : stepOf b p .context ≡ Γ
+  pub left : tree b (stepOf b p .left) ≡ l
+  pub right : tree b (stepOf b p .right) ≡ r
+
+-- in context Γ, the premises say in order that each of the terms ls is its fellow of rs
+abbrev pub SayAll : Bundle → ℕ → Terms → Terms → List ℕ → Type 0
+SayAll b Γ none none [] = Unit {0}
+SayAll b Γ none none (p ∷ ps) = ⊥
+SayAll b Γ none (more r rs) ps = ⊥
+SayAll b Γ (more l ls) none ps = ⊥
+SayAll b Γ (more l ls) (more r rs) [] = ⊥
+SayAll b Γ (more l ls) (more r rs) (p ∷ ps) = Says b p Γ l r × SayAll b Γ ls rs ps
+
+-- context Δ is Γ with the variable y fixed
+pub record Fixes (b : Bundle) (Δ y Γ : ℕ) : Type 0 where
+  pub kind : contextOf b Δ .kind ≡ 1
+  pub variable : contextOf b Δ .a ≡ y
+  pub parent : contextOf b Δ .parent ≡ Γ
+
+-- context Δ is Γ with the variables xs replaced by the terms ts, in order
+pub record Replaces (b : Bundle) (Δ : ℕ) (xs : List ℕ) (ts : Terms) (Γ : ℕ) : Type 0 where
+  pub kind : contextOf b Δ .kind ≡ 2
+  pub variables : items b (contextOf b Δ .a) ≡ xs
+  pub terms : gather (tree b) (items b (contextOf b Δ .b)) ≡ ts
+  pub parent : contextOf b Δ .parent ≡ Γ
+
+-- In context Γ, left is right, by a rule from premises.
+pub data Instance (b : Bundle) (rule : Rule) (Γ : ℕ) (left right : Term) (premises : List ℕ) : Type 0 where
+  -- REFL: left and right are the same term and it is settled;
+  refl-same : rule ≡ REFL → premises ≡ [] → left ≡ right → Settled b Γ left → Instance b rule Γ left right premises
+  -- or left is a variable and right its image.
+  refl-image : rule ≡ REFL → premises ≡ [] → (x : ℕ) → left ≡ var x → right ≡ imageTree b Γ x → Instance b rule Γ left right premises
+  -- CONG: same symbol, premises in the step's context, one for each argument in order.
+  by-cong : rule ≡ CONG → (f : ℕ) (ts us : Terms) → left ≡ app f ts → right ≡ app f us → SayAll b Γ ts us premises
+      → Instance b rule Γ left right premises
+  -- TRANS: left to middle, middle to right, same context; the middle is settled.
+  by-trans : rule ≡ TRANS → (p q : ℕ) (middle : Term) → premises ≡ p ∷ q ∷ [] → Says b p Γ left middle → Says b q Γ middle right
+      → Settled b Γ middle → Instance b rule Γ left right premises
+  -- BIND, from Qx.φ to Qy.ψ, same quantifier: the premise is φ to ψ in a context that replaces x alone by y, whose parent fixes y, whose
+  -- parent is the step's context. Sides: y is not free in Qx.φ, and y is not free in the image, in the step's context, of any free variable
+  -- of Qx.φ.
+  by-bind : rule ≡ BIND → (Q : Binder) (x y : ℕ) (φ ψ : Term) (p Δ Θ : ℕ) → left ≡ bind Q x φ → right ≡ bind Q y ψ → premises ≡ p ∷ []
+      → Says b p Δ φ ψ → Replaces b Δ (x ∷ []) (more (var y) none) Θ → Fixes b Θ y Γ
+      → (Free y left → ⊥) → ((z : ℕ) → Free z left → Free y (imageTree b Γ z) → ⊥) → Instance b rule Γ left right premises
+  -- LET: premises carry each bound term to some s in the step's context; the last carries the body to the right side in a context that
+  -- replaces the let's variables by those s, in order, with the step's context as parent.
+  by-let : rule ≡ LET → (xs : List ℕ) (rs ss : Terms) (t : Term) (ps : List ℕ) (p Δ : ℕ) → left ≡ letIn xs rs t → premises ≡ ps ++ (p ∷ [])
+      → SayAll b Γ rs ss ps → Says b p Δ t right → Replaces b Δ xs ss Γ → Instance b rule Γ left right premises
+
+-- both sides of step p are terms
+abbrev pub SidesAreTerms : Bundle → ℕ → Type 0
+SidesAreTerms b p = Number (length (b .terms)) (stepOf b p .left) × Number (length (b .terms)) (stepOf b p .right)
+
+-- Step: rule, context, left, right, list of premises, which are earlier steps; and it is an instance of its rule.
+pub record StepHolds (b : Bundle) (k : ℕ) : Type 0 where
+  pub context : stepOf b k .context ≤ length (b .contexts)
+  pub left : Number (length (b .terms)) (stepOf b k .left)
+  pub right : Number (length (b .terms)) (stepOf b k .right)
+  pub start : StartsList b (stepOf b k .premises)
+  pub earlier : All (Lower k) (items b (stepOf b k .premises))
+  pub «instance» : Instance b (ruleOf (stepOf b k .rule)) (stepOf b k .context) (tree b (stepOf b k .left)) (tree b (stepOf b k .right)) (items b (stepOf b k .premises))
