@@ -1,0 +1,55 @@
+-- Places of a list, by links. A number that is no link's reads zeros, and starts the empty list.
+--     first-is                 the first item is the value of the link where the list starts
+--     second-is, single-is     the second item, and a list of one item, by the link that follows the first
+--     last-start               a 0 in front of a list does not change its last item: so a walk may start from 0
+use mathlib.Core.Path.{_≡_, refl, sym, ap, _∙_}
+use mathlib.Core.Bool.{not, _&&_}
+use mathlib.Core.List.{List, [], _∷_}
+use Prim.Native.Nat.{ℕ, zero, suc, _≤_, _<_}
+use native.Mathlib.Omega.{arith}
+use native.Mathlib.Decide.{decLt}
+use lib.ListN.{length}
+use lib.Dec.{eqb, eqb·suc-zero}
+use Rattle.bundle.specs.declared.Bundle.{Bundle as Counts}
+use Rattle.bundle.specs.Bundle.{Link, noLink, linkOf}
+use Rattle.bundle.specs.Links.{items, follows, nextOf}
+use Rattle.bundle.specs.File.{bundleAt}
+use Rattle.bundle.proofs.Tab.{at-none}
+use Rattle.bundle.proofs.Fields.{links-length}
+use Rattle.bundle.proofs.Walks.{walk-nil, walk-past, walk-some, walk-le}
+use Rattle.logic.specs.Rules.{firstOf, secondOf, single, lastOf}
+
+pub last-start : (xs : List ℕ) → lastOf (0 ∷ xs) ≡ lastOf xs
+unfolding lastOf
+last-start [] = refl
+last-start (x ∷ xs) = refl
+
+module _ (f : List ℕ) (c : Counts) where
+  pub first-is : (s : ℕ) → linkOf (bundleAt f c) s .value ≡ firstOf (items (bundleAt f c) s)
+  first-is zero = rw (walk-nil f c 0 refl)
+  first-is (suc i) = go (decLt i (c .links))
+    where
+      go : Dec (i < c .links) → linkOf (bundleAt f c) (suc i) .value ≡ firstOf (items (bundleAt f c) (suc i))
+      go (yes h) = rw (walk-some f c (suc i) (λ z. omega arith) h)
+      go (no h) =
+          let past : length (bundleAt f c .links) < suc i = omega (arith, links-length f c) in
+          ap (λ (l : Link). l .value) (at-none noLink (bundleAt f c .links) (suc i) past)
+          ∙ sym (ap firstOf (walk-past f c (suc i) (omega arith)))
+
+  pub second-is : (i : ℕ) → i ≤ c .links → linkOf (bundleAt f c) (nextOf (bundleAt f c .links) i) .value ≡ secondOf (items (bundleAt f c) i)
+  unfolding follows
+  second-is zero h = rw (walk-nil f c 0 refl)
+  second-is (suc i) h = rw (walk-some f c (suc i) (λ z. omega arith) h) (first-is (nextOf (bundleAt f c .links) (suc i)))
+
+  -- an item, and what follows it
+  single-cons : (v r : ℕ) → r ≤ c .links → single (v ∷ items (bundleAt f c) r) ≡ eqb r 0
+  unfolding single
+  single-cons v zero h = rw (walk-nil f c 0 refl)
+  single-cons v (suc r) h = rw (walk-some f c (suc r) (λ z. omega arith) h, eqb·suc-zero r)
+
+  pub single-is : (i : ℕ) → i ≤ c .links → (not (eqb i 0) && eqb (nextOf (bundleAt f c .links) i) 0) ≡ single (items (bundleAt f c) i)
+  unfolding single
+  single-is zero h = rw (walk-nil f c 0 refl)
+  single-is (suc i) h =
+      let r = nextOf (bundleAt f c .links) (suc i) in
+      rw (eqb·suc-zero i, walk-some f c (suc i) (λ z. omega arith) h) (sym (single-cons (linkOf (bundleAt f c) (suc i) .value) r (walk-le f c (suc i) r refl)))

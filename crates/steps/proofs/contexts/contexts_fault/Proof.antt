@@ -1,0 +1,62 @@
+-- `contexts::contexts_fault` meets its contract. The invariant: the first bad context of all is the first from context i on.
+-- The measure is how many are left.
+use borrow.Author.Needs.{needs}
+use native.Mathlib.Omega.{arith}
+use Prim.Native.Nat.{_+_, _-_, _≤_}
+use mathlib.Core.Path.{_≡_, sym, _∙_}
+use Rattle.bundle.specs.File.{bundleAt}
+use Rattle.bundle.proofs.Fields.{contexts-length}
+use Rattle.logic.specs.Contexts.{contextFault, contextsFault}
+use Rattle.logic.proofs.Firsts.{restFault, rest-start, rest-on, rest-here, rest-end}
+use Rattle.steps.proofs.contexts.contexts_fault.Statement.{statement}
+use Rattle.steps.proofs.contexts.contexts_fault.Tie as tie
+
+abbrev Inv-loop : tie.InvT-loop
+Inv-loop file b area n contexts i₀ i = (i ≤ contexts + 1) × (contextsFault (bundleAt file b) ≡ restFault (contextFault (bundleAt file b)) contexts i)
+
+abbrev μ-loop : tie.MeasureT-loop
+μ-loop file b area n contexts i₀ i = contexts + 1 - i
+
+loop-holds : tie.Need-loop-holds Inv-loop μ-loop
+unfolding contextsFault
+loop-holds c = (omega arith, rw contexts-length (rest-start _ _))
+
+context-fault-requires : tie.Need-context-fault-requires Inv-loop μ-loop
+context-fault-requires c κs = search needs
+
+returns : tie.Need-returns Inv-loop μ-loop
+returns c =
+    let l = c .before .before .before .loop in
+    sym (l .inv .1 ∙ rest-here _ _ _ (c .before .context-fault .ensures) (c .before .before .loop-test .taken) (c .if1 .taken))
+
+add-i : tie.Need-add-i Inv-loop μ-loop
+add-i c = omega arith
+
+loop-less : tie.Need-loop-less Inv-loop μ-loop
+loop-less c = omega arith
+
+loop-again : tie.Need-loop-again Inv-loop μ-loop
+loop-again c =
+    let l = c .before .before .before .loop in
+    (omega arith, l .inv .1 ∙ rest-on _ _ _ (c .before .context-fault .ensures) (c .before .before .loop-test .taken) (c .if1 .left))
+
+no-fault-requires : tie.Need-no-fault-requires Inv-loop μ-loop
+no-fault-requires c κs = search needs
+
+returns-2 : tie.Need-returns-2 Inv-loop μ-loop
+returns-2 c = c .no-fault .ensures ∙ sym (c .before .before .loop .inv .1 ∙ rest-end _ _ _ (c .before .loop-test .left))
+
+pub contexts-fault-spec : {M : Type 1} → statement M
+contexts-fault-spec =
+    tie.close
+    (tie.spec
+    Inv-loop
+    μ-loop
+    loop-holds
+    context-fault-requires
+    returns
+    add-i
+    loop-less
+    loop-again
+    no-fault-requires
+    returns-2)

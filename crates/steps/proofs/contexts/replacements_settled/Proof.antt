@@ -1,0 +1,58 @@
+-- `contexts::replacements_settled` meets its contract: only a context that replaces has terms.
+use mathlib.Core.Path.{_≡_, refl}
+use mathlib.Core.Bool.{Bool, true, false, cond}
+use Prim.Native.Nat.{ℕ}
+use lib.Dec.{eqb}
+use borrow.Author.Needs.{needs}
+use Rattle.bundle.specs.Bundle.{Bundle, Context}
+use Rattle.logic.specs.Contexts.{entryOf, fixing, noEntry, replacementsSettledAs, replacementsSettled}
+use Rattle.steps.proofs.Entries.{entry-rest}
+use Rattle.steps.proofs.contexts.replacements_settled.Statement.{statement}
+use Rattle.steps.proofs.contexts.replacements_settled.Tie as tie
+
+-- a context of any kind but 2
+no-terms : (b : Bundle) (k : ℕ) (r : Context) → (k ≡ 2 → ⊥) → replacementsSettledAs b (entryOf k) r ≡ true
+unfolding replacementsSettledAs
+no-terms b k r not2 = rw (entry-rest k not2) (go (eqb k 1))
+  where
+    go : (p : Bool) → replacementsSettledAs b (cond p fixing noEntry) r ≡ true
+    go true = refl
+    go false = refl
+
+context-field-requires : tie.Need-context-field-requires
+context-field-requires c κs = search needs
+
+context-field-requires-2 : tie.Need-context-field-requires-2
+context-field-requires-2 c κs = search needs
+
+context-field-requires-3 : tie.Need-context-field-requires-3
+context-field-requires-3 c κs = search needs
+
+all-settled-requires : tie.Need-all-settled-requires
+all-settled-requires c κs = search needs
+
+returns : tie.Need-returns
+unfolding replacementsSettled
+returns c =
+    rw (
+      ← c .before .before .before .before .context-field .ensures,
+      c .before .if1 .taken,
+      ← c .before .before .before .context-field2 .ensures,
+      ← c .before .before .context-field3 .ensures,
+    )
+    (c .all-settled .ensures)
+
+returns-2 : tie.Need-returns-2
+unfolding replacementsSettled
+returns-2 c = rw (← c .before .before .before .context-field .ensures, no-terms _ (c .before .before .before .context-field .result) _ (c .if1 .left))
+
+pub replacements-settled-spec : {M : Type 1} → statement M
+replacements-settled-spec =
+    tie.close
+    (tie.spec
+    context-field-requires
+    context-field-requires-2
+    context-field-requires-3
+    all-settled-requires
+    returns
+    returns-2)

@@ -1,0 +1,66 @@
+// Items of lists by their place.
+ghost use mathlib.Core.Path.{_≡_};
+ghost use lib.ListN.{length};
+ghost use Rattle.bundle.specs.Links.{items};
+ghost use Rattle.bundle.specs.File.{Whole, bundleAt};
+ghost use Rattle.logic.specs.Rules.{firstOf, secondOf, single, lastOf};
+use bundle::Bundle;
+use bundle::lists::first_link;
+use bundle::lists::next_link;
+use bundle::records::link_field;
+
+// The first item of a list, 0 for none: a link that is none reads zeros.
+pub fn first_item(file: &[u8], b: Bundle, list: usize) -> usize
+    requires { ⌜ Whole (now file) b ⌝ }
+    ensures { λ r. ⌜ r ≡ firstOf (items (bundleAt (now (file .entry)) b) list) ⌝ }
+{
+    link_field(file, b, list, 0)
+}
+
+// The second item of a list, 0 for none.
+pub fn second_item(file: &[u8], b: Bundle, list: usize) -> usize
+    requires { ⌜ Whole (now file) b ⌝ }
+    ensures { λ r. ⌜ r ≡ secondOf (items (bundleAt (now (file .entry)) b) list) ⌝ }
+{
+    let first = first_link(b, list);
+    let second = next_link(file, b, first);
+    link_field(file, b, second, 0)
+}
+
+// The last item of a list, 0 for none.
+pub fn last_item(file: &[u8], b: Bundle, list: usize) -> usize
+    requires { ⌜ Whole (now file) b ⌝ }
+    ensures { λ r. ⌜ r ≡ lastOf (items (bundleAt (now (file .entry)) b) list) ⌝ }
+{
+    let mut last = 0;
+    let mut i = first_link(b, list);
+    while i != 0 {
+        last = link_field(file, b, i, 0);
+        i = next_link(file, b, i);
+    }
+    last
+}
+
+// Whether a list has one item.
+pub fn is_single(file: &[u8], b: Bundle, list: usize) -> bool
+    requires { ⌜ Whole (now file) b ⌝ }
+    ensures { λ r. ⌜ r ≡ single (items (bundleAt (now (file .entry)) b) list) ⌝ }
+{
+    let first = first_link(b, list);
+    let next = next_link(file, b, first);
+    (first != 0) & (next == 0)
+}
+
+// The length of a list.
+pub fn list_length(file: &[u8], b: Bundle, list: usize) -> usize
+    requires { ⌜ Whole (now file) b ⌝ }
+    ensures { λ r. ⌜ r ≡ length (items (bundleAt (now (file .entry)) b) list) ⌝ }
+{
+    let mut n = 0;
+    let mut i = first_link(b, list);
+    while i != 0 {
+        n += 1;
+        i = next_link(file, b, i);
+    }
+    n
+}
