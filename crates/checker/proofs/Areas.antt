@@ -1,0 +1,100 @@
+-- The lent area: how many words of it a file asks for, what is in it, and zeros.
+--     lent-is         the words that the code asks for give the same fault as those that are required
+--     whole-long      a whole file has a header
+--     free-sets       an area that is `freeArea` holds the free sets, if each variable has a bit
+--     sets-held       so it does where the file is whole
+--     all-cleared     an area cleared from end to end is zeros
+--     area-free, area-zeros     what is left where nothing is wrong, and where something is
+use Prim.Native.Nat.{ℕ, zero, suc, _+_, _*_, _-_, _≤_, _<_}
+use mathlib.Core.Path.{_≡_, refl, sym, ap, _∙_}
+use mathlib.Core.Bool.{Bool, true, false, cond, false≢true}
+use mathlib.Core.List.{List}
+use native.Mathlib.Omega.{arith}
+use lib.ListN.{length, getD, replicate, length-replicate, getD-replicate}
+use lib.Seq.{ext-getD}
+use lib.Dec.{leb}
+use Rattle.bundle.specs.declared.Bundle.{Bundle as Counts}
+use Rattle.bundle.specs.Bundle.{Bundle}
+use Rattle.bundle.specs.Limits.{setWords, headerWords}
+use Rattle.bundle.specs.File.{Whole, bundleAt, bundleOf}
+use Rattle.bundle.proofs.Tab.{tab-length}
+use Rattle.bundle.proofs.Fields.{variables-length, terms-length}
+use Rattle.sets.specs.Sets.{holds, member, cleared}
+use Rattle.sets.proofs.Members.{holds-small, filled-length, filled-in}
+use Rattle.logic.specs.Free.{freeAt, freeArea}
+use Rattle.logic.specs.Checks.{tablesFault}
+use Rattle.logic.proofs.Tests.{numbers-of}
+use Rattle.logic.proofs.Trees.{free-known}
+use Rattle.tables.proofs.SetWords.{area-member}
+use Rattle.steps.specs.Given.{FreeSets}
+use Rattle.checker.specs.Judge.{required, lentFor, faultOf, areaFor, areaAfter}
+
+-- ---- how many words
+
+-- of a file too short for a header the first test says so, whatever is required
+pub lent-is : (f : List ℕ) (m : ℕ) → tablesFault f m (lentFor f) ≡ tablesFault f m (required f)
+unfolding tablesFault lentFor
+lent-is f m = go (leb 36 (length f)) refl
+  where
+    go : (p : Bool) → leb 36 (length f) ≡ p → tablesFault f m (cond p (required f) 0) ≡ tablesFault f m (required f)
+    go true e = refl
+    go false e = rw e
+
+pub whole-long : (f : List ℕ) (c : Counts) → Whole f c → 36 ≤ length f
+unfolding headerWords
+whole-long f c w = omega arith
+
+-- ---- the free sets
+
+-- A number with no bit is in no set, and is no variable: it is free nowhere.
+pub free-sets : (b : Bundle) (n m : ℕ) (w : List ℕ) → 1 ≤ n → length (b .variables) ≤ 64 * n → n * length (b .terms) ≤ m → w ≡ freeArea b n m
+    → FreeSets w n b
+unfolding member freeArea
+free-sets b n m w one few long area = record {
+  long = rw (area, tab-length) long;
+  same = λ t v first last. go t v first last (holds n v) refl;
+}
+  where
+    none : (t v : ℕ) → holds n v ≡ false → (p : Bool) → freeAt b t v ≡ p → false ≡ p
+    none t v e true f =
+        let k : (1 ≤ v) × (v ≤ length (b .variables)) = numbers-of (length (b .variables)) v (free-known b t v f) in
+        absurd (false≢true (sym e ∙ holds-small n v (k .0) (omega arith)))
+    none t v e false f = refl
+
+    go : (t v : ℕ) → 1 ≤ t → t ≤ length (b .terms) → (p : Bool) → holds n v ≡ p → member w (n * (t - 1)) n v ≡ freeAt b t v
+    go t v first last true e = ap (λ (x : List ℕ). member x (n * (t - 1)) n v) area ∙ area-member b n m one t v first last long e
+    go t v first last false e = rw e (none t v e (freeAt b t v) refl)
+
+pub sets-held : (f : List ℕ) (c : Counts) (m : ℕ) (w : List ℕ) → Whole f c → setWords * c .terms ≤ m → w ≡ freeArea (bundleAt f c) setWords m
+    → FreeSets w setWords (bundleAt f c)
+sets-held f c m w whole long area =
+    free-sets (bundleAt f c) setWords m w (omega arith) (rw variables-length (whole .within .variables)) (rw terms-length long) area
+
+-- ---- zeros
+
+pub all-cleared : (w : List ℕ) → cleared w 0 (length w) ≡ replicate (length w) 0
+all-cleared w =
+    ext-getD 0 (cleared w 0 (length w)) (replicate (length w) 0) (same-long ∙ sym (length-replicate (length w) 0))
+    (λ i h. zero-at i (omega (arith, same-long)))
+  where
+    same-long : length (cleared w 0 (length w)) ≡ length w
+    same-long = filled-length (λ k. 0) w 0 (length w)
+
+    zero-at : (i : ℕ) → i < length w → getD (cleared w 0 (length w)) i 0 ≡ getD (replicate (length w) 0) i 0
+    zero-at i h =
+        let place : 0 + i ≡ i = omega arith in
+        (rw place at (filled-in (λ k. 0) w 0 (length w) i (omega arith) h)) ∙ sym (getD-replicate (length w) i 0 0 h)
+
+-- ---- what is left
+
+pub area-free : (f : List ℕ) (m : ℕ) → faultOf f m .number ≡ 0 → areaAfter f m ≡ freeArea (bundleOf f) setWords m
+unfolding areaAfter
+area-free f m e = rw e
+
+pub area-zeros : (f : List ℕ) (m : ℕ) → (faultOf f m .number ≡ 0 → ⊥) → areaAfter f m ≡ replicate m 0
+unfolding areaAfter
+area-zeros f m = go (faultOf f m .number)
+  where
+    go : (n : ℕ) → (n ≡ 0 → ⊥) → areaFor (bundleOf f) n m ≡ replicate m 0
+    go zero ne = absurd (ne refl)
+    go (suc n) ne = refl

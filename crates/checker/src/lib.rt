@@ -1,0 +1,104 @@
+// THE PUBLIC CHECK: is a bundle accepted, and if not, which check fails first.
+ghost use mathlib.Core.Path.{_≡_};
+ghost use lib.ListN.{length};
+ghost use Rattle.bundle.specs.Limits.{setWords};
+ghost use Rattle.bundle.specs.File.{Whole, bundleAt, bundleOf};
+ghost use Rattle.logic.specs.Tests.{firstFailing};
+ghost use Rattle.logic.specs.Free.{freeArea};
+ghost use Rattle.steps.specs.Given.{FreeSets};
+ghost use Rattle.checker.specs.Judge.{claimTests, lentFor, lateFault, faultOf, judge, areaAfter};
+use bundle::Bundle;
+use bundle::records::step_field;
+use bundle::words::counts;
+use bundle::words::word_at;
+use logic::Fault;
+
+// The answer to a file.
+pub enum Answer {
+    // The claim, by its two term numbers.
+    Accepted { left: usize, right: usize },
+    // The number of the first check that fails, and its record.
+    Refused { number: usize, record: usize },
+}
+
+// The words that a file's terms ask for: nothing of a file that is too short to say.
+fn lent_for(file: &[u8]) -> usize
+    ensures { λ r. ⌜ r ≡ lentFor (now (file .entry)) ⌝ }
+{
+    if file.len() < 36 {
+        return 0;
+    }
+    Bundle::SET_WORDS * word_at(file, 3)
+}
+
+// 15: what is wrong with the claim, 0 where nothing is.
+fn claim_fault(file: &[u8], b: Bundle) -> usize
+    requires { ⌜ Whole (now file) b ⌝ }
+    ensures { λ r. ⌜ r ≡ firstFailing (claimTests (bundleAt (now (file .entry)) b)) ⌝ }
+{
+    let steps = b.steps;
+    let context = step_field(file, b, steps, 1);
+    let left = step_field(file, b, steps, 2);
+    let right = step_field(file, b, steps, 3);
+    let claimed_left = word_at(file, 7);
+    let claimed_right = word_at(file, 8);
+    if (0 < steps) & (context == 0) & (left == claimed_left) & (right == claimed_right) {
+        0
+    } else {
+        15
+    }
+}
+
+// The first of the checks 10 to 15 that fails, where the area holds the free sets.
+fn late_fault(file: &[u8], b: Bundle, free: &[u64]) -> Fault
+    requires { ⌜ Whole (now file) b × FreeSets (now free) setWords (bundleAt (now file) b) ⌝ }
+    ensures { λ r. ⌜ r ≡ lateFault (bundleAt (now (file .entry)) b) ⌝ }
+{
+    let in_contexts = steps::contexts::contexts_fault(file, b, free, Bundle::SET_WORDS);
+    if in_contexts.number != 0 {
+        return in_contexts;
+    }
+    let in_steps = steps::steps::steps_fault(file, b, free, Bundle::SET_WORDS);
+    if in_steps.number != 0 {
+        return in_steps;
+    }
+    Fault {
+        number: claim_fault(file, b),
+        record: 0,
+    }
+}
+
+// The first check that fails, number 0 where none does; the area then holds the free sets.
+fn fault_of(file: &[u8], free: &mut [u64]) -> Fault
+    ensures { λ r. ⌜ r ≡ faultOf (now (file .entry)) (length (now (free .entry))) ⌝ }
+    ensures { λ r. ⌜ (r .number ≡ 0 → now (free .exit) ≡ freeArea (bundleOf (now (file .entry))) setWords (length (now (free .entry)))) ⌝ }
+{
+    let lent = free.len();
+    let required = lent_for(file);
+    let early = tables::tables_fault(file, lent, required);
+    if early.number != 0 {
+        return early;
+    }
+    let b = counts(file);
+    tables::free::free_sets(file, b, free, Bundle::SET_WORDS);
+    late_fault(file, b, free)
+}
+
+// Checks a file. Where it is accepted, the lent area holds the free sets of its terms and zeros after them; where it is refused, zeros.
+pub fn check(file: &[u8], free: &mut [u64]) -> Answer
+    ensures { λ r. ⌜ r ≡ judge (now (file .entry)) (length (now (free .entry))) ⌝ }
+    ensures { λ _. ⌜ now (free .exit) ≡ areaAfter (now (file .entry)) (length (now (free .entry))) ⌝ }
+{
+    let found = fault_of(file, free);
+    if found.number != 0 {
+        sets::clear(free, 0, free.len());
+        return Answer::Refused {
+            number: found.number,
+            record: found.record,
+        };
+    }
+    Answer::Accepted {
+        left: word_at(file, 7),
+        right: word_at(file, 8),
+    }
+}

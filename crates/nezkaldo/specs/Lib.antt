@@ -1,0 +1,2 @@
+-- An answer as one number, for other languages.
+pub mod Packed

@@ -1,0 +1,9 @@
+-- An answer as one number, for other languages.
+use Prim.Native.Nat.{ℕ, _+_, _*_}
+use Rattle.checker.specs.declared.Answer.{Answer}
+use Rattle.checker.specs.declared.Answer.the-variants.{Accepted, Refused}
+
+-- 0 where the file is accepted, else number · 2^32 + record
+unfoldable pub packed : Answer → ℕ
+packed (Accepted left right) = 0
+packed (Refused number i) = 4294967296 * number + i
