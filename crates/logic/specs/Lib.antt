@@ -15,6 +15,7 @@
 --     Instance     THE RULES AS PRINTED: steps that are instances of REFL, CONG, TRANS, BIND or LET
 --     Values       worlds, valuations, and the value of a term
 --     Longer       bundles with records appended
+--     Lookup       terms looked up
 --     Statements   the theorems, as types: proofs/ has each under the same name
 pub mod Tests
 pub mod Lists
@@ -32,4 +33,5 @@ pub mod WellFormed
 pub mod Instance
 pub mod Values
 pub mod Longer
+pub mod Lookup
 pub mod Statements

@@ -2,7 +2,7 @@
 use borrow.Author.Needs.{needs}
 use Rattle.bundle.proofs.Fields.{variables-length, terms-length, links-length}
 use Rattle.logic.specs.Contexts.{contextRefers}
-use Rattle.steps.proofs.Entries.{entry-none}
+use Rattle.logic.proofs.Entries.{entry-none}
 use Rattle.steps.proofs.contexts.context_refers.Statement.{statement}
 use Rattle.steps.proofs.contexts.context_refers.Tie as tie
 

@@ -6,7 +6,7 @@ use lib.Dec.{eqb}
 use borrow.Author.Needs.{needs}
 use Rattle.bundle.specs.Bundle.{Bundle, Context}
 use Rattle.logic.specs.Contexts.{entryOf, fixing, noEntry, replacementsSettledAs, replacementsSettled}
-use Rattle.steps.proofs.Entries.{entry-rest}
+use Rattle.logic.proofs.Entries.{entry-rest}
 use Rattle.steps.proofs.contexts.replacements_settled.Statement.{statement}
 use Rattle.steps.proofs.contexts.replacements_settled.Tie as tie
 

@@ -4,7 +4,7 @@ use borrow.Author.Needs.{needs}
 use mathlib.Core.Path.{_≡_, refl, sym, _∙_}
 use Rattle.bundle.specs.File.{bundleAt}
 use Rattle.logic.specs.Contexts.{image}
-use Rattle.steps.proofs.Walked.{image-zero, image-fixed, image-replaced, image-on, image-not-lower}
+use Rattle.logic.proofs.Walked.{image-zero, image-fixed, image-replaced, image-on, image-not-lower}
 use Rattle.steps.proofs.images.image_of.Statement.{statement}
 use Rattle.steps.proofs.images.image_of.Tie as tie
 

@@ -2,7 +2,7 @@
 use borrow.Author.Needs.{needs}
 use borrow.Author.Tests.{eq-eqb, ne-eqb}
 use Rattle.logic.specs.Contexts.{mention}
-use Rattle.steps.proofs.Entries.{entry-none}
+use Rattle.logic.proofs.Entries.{entry-none}
 use Rattle.steps.proofs.images.mention_in.Statement.{statement}
 use Rattle.steps.proofs.images.mention_in.Tie as tie
 

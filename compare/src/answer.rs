@@ -1,0 +1,133 @@
+//! Answers: a refusal is a number from document 01's table and a record.
+
+use std::fmt;
+
+/// Why a file is refused; the discriminant is the number in document 01.
+#[derive(Clone, Copy, Debug, PartialEq, Eq, PartialOrd, Ord, Hash)]
+#[repr(u32)]
+pub enum Reason {
+    Length = 1,
+    Version = 2,
+    Limit = 3,
+    Area = 4,
+    Link = 5,
+    Sort = 6,
+    Term = 7,
+    Typing = 8,
+    Duplicate = 9,
+    Context = 10,
+    Unsettled = 11,
+    Step = 12,
+    Rule = 13,
+    Side = 14,
+    Claim = 15,
+    Full = 16,
+    Open = 17,
+    NotBare = 18,
+}
+
+impl Reason {
+    pub const ALL: [Reason; 18] = [
+        Reason::Length,
+        Reason::Version,
+        Reason::Limit,
+        Reason::Area,
+        Reason::Link,
+        Reason::Sort,
+        Reason::Term,
+        Reason::Typing,
+        Reason::Duplicate,
+        Reason::Context,
+        Reason::Unsettled,
+        Reason::Step,
+        Reason::Rule,
+        Reason::Side,
+        Reason::Claim,
+        Reason::Full,
+        Reason::Open,
+        Reason::NotBare,
+    ];
+
+    pub fn number(self) -> u32 {
+        self as u32
+    }
+
+    pub fn text(self) -> &'static str {
+        match self {
+            Reason::Length => "too short, or not the length the counts give",
+            Reason::Version => "version is not 1",
+            Reason::Limit => "a count over its limit",
+            Reason::Area => "a lent area too short",
+            Reason::Link => "a link's next",
+            Reason::Sort => "a sort or list start in a symbol or variable",
+            Reason::Term => "a term's kind, unused field or reference",
+            Reason::Typing => "counts, sorts or repeats in a term",
+            Reason::Duplicate => "a term equal to an earlier one",
+            Reason::Context => "a context's kind, field, reference or lists",
+            Reason::Unsettled => "a replacement moved in its parent",
+            Reason::Step => "a step's rule, reference or premise count",
+            Reason::Rule => "a step that does not follow by its rule",
+            Reason::Side => "a side condition of TRANS or BIND",
+            Reason::Claim => "the last step is not the claim",
+            Reason::Full => "writer: a section would pass its limit",
+            Reason::Open => "writer: the rule has a free variable",
+            Reason::NotBare => "writer: contexts, steps or right not 0",
+        }
+    }
+}
+
+#[derive(Clone, Copy, Debug, PartialEq, Eq)]
+pub struct Refusal {
+    pub reason: Reason,
+    /// The record in its section, from 1; 0 where the table names none.
+    pub record: u32,
+}
+
+impl Refusal {
+    /// A refusal of the whole file.
+    pub fn whole(reason: Reason) -> Self {
+        Refusal { reason, record: 0 }
+    }
+
+    pub fn at(reason: Reason, record: u32) -> Self {
+        Refusal { reason, record }
+    }
+
+    /// The form in which the proved library answers.
+    pub fn packed(self) -> u64 {
+        u64::from(self.reason.number()) << 32 | u64::from(self.record)
+    }
+}
+
+/// The claim of an accepted file.
+#[derive(Clone, Copy, Debug, PartialEq, Eq)]
+pub struct Claim {
+    pub left: u32,
+    pub right: u32,
+}
+
+/// What a check answers, as the proved library packs it: 0 where accepted,
+/// else number * 2^32 + record.
+pub fn packed(outcome: Result<Claim, Refusal>) -> u64 {
+    outcome.map_or_else(Refusal::packed, |_| 0)
+}
+
+/// A packed answer of the checker, for people.
+#[derive(Clone, Copy, Debug)]
+pub struct Packed(pub u64);
+
+impl fmt::Display for Packed {
+    fn fmt(&self, out: &mut fmt::Formatter<'_>) -> fmt::Result {
+        match self.0 {
+            0 => write!(out, "accepted"),
+            answer if answer >> 32 == 0 => write!(out, "written, {answer} bytes"),
+            answer => write!(out, "refused {} {}", answer >> 32, answer & 0xffff_ffff),
+        }
+    }
+}
+
+impl fmt::Display for Refusal {
+    fn fmt(&self, out: &mut fmt::Formatter<'_>) -> fmt::Result {
+        write!(out, "refused {} {}", self.reason.number(), self.record)
+    }
+}

@@ -1,0 +1,228 @@
+//! The benchmark: the proved check and the Rust checker on the same files, in
+//! turn, with the time to copy the file as the floor.
+
+use crate::bundle::{MAX_BYTES, MAX_WORDS, Section, counts_of, to_bytes};
+use crate::compare::Checker;
+use crate::compare_writer::Writer;
+use crate::expand::{SETS, written};
+use crate::generate::{jobs, large};
+use crate::rng::Rng;
+use std::hint::black_box;
+use std::time::{Duration, Instant};
+
+/// A file to time.
+#[derive(Clone, Debug)]
+pub struct Subject {
+    pub name: String,
+    pub file: Vec<u8>,
+    pub steps: u32,
+}
+
+impl Subject {
+    fn new(name: &str, file: Vec<u8>) -> Self {
+        let steps = counts_of(&file).map_or(0, |counts| counts[Section::Steps]);
+        Subject { name: name.into(), file, steps }
+    }
+}
+
+/// Times in microseconds: the median of many calls.
+#[derive(Clone, Debug)]
+pub struct Row {
+    pub name: String,
+    pub bytes: usize,
+    pub steps: u32,
+    pub copy: f64,
+    pub proved: Option<f64>,
+    pub rust: f64,
+}
+
+impl Row {
+    /// How many times as long the proved library takes.
+    pub fn ratio(&self) -> Option<f64> {
+        self.proved.map(|proved| proved / self.rust)
+    }
+
+    pub fn per_step(&self, time: f64) -> f64 {
+        1000.0 * time / f64::from(self.steps.max(1))
+    }
+}
+
+fn expansion(job: Vec<u32>) -> Vec<u8> {
+    written(&to_bytes(&job)).expect("the job was made to fit")
+}
+
+/// The expansions, by the size of the file that the writer makes.
+pub const SIZES: [(&str, usize); 4] = [
+    ("expansion, 1 KB", 1024),
+    ("expansion, 8 KB", 8 * 1024),
+    ("expansion, 32 KB", 32 * 1024),
+    ("expansion, 58 KB", MAX_BYTES),
+];
+
+/// The files of the table.
+pub fn subjects() -> Vec<Subject> {
+    let rng = || Rng::new(1);
+    let mut subjects: Vec<Subject> = SIZES
+        .iter()
+        .map(|&(name, bytes)| Subject::new(name, expansion(jobs::of_size(bytes))))
+        .collect();
+    let made = |name: &str, words: Vec<u32>| Subject::new(name, to_bytes(&words));
+    subjects.push(made("deep contexts (256)", large::deep_contexts(rng(), 256, 1024)));
+    subjects.push(made("long lists (2,048 links)", large::full_lists(rng())));
+    subjects.push(made("shared long lists", large::long_lists(rng(), 600, 1024)));
+    subjects.push(made("many quantifiers", large::many_quantifiers(rng(), 32, 1024)));
+    subjects
+}
+
+/// Expansions with about 64 to 1,024 steps.
+pub fn doubling() -> Vec<Subject> {
+    [64, 128, 256, 512, 1024]
+        .into_iter()
+        .map(|steps| {
+            let job = jobs::largest(|file| {
+                counts_of(file).is_some_and(|counts| counts[Section::Steps] <= steps)
+            });
+            Subject::new(&format!("{steps} steps"), expansion(job))
+        })
+        .collect()
+}
+
+/// Times the checkers on a file, for about `budget` each.
+pub fn time_check(
+    subject: &Subject,
+    proved: Option<Checker>,
+    rust: Checker,
+    budget: Duration,
+) -> Row {
+    let file = subject.file.as_slice();
+    let terms = counts_of(file).map_or(0, |counts| counts[Section::Terms]) as usize;
+    let mut area = vec![0u64; terms];
+    let mut copy = vec![0u8; file.len()];
+    let mut once = |check: Checker| {
+        area.fill(0);
+        let begun = Instant::now();
+        let answer = check(black_box(file), black_box(&mut area));
+        let time = begun.elapsed();
+        assert_eq!(answer, 0, "the files of the benchmark are accepted");
+        time
+    };
+    let (mut proved_times, mut rust_times) = (Times::default(), Times::default());
+    while rust_times.total < budget || proved.is_some() && proved_times.total < budget {
+        rust_times.add(once(rust));
+        if let Some(proved) = proved {
+            proved_times.add(once(proved));
+        }
+    }
+    let mut copy_times = Times::default();
+    while copy_times.total < budget / 8 {
+        // One copy is too short for the clock.
+        let begun = Instant::now();
+        for _ in 0..16 {
+            copy.copy_from_slice(black_box(file));
+            black_box(&mut copy);
+        }
+        copy_times.add(begun.elapsed());
+    }
+    Row {
+        name: subject.name.clone(),
+        bytes: file.len(),
+        steps: subject.steps,
+        copy: copy_times.median() / 16.0,
+        proved: proved.map(|_| proved_times.median()),
+        rust: rust_times.median(),
+    }
+}
+
+/// Times the writers on the job whose file has about so many bytes. The floor is
+/// the time to clear the areas.
+pub fn time_writer(
+    (name, bytes): (&str, usize),
+    proved: Option<Writer>,
+    rust: Writer,
+    budget: Duration,
+) -> Row {
+    let job = to_bytes(&jobs::of_size(bytes));
+    let file = written(&job).expect("the job was made to fit");
+    let (mut out, mut words, mut sets) = (vec![0; MAX_BYTES], vec![0; MAX_WORDS], vec![0; SETS]);
+    let mut once = |write: Writer| {
+        clear(&mut out, &mut words, &mut sets);
+        let begun = Instant::now();
+        let answer = write(black_box(&job), &mut out, &mut words, &mut sets);
+        let time = begun.elapsed();
+        assert_eq!(answer, file.len() as u64, "the jobs of the benchmark are written");
+        time
+    };
+    let (mut proved_times, mut rust_times) = (Times::default(), Times::default());
+    while rust_times.total < budget || proved.is_some() && proved_times.total < budget {
+        rust_times.add(once(rust));
+        if let Some(proved) = proved {
+            proved_times.add(once(proved));
+        }
+    }
+    let mut clear_times = Times::default();
+    while clear_times.total < budget / 8 {
+        let begun = Instant::now();
+        clear(black_box(&mut out), black_box(&mut words), black_box(&mut sets));
+        clear_times.add(begun.elapsed());
+    }
+    Row {
+        name: name.into(),
+        bytes: file.len(),
+        steps: counts_of(&file).map_or(0, |counts| counts[Section::Steps]),
+        copy: clear_times.median(),
+        proved: proved.map(|_| proved_times.median()),
+        rust: rust_times.median(),
+    }
+}
+
+fn clear(out: &mut [u8], words: &mut [u32], sets: &mut [u64]) {
+    out.fill(0);
+    words.fill(0);
+    sets.fill(0);
+}
+
+#[derive(Debug, Default)]
+struct Times {
+    times: Vec<Duration>,
+    total: Duration,
+}
+
+impl Times {
+    fn add(&mut self, time: Duration) {
+        self.times.push(time);
+        self.total += time;
+    }
+
+    /// In microseconds.
+    fn median(&mut self) -> f64 {
+        self.times.sort_unstable();
+        let middle = self.times.get(self.times.len() / 2).copied().unwrap_or_default();
+        middle.as_secs_f64() * 1e6
+    }
+}
+
+#[cfg(test)]
+mod tests {
+    use super::*;
+    use crate::check::check;
+
+    /// Sizes and acceptance, not times.
+    #[test]
+    fn subjects_are_what_they_say() {
+        let subjects = subjects();
+        for subject in subjects.iter().chain(&doubling()) {
+            let mut area = vec![0; 1024];
+            assert!(check(&subject.file, &mut area).is_ok(), "{}", subject.name);
+        }
+        let sizes: Vec<usize> = subjects[..4].iter().map(|subject| subject.file.len()).collect();
+        for (size, kb) in sizes.into_iter().zip([1, 8, 32, 57]) {
+            assert!((1000 * kb..1100 * kb).contains(&size), "{size} bytes for {kb} KB");
+        }
+        let counts = |place: usize| counts_of(&subjects[place].file).unwrap_or_default();
+        assert_eq!(counts(4)[Section::Contexts], 256);
+        assert_eq!(counts(5)[Section::Links], 2048);
+        for (subject, most) in doubling().iter().zip([64, 128, 256, 512, 1024]) {
+            assert!((most * 8 / 10..=most).contains(&subject.steps), "{} of {most}", subject.steps);
+        }
+    }
+}

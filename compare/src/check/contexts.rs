@@ -1,0 +1,179 @@
+//! Contexts (refusals 10 and 11) and the images of variables in them.
+
+use super::terms::{Term, pairs_fit};
+use super::{Tables, bit, first_refusal};
+use crate::answer::{Reason, Refusal};
+use crate::bundle::Section;
+use crate::fault::{Fault, Rules};
+
+#[derive(Clone, Copy, Debug, PartialEq, Eq)]
+pub enum Entry {
+    /// The empty context, number 0.
+    Empty,
+    Fixes(u32),
+    /// Lists of variables and of terms, by their starts.
+    Replaces {
+        variables: u32,
+        terms: u32,
+    },
+}
+
+#[derive(Clone, Copy, Debug)]
+pub struct Context {
+    pub entry: Entry,
+    pub parent: u32,
+    /// The variables whose image is another term.
+    moved: u64,
+}
+
+#[derive(Debug)]
+pub struct Contexts {
+    /// Index 0 is the empty context.
+    contexts: Vec<Context>,
+    /// A row for each context, a place for each variable: the image's term, or
+    /// 0 where no entry replaces the variable.
+    images: Vec<u32>,
+    /// Places in a row.
+    width: usize,
+}
+
+impl Contexts {
+    pub fn decode<R: Rules>(rules: R, tables: &Tables) -> Result<Self, Refusal> {
+        let records = tables.section(Section::Contexts).as_chunks::<4>().0;
+        let width = tables.signature.variable_count() as usize;
+        let mut contexts = Contexts {
+            contexts: vec![Context { entry: Entry::Empty, parent: 0, moved: 0 }; records.len() + 1],
+            images: vec![0; (records.len() + 1) * width],
+            width,
+        };
+        first_refusal(rules, records.iter(), |number, &[kind, first, second, parent]| {
+            let own = if rules.has(Fault::ParentOfItself) { number } else { number - 1 };
+            let entry = entry(rules, tables, [kind, first, second]).filter(|_| parent <= own);
+            let entry = entry.ok_or(Reason::Context)?;
+            let replaced = contexts.add(rules, tables, number, entry, parent);
+            let exempt = rules.has(Fault::UnsettledReplacementTaken)
+                || rules.has(Fault::OnlyFirstReplacementSettled) && replaced > 1;
+            if replaced != 0 && !exempt { Err(Reason::Unsettled) } else { Ok(()) }
+        })?;
+        Ok(contexts)
+    }
+
+    pub fn count(&self) -> u32 {
+        self.contexts.len() as u32 - 1
+    }
+
+    pub fn get(&self, number: u32) -> &Context {
+        &self.contexts[number as usize]
+    }
+
+    /// The term that a variable is replaced by, if an entry replaces it.
+    pub fn image(&self, context: u32, variable: u32) -> Option<u32> {
+        let place = context as usize * self.width + variable as usize - 1;
+        Some(self.images[place]).filter(|&term| term != 0)
+    }
+
+    /// Whether two contexts have equal entries down to the empty one. Only a fault
+    /// asks for it.
+    pub fn equal(&self, tables: &Tables, one: u32, other: u32) -> bool {
+        let (first, second) = (self.get(one), self.get(other));
+        let class = |start| tables.lists.class(start);
+        let entries = match (first.entry, second.entry) {
+            (
+                Entry::Replaces { variables, terms },
+                Entry::Replaces { variables: other_variables, terms: other_terms },
+            ) => class(variables) == class(other_variables) && class(terms) == class(other_terms),
+            (first, second) => first == second,
+        };
+        entries
+            && (one == other
+                || one != 0 && other != 0 && self.equal(tables, first.parent, second.parent))
+    }
+
+    pub fn moved(&self, context: u32) -> u64 {
+        self.contexts[context as usize].moved
+    }
+
+    /// Whether none of these variables is moved.
+    pub fn settled(&self, context: u32, free: u64) -> bool {
+        free & self.moved(context) == 0
+    }
+
+    /// Adds an entry above its parent. Answers the place of the first replacing
+    /// term that is not settled in the parent, 0 where all are.
+    fn add<R: Rules>(
+        &mut self,
+        rules: R,
+        tables: &Tables,
+        number: u32,
+        entry: Entry,
+        parent: u32,
+    ) -> usize {
+        let (from, to) = (parent as usize * self.width, number as usize * self.width);
+        self.images.copy_within(from..from + self.width, to);
+        let row = &mut self.images[to..to + self.width];
+        let parent_moved = self.contexts[parent as usize].moved;
+        let mut moved = parent_moved;
+        let mut unsettled = 0;
+        match entry {
+            Entry::Empty => {}
+            Entry::Fixes(_) if rules.has(Fault::FixingHidesNothing) => {}
+            Entry::Fixes(variable) => {
+                row[variable as usize - 1] = 0;
+                moved &= !bit(variable);
+            }
+            Entry::Replaces { variables, terms } => {
+                let pairs = || tables.lists.values(variables).zip(tables.lists.values(terms));
+                for (place, (variable, term)) in (1..).zip(pairs()) {
+                    let term = if rules.has(Fault::ReplacedInTurn) {
+                        in_turn(tables, pairs().skip(place), term)
+                    } else {
+                        term
+                    };
+                    let known = tables.terms.get(term);
+                    if rules.has(Fault::OuterReplacementWins) && row[variable as usize - 1] != 0 {
+                        continue;
+                    }
+                    row[variable as usize - 1] = term;
+                    let own = known.term == Term::Variable(variable);
+                    if own && !rules.has(Fault::OwnTermMoves) {
+                        moved &= !bit(variable);
+                    } else {
+                        moved |= bit(variable);
+                    }
+                    if known.free & parent_moved != 0 && unsettled == 0 {
+                        unsettled = place;
+                    }
+                }
+            }
+        }
+        self.contexts[number as usize] = Context { entry, parent, moved };
+        unsettled
+    }
+}
+
+/// A fault's reading: a replacement goes on with the pairs after it.
+fn in_turn(tables: &Tables, later: impl Iterator<Item = (u32, u32)>, term: u32) -> u32 {
+    later.fold(term, |term, (variable, other)| {
+        if tables.terms.get(term).term == Term::Variable(variable) { other } else { term }
+    })
+}
+
+/// Refusal 10 but for the parent.
+fn entry<R: Rules>(rules: R, tables: &Tables, record: [u32; 3]) -> Option<Entry> {
+    let Tables { lists, signature, terms, .. } = tables;
+    match record {
+        [1, variable, 0] => signature.is_variable(variable).then_some(Entry::Fixes(variable)),
+        [1, variable, _] if rules.has(Fault::FixingFieldTaken) => {
+            signature.is_variable(variable).then_some(Entry::Fixes(variable))
+        }
+        [2, variables, replacements] => {
+            let sound = lists.starts(variables)
+                && lists.starts(replacements)
+                && lists.within(variables, signature.variable_count())
+                && lists.within(replacements, terms.count())
+                && pairs_fit(rules, lists, signature, terms, variables, replacements, 1);
+            sound.then_some(Entry::Replaces { variables, terms: replacements })
+        }
+        _ => None,
+    }
+}

@@ -1,0 +1,156 @@
+//! The checker, written from document 01.
+//!
+//! A file is decoded into tables in the order of the refusals. What a record
+//! needs to know of a list (its length, smallest and largest value, and which
+//! other lists equal it) is computed once for each link, from the end of the
+//! chain, and what a list of terms or premises was found to be is remembered at
+//! its links. So the time is linear in the file, also where lists are shared,
+//! but for a factor of at most 64 in contexts and lets (a variable each).
+
+mod contexts;
+mod header;
+mod lists;
+mod signature;
+mod steps;
+mod terms;
+mod word_map;
+
+pub use header::Header;
+pub use lists::Lists;
+pub use signature::{Signature, Sort};
+pub use terms::{Quantifier, Term, Terms};
+
+use crate::answer::{Claim, Reason, Refusal};
+use crate::bundle::{Counts, Section, to_words};
+use crate::fault::{Exact, Fault, Rules};
+use contexts::Contexts;
+use lists::Classes;
+use terms::Key;
+use word_map::WordMap;
+
+/// Checks a file. `free` is the lent area: on acceptance word i - 1 holds the
+/// free variables of term i (bit v - 1 for variable v) and the rest is zero; on
+/// refusal all of it is zero.
+pub fn check(file: &[u8], free: &mut [u64]) -> Result<Claim, Refusal> {
+    check_with(Exact, file, free)
+}
+
+/// The checker by the given rules: the exact ones in [`check`].
+pub(crate) fn check_with<R: Rules>(
+    rules: R,
+    file: &[u8],
+    free: &mut [u64],
+) -> Result<Claim, Refusal> {
+    match judge(rules, file, free.len()) {
+        Ok((terms, claim)) => {
+            if !rules.has(Fault::AreaTailKept) {
+                free.fill(0);
+            }
+            for (word, term) in free.iter_mut().zip(terms.iter()) {
+                *word = term.free;
+            }
+            Ok(claim)
+        }
+        Err(refusal) => {
+            if !rules.has(Fault::AreaKeptOnRefusal) {
+                free.fill(0);
+            }
+            Err(refusal)
+        }
+    }
+}
+
+fn judge<R: Rules>(rules: R, file: &[u8], area: usize) -> Result<(Terms, Claim), Refusal> {
+    let area = if rules.has(Fault::AreaOneShort) { area + 1 } else { area };
+    let tables = Tables::decode(rules, file, |counts| area >= counts[Section::Terms] as usize)?;
+    let contexts = Contexts::decode(rules, &tables)?;
+    let claim = steps::check(rules, &tables, &contexts)?;
+    Ok((tables.terms, claim))
+}
+
+/// What precedes contexts and steps, decoded and found well formed.
+#[derive(Debug)]
+pub struct Tables {
+    pub header: Header,
+    pub words: Vec<u32>,
+    pub lists: Lists,
+    pub signature: Signature,
+    pub terms: Terms,
+    pub lookup: Lookup,
+}
+
+/// Finds lists and terms by value.
+#[derive(Clone, Debug, Default)]
+pub struct Lookup {
+    classes: Classes,
+    terms: WordMap<4>,
+}
+
+impl Lookup {
+    /// The class of the list of these values.
+    pub fn class_of(&mut self, values: impl DoubleEndedIterator<Item = u32>) -> u32 {
+        values.rev().fold(0, |tail, value| self.classes.class(value, tail))
+    }
+
+    pub fn term(&self, key: Key) -> Option<u32> {
+        self.terms.get(&key)
+    }
+
+    pub fn insert(&mut self, key: Key, number: u32) {
+        self.terms.insert(key, number);
+    }
+}
+
+impl Tables {
+    /// Refusals 1 to 9; `areas_suffice` tells whether the lent areas are long
+    /// enough for a file with these counts.
+    pub fn decode<R: Rules>(
+        rules: R,
+        file: &[u8],
+        areas_suffice: impl Fn(&Counts) -> bool,
+    ) -> Result<Self, Refusal> {
+        let header = Header::read(rules, file, areas_suffice)?;
+        let words = to_words(file);
+        let links = records(&words, &header.counts, Section::Links).as_chunks().0;
+        let symbols = records(&words, &header.counts, Section::Symbols).as_chunks().0;
+        let variables = records(&words, &header.counts, Section::Variables);
+        let terms = records(&words, &header.counts, Section::Terms).as_chunks().0;
+        let (lists, classes) = Lists::decode(rules, links)?;
+        let signature = Signature::decode(rules, symbols, variables, &lists)?;
+        let (terms, numbers) = Terms::decode(rules, terms, &signature, &lists)?;
+        let lookup = Lookup { classes, terms: numbers };
+        Ok(Tables { header, words, lists, signature, terms, lookup })
+    }
+
+    pub fn section(&self, section: Section) -> &[u32] {
+        records(&self.words, &self.header.counts, section)
+    }
+}
+
+fn records<'a>(words: &'a [u32], counts: &Counts, section: Section) -> &'a [u32] {
+    let start = counts.start(section);
+    &words[start..start + counts[section] as usize * section.width()]
+}
+
+/// The first refused record of a section decides.
+fn first_refusal<T, R: Rules>(
+    rules: R,
+    records: impl Iterator<Item = T>,
+    mut judge: impl FnMut(u32, T) -> Result<(), Reason>,
+) -> Result<(), Refusal> {
+    let mut outcome = Ok(());
+    for (number, record) in (1..).zip(records) {
+        if let Err(reason) = judge(number, record) {
+            outcome = Err(Refusal::at(reason, number));
+            if !rules.has(Fault::LastRecordCounts) {
+                break;
+            }
+        }
+    }
+    outcome
+}
+
+/// Bit of a variable (from 1) in a set.
+fn bit(variable: u32) -> u64 {
+    1 << (variable - 1)
+}

@@ -1,0 +1,338 @@
+//! Steps (refusals 12 to 14) and the claim (15).
+
+use super::contexts::{Contexts, Entry};
+use super::terms::Term;
+use super::{Tables, bit, first_refusal};
+use crate::answer::{Claim, Reason, Refusal};
+use crate::bundle::Section;
+use crate::fault::{Fault, Rules};
+
+const REFL: u32 = 1;
+const CONG: u32 = 2;
+const TRANS: u32 = 3;
+const BIND: u32 = 4;
+const LET: u32 = 5;
+
+#[derive(Clone, Copy, Debug, Default, PartialEq, Eq)]
+struct Step {
+    rule: u32,
+    context: u32,
+    left: u32,
+    right: u32,
+    premises: u32,
+}
+
+pub fn check<R: Rules>(rules: R, tables: &Tables, contexts: &Contexts) -> Result<Claim, Refusal> {
+    let records = tables.section(Section::Steps).as_chunks::<5>().0;
+    if rules.has(Fault::ClaimBeforeSteps) {
+        claim(rules, tables, records)?;
+    }
+    let mut checker = Checker {
+        rules,
+        tables,
+        contexts,
+        steps: vec![Step::default(); records.len() + 1],
+        conclusions: vec![Conclusions::default(); tables.lists.count() + 1],
+    };
+    first_refusal(rules, records.iter(), |number, &[rule, context, left, right, premises]| {
+        checker.step(number, Step { rule, context, left, right, premises })
+    })?;
+    claim(rules, tables, records)
+}
+
+/// The last step has to be the claim, in the empty context.
+fn claim<R: Rules>(rules: R, tables: &Tables, records: &[[u32; 5]]) -> Result<Claim, Refusal> {
+    let claim = Claim { left: tables.header.left, right: tables.header.right };
+    let proved = match records.last() {
+        Some(&[_, context, left, right, _]) => {
+            (context == 0 || rules.has(Fault::ClaimInAnyContext))
+                && (left == claim.left || rules.has(Fault::ClaimedLeftUnread))
+                && (right == claim.right || rules.has(Fault::ClaimedRightUnread))
+        }
+        None => rules.has(Fault::NoStepsTaken),
+    };
+    if proved { Ok(claim) } else { Err(Refusal::whole(Reason::Claim)) }
+}
+
+/// What the premises that start at a link conclude together: one context, and
+/// the classes of the lists of their left and right sides. Left is 0 where the
+/// link was not walked yet.
+#[derive(Clone, Copy, Debug, Default, PartialEq, Eq)]
+struct Conclusions {
+    context: u32,
+    left: u32,
+    right: u32,
+}
+
+struct Checker<'a, R> {
+    rules: R,
+    tables: &'a Tables,
+    contexts: &'a Contexts,
+    /// Index 0 is no step.
+    steps: Vec<Step>,
+    conclusions: Vec<Conclusions>,
+}
+
+impl<R: Rules> Checker<'_, R> {
+    fn step(&mut self, number: u32, step: Step) -> Result<(), Reason> {
+        if !self.references_sound(number, &step) {
+            return Err(Reason::Step);
+        }
+        self.steps[number as usize] = step;
+        match step.rule {
+            REFL if self.rules.has(Fault::ReflFailureIsSide) => {
+                require(self.refl(&step), Reason::Side)
+            }
+            REFL => require(self.refl(&step), Reason::Rule),
+            CONG => require(self.cong(&step), Reason::Rule),
+            TRANS => self.trans(&step),
+            BIND => self.bind(&step),
+            _ => require(self.let_(&step), Reason::Rule),
+        }
+    }
+
+    fn references_sound(&self, number: u32, step: &Step) -> bool {
+        let Tables { lists, terms, .. } = self.tables;
+        let largest = if self.rules.has(Fault::PremiseOfItself) { number } else { number - 1 };
+        (REFL..=LET).contains(&step.rule)
+            && step.context <= self.contexts.count()
+            && terms.is_term(step.left)
+            && terms.is_term(step.right)
+            && lists.starts(step.premises)
+            && lists.within(step.premises, largest)
+            && !(self.rules.has(Fault::LastContextRefused)
+                && step.context == self.contexts.count().max(1))
+            && !(self.rules.has(Fault::LastTermRefused) && step.right == terms.count())
+            && match (step.rule, lists.length(step.premises)) {
+                (REFL, count) => count == 0 || self.rules.has(Fault::ReflPremisesTaken),
+                (TRANS, count) => {
+                    count == 2 || self.rules.has(Fault::SparePremiseOfTransTaken) && count > 2
+                }
+                (BIND, count) => count == 1,
+                (CONG, count) if self.rules.has(Fault::CongCountIsBadStep) => {
+                    match terms.get(step.left).term {
+                        Term::Application { arguments, .. } => count == lists.length(arguments),
+                        _ => true,
+                    }
+                }
+                (LET, count) if self.rules.has(Fault::LetCountIsBadStep) => {
+                    match terms.get(step.left).term {
+                        Term::Let { bounds, .. } => count == lists.length(bounds) + 1,
+                        _ => true,
+                    }
+                }
+                _ => true,
+            }
+    }
+
+    /// Contexts are compared by number.
+    fn same_context(&self, one: u32, other: u32) -> bool {
+        one == other
+            || self.rules.has(Fault::ContextsByValue)
+                && self.contexts.equal(self.tables, one, other)
+    }
+
+    fn refl(&self, step: &Step) -> bool {
+        let left = self.tables.terms.get(step.left);
+        if step.left == step.right
+            && (self.contexts.settled(step.context, left.free)
+                || self.rules.has(Fault::ReflUnsettledTaken))
+        {
+            return true;
+        }
+        match left.term {
+            Term::Variable(variable) if !self.rules.has(Fault::ReflWithoutImages) => {
+                self.contexts.image(step.context, variable).unwrap_or(step.left) == step.right
+            }
+            _ => false,
+        }
+    }
+
+    fn cong(&mut self, step: &Step) -> bool {
+        let Tables { lists, terms, .. } = self.tables;
+        let (left, right) = (terms.get(step.left).term, terms.get(step.right).term);
+        let (
+            Term::Application { symbol, arguments: mut left },
+            Term::Application { symbol: other, arguments: mut right },
+        ) = (left, right)
+        else {
+            return false;
+        };
+        let (arguments, count) = (lists.length(left), lists.length(step.premises));
+        if arguments != lists.length(right)
+            || symbol != other && !self.rules.has(Fault::CongSymbolsDiffer)
+        {
+            return false;
+        }
+        if count != arguments && !(self.rules.has(Fault::CongPremiseMissing) && count < arguments) {
+            return false;
+        }
+        let mut premises = step.premises;
+        while let (Some((premise, next)), Some((from, next_left)), Some((to, next_right))) =
+            (lists.split(premises), lists.split(left), lists.split(right))
+        {
+            let here = Conclusions {
+                context: step.context,
+                left: lists.class(left),
+                right: lists.class(right),
+            };
+            let known = self.conclusions[premises as usize];
+            if known.left != 0 {
+                return known == here || self.rules.has(Fault::CongRememberedUnread);
+            }
+            let premise = &self.steps[premise as usize];
+            let proves = (self.same_context(premise.context, step.context)
+                || self.rules.has(Fault::CongContextsDiffer))
+                && premise.left == from
+                && (premise.right == to || self.rules.has(Fault::CongRightUnread));
+            if !proves {
+                return false;
+            }
+            // A mismatch further on ends the check, so this is not read then.
+            self.conclusions[premises as usize] = here;
+            (premises, left, right) = (next, next_left, next_right);
+        }
+        true
+    }
+
+    fn trans(&self, step: &Step) -> Result<(), Reason> {
+        let mut premises =
+            self.tables.lists.values(step.premises).map(|number| self.steps[number as usize]);
+        let (Some(first), Some(second)) = (premises.next(), premises.next()) else {
+            return Err(Reason::Rule);
+        };
+        let middle = first.right;
+        let context = |premise: &Step| self.same_context(premise.context, step.context);
+        let joined = (context(&first) || self.rules.has(Fault::TransFirstContextUnread))
+            && (context(&second) || self.rules.has(Fault::TransSecondContextUnread))
+            && first.left == step.left
+            && (middle == second.left || self.rules.has(Fault::TransMiddlesDiffer))
+            && second.right == step.right;
+        let settled = self.contexts.settled(step.context, self.tables.terms.get(middle).free)
+            || self.rules.has(Fault::TransMiddleUnsettled);
+        if self.rules.has(Fault::SideBeforeRule) {
+            require(settled, Reason::Side)?;
+        }
+        require(joined, Reason::Rule)?;
+        require(settled, Reason::Side)
+    }
+
+    fn bind(&self, step: &Step) -> Result<(), Reason> {
+        let Tables { lists, terms, .. } = self.tables;
+        let left = terms.get(step.left);
+        let (
+            Term::Quantifier { kind, variable: x, body },
+            Term::Quantifier { kind: other, variable: y, body: result },
+        ) = (left.term, terms.get(step.right).term)
+        else {
+            return Err(Reason::Rule);
+        };
+        let Some(premise) = lists.single(step.premises).map(|number| self.steps[number as usize])
+        else {
+            return Err(Reason::Rule);
+        };
+        let renames = self.contexts.get(premise.context);
+        let fixes = self.contexts.get(renames.parent);
+        let replaces_x_by_y = match renames.entry {
+            Entry::Replaces { variables, terms: replacements } => {
+                let replacement = lists.split(replacements).map(|(term, _)| terms.get(term).term);
+                let alone = lists.length(variables) == 1 || self.rules.has(Fault::BindReplacesMore);
+                alone
+                    && lists.split(variables).is_some_and(|(variable, _)| variable == x)
+                    && replacement == Some(Term::Variable(y))
+            }
+            _ => false,
+        };
+        let fixes_y = match fixes.entry {
+            Entry::Fixes(variable) => variable == y || self.rules.has(Fault::BindFixesAny),
+            _ => false,
+        };
+        let follows = (kind == other || self.rules.has(Fault::BindKindsDiffer))
+            && !(self.rules.has(Fault::BindSameNameRefused) && x == y)
+            && premise.left == body
+            && (premise.right == result || self.rules.has(Fault::BindBodyUnread))
+            && replaces_x_by_y
+            && (fixes_y
+                && (self.same_context(fixes.parent, step.context)
+                    || self.rules.has(Fault::BindParentUnread))
+                || self.rules.has(Fault::BindWithoutFixing) && renames.parent == step.context);
+        let sides = self.bind_sides(step.context, left.free, y)
+            && !(self.rules.has(Fault::BindNameInBody) && terms.get(body).free & bit(y) != 0);
+        if self.rules.has(Fault::SideBeforeRule) {
+            require(sides, Reason::Side)?;
+        }
+        require(follows, Reason::Rule)?;
+        require(sides, Reason::Side)
+    }
+
+    /// `y` is free neither in the term nor in the image of any of its free
+    /// variables. A variable that is not moved is its own image.
+    fn bind_sides(&self, context: u32, free: u64, y: u32) -> bool {
+        if free & bit(y) != 0 && !self.rules.has(Fault::BindNameUnread) {
+            return false;
+        }
+        if self.rules.has(Fault::BindImagesUnread) {
+            return true;
+        }
+        let mut moved = self.contexts.moved(context);
+        if !self.rules.has(Fault::BindAllImagesRead) {
+            moved &= free;
+        }
+        while moved != 0 {
+            let variable = moved.trailing_zeros() + 1;
+            moved &= moved - 1;
+            let image = self.contexts.image(context, variable);
+            if image.is_some_and(|term| self.tables.terms.get(term).free & bit(y) != 0) {
+                return false;
+            }
+        }
+        true
+    }
+
+    fn let_(&self, step: &Step) -> bool {
+        let Tables { lists, terms, .. } = self.tables;
+        let Term::Let { variables, bounds, body } = terms.get(step.left).term else {
+            return false;
+        };
+        if lists.length(step.premises) != lists.length(bounds) + 1 {
+            return false;
+        }
+        let steps = |start| lists.values(start).map(|number| &self.steps[number as usize]);
+        let carried = || steps(step.premises).take(lists.length(bounds) as usize);
+        let Some(last) = steps(step.premises).last() else { return false };
+        let context = self.contexts.get(last.context);
+        let Entry::Replaces { variables: replaced, terms: replacements } = context.entry else {
+            return false;
+        };
+        let same_variables = if self.rules.has(Fault::LetVariablesByStart) {
+            replaced == variables
+        } else {
+            lists.class(replaced) == lists.class(variables)
+        };
+        let same_terms = lists.values(replacements).eq(carried().map(|premise| premise.right));
+        let in_order = same_variables && same_terms
+            || self.rules.has(Fault::LetOrderIgnored)
+                && as_set(lists.values(replaced)) == as_set(lists.values(variables))
+                && as_set(lists.values(replacements))
+                    == as_set(carried().map(|premise| premise.right));
+        lists.values(bounds).zip(carried()).all(|(bound, premise)| {
+            (self.same_context(premise.context, step.context)
+                || self.rules.has(Fault::LetBoundContextsDiffer))
+                && (premise.left == bound || self.rules.has(Fault::LetBoundsUnread))
+        }) && last.left == body
+            && (last.right == step.right || self.rules.has(Fault::LetRightUnread))
+            && (self.same_context(context.parent, step.context)
+                || self.rules.has(Fault::LetParentUnread))
+            && (in_order || self.rules.has(Fault::LetReplacementsUnread) && same_variables)
+    }
+}
+
+fn as_set(values: impl Iterator<Item = u32>) -> Vec<u32> {
+    let mut values: Vec<u32> = values.collect();
+    values.sort_unstable();
+    values
+}
+
+fn require(holds: bool, otherwise: Reason) -> Result<(), Reason> {
+    if holds { Ok(()) } else { Err(otherwise) }
+}

@@ -1,0 +1,266 @@
+//! The comparison of two writers on the same jobs: same answer, same bytes and
+//! words of every lent area. What is written has to be accepted.
+
+use crate::answer::{Packed, Reason, Refusal};
+use crate::bundle::{LEFT, MAX_BYTES, MAX_WORDS, RIGHT, Section, counts_of, to_words};
+use crate::check::check;
+use crate::compare::{SMALL, WORLDS};
+use crate::eval::claim_holds;
+use crate::expand::SETS;
+use crate::generate::jobs::{Job, JobFamily, job};
+use crate::naive::{Plain, Tree, load};
+use crate::rng::Rng;
+use std::collections::BTreeMap;
+use std::fmt;
+use std::path::{Path, PathBuf};
+use std::{fs, io};
+
+/// A writer as the proved library offers it: the length where written, else
+/// number * 2^32 + record; the output and both scratch areas are written.
+pub type Writer<'a> = &'a dyn Fn(&[u8], &mut [u8], &mut [u32], &mut [u64]) -> u64;
+
+/// A writer's answer in that form.
+pub fn packed(outcome: Result<usize, Refusal>) -> u64 {
+    outcome.map_or_else(Refusal::packed, |length| length as u64)
+}
+
+/// The lent areas: output, words, sets.
+#[derive(Clone, Debug, PartialEq, Eq)]
+pub struct Areas {
+    pub out: Vec<u8>,
+    pub words: Vec<u32>,
+    pub sets: Vec<u64>,
+}
+
+/// Lengths of the three areas: first just long enough, then one other choice by
+/// the job's index.
+pub fn lengths(index: u64) -> [[usize; 3]; 2] {
+    let (out, words, sets) = (MAX_BYTES, MAX_WORDS, SETS);
+    let other = match index % 6 {
+        0 => [out + 7, words + 3, sets + 5],
+        1 => [out - 1, words, sets],
+        2 => [out, words - 1, sets],
+        3 => [out, words, sets - 1],
+        4 => [0, 0, 0],
+        _ => [out + 1, words, sets],
+    };
+    [[out, words, sets], other]
+}
+
+/// The answer, and the areas after the call; they held junk before.
+pub fn call(write: Writer, job: &[u8], [out, words, sets]: [usize; 3], junk: u64) -> (u64, Areas) {
+    let mut rng = Rng::new(junk);
+    let fill = rng.next_u64();
+    let mut areas = Areas {
+        out: (0..out).map(|place| (fill >> (place % 8)) as u8 | 1).collect(),
+        words: (0..words as u32).map(|place| fill as u32 ^ place | 1).collect(),
+        sets: (0..sets as u64).map(|place| fill ^ place | 1).collect(),
+    };
+    let answer = write(job, &mut areas.out, &mut areas.words, &mut areas.sets);
+    (answer, areas)
+}
+
+/// Two writers that do not agree, or a file that should not have been written.
+#[derive(Clone, Debug)]
+pub struct Difference {
+    pub index: u64,
+    pub family: JobFamily,
+    pub text: String,
+    pub written: Option<PathBuf>,
+}
+
+impl fmt::Display for Difference {
+    fn fmt(&self, out: &mut fmt::Formatter<'_>) -> fmt::Result {
+        write!(out, "job {} ({:?}): {}", self.index, self.family, self.text)?;
+        match &self.written {
+            Some(path) => write!(out, "; written to {}", path.display()),
+            None => Ok(()),
+        }
+    }
+}
+
+#[derive(Clone, Debug, Default)]
+pub struct Report {
+    pub jobs: u64,
+    pub calls: u64,
+    pub written_bytes: u64,
+    /// Jobs by the answer's number with areas just long enough; 0 is written.
+    pub by_number: BTreeMap<u64, u64>,
+    pub calls_by_number: BTreeMap<u64, u64>,
+    pub by_family: BTreeMap<JobFamily, u64>,
+    pub differences: Vec<Difference>,
+}
+
+/// The numbers a writer can answer.
+pub fn numbers() -> impl Iterator<Item = Reason> {
+    let checks_of_steps = Reason::Context..=Reason::Side;
+    Reason::ALL.into_iter().filter(move |reason| !checks_of_steps.contains(reason))
+}
+
+const ENOUGH: usize = 10;
+
+impl Report {
+    pub fn add(&mut self, subject: Writer, reference: Writer, index: u64, job: &Job) {
+        self.jobs += 1;
+        *self.by_family.entry(job.family).or_default() += 1;
+        for (place, lengths) in lengths(index).into_iter().enumerate() {
+            let (expected, expected_areas) = call(reference, &job.bytes, lengths, index);
+            let (found, areas) = call(subject, &job.bytes, lengths, index);
+            self.calls += 1;
+            *self.calls_by_number.entry(expected >> 32).or_default() += 1;
+            if place == 0 {
+                *self.by_number.entry(expected >> 32).or_default() += 1;
+            }
+            let mut problem = difference(found, &areas, expected, &expected_areas);
+            if expected >> 32 == 0 && place == 0 {
+                self.written_bytes += expected;
+                let file = &areas.out[..(found as usize).min(areas.out.len())];
+                problem = problem.or_else(|| misfit(&job.bytes, file));
+            }
+            if let Some(text) = problem {
+                let text = format!("areas of {lengths:?}: {text}");
+                self.differences.push(Difference {
+                    index,
+                    family: job.family,
+                    text,
+                    written: None,
+                });
+                break;
+            }
+        }
+    }
+
+    pub fn unseen(&self, least: u64) -> Vec<u32> {
+        numbers()
+            .map(Reason::number)
+            .filter(|&number| {
+                self.calls_by_number.get(&u64::from(number)).copied().unwrap_or(0) < least
+            })
+            .collect()
+    }
+
+    pub fn agrees(&self) -> bool {
+        self.differences.is_empty()
+    }
+}
+
+fn difference(found: u64, areas: &Areas, expected: u64, expected_areas: &Areas) -> Option<String> {
+    if found != expected {
+        return Some(format!(
+            "{} against {} from the Rust writer",
+            Packed(found),
+            Packed(expected)
+        ));
+    }
+    let at = |name: &str, place: Option<usize>| {
+        place.map(|place| format!("{name} differs at place {place} (from 0)"))
+    };
+    at("the output", first_difference(&areas.out, &expected_areas.out))
+        .or_else(|| at("the 32-bit scratch", first_difference(&areas.words, &expected_areas.words)))
+        .or_else(|| at("the 64-bit scratch", first_difference(&areas.sets, &expected_areas.sets)))
+}
+
+fn first_difference<T: PartialEq>(one: &[T], other: &[T]) -> Option<usize> {
+    if one == other { None } else { one.iter().zip(other).position(|(a, b)| a != b) }
+}
+
+/// What is wrong with a written file: it has to be accepted, keep the job's
+/// records and left, have a right side without lets, and hold in worlds.
+pub fn misfit(job: &[u8], file: &[u8]) -> Option<String> {
+    let mut free = vec![0; Section::Terms.limit() as usize];
+    if let Err(refusal) = check(file, &mut free) {
+        return Some(format!("the written file is {refusal}"));
+    }
+    let (Some(old), Some(new)) = (counts_of(job), counts_of(file)) else {
+        return Some("a header is missing".into());
+    };
+    let (job, words) = (to_words(job), to_words(file));
+    if job[LEFT] != words[LEFT] {
+        return Some("the written left is not the job's".into());
+    }
+    for section in Section::ALL {
+        let length = old[section] as usize * section.width();
+        let (from, to) = (old.start(section), new.start(section));
+        if job[from..from + length] != words[to..to + length] {
+            return Some(format!("a record of {section:?} is not the job's"));
+        }
+    }
+    match load(file, free.len()) {
+        Ok(plain) if holds_let(&plain, words[RIGHT]) => Some("the right side holds a let".into()),
+        Ok(plain) if file.len() <= SMALL => {
+            claim_holds(&plain, WORLDS, &mut Rng::new(file.len() as u64)).err()
+        }
+        Ok(_) => None,
+        Err(refusal) => Some(format!("the plain reading says {refusal}")),
+    }
+}
+
+/// Whether a let stands in a term.
+pub fn holds_let(plain: &Plain, term: u32) -> bool {
+    // Terms refer to lower numbers only, so one pass upwards suffices.
+    let mut holds = vec![false; term as usize + 1];
+    for number in 1..=term {
+        holds[number as usize] = match plain.tree(number) {
+            Tree::Variable(_) => false,
+            Tree::Application(_, arguments) => arguments.iter().any(|&part| holds[part as usize]),
+            Tree::ForAll(_, body) | Tree::Exists(_, body) => holds[*body as usize],
+            Tree::Let(..) => true,
+        };
+    }
+    holds[term as usize]
+}
+
+/// Compares on jobs 0 to `jobs` - 1 of the run. A job that tells the two apart is
+/// written into `failures`, if given.
+pub fn run(
+    subject: Writer,
+    reference: Writer,
+    seed: u64,
+    jobs: u64,
+    failures: Option<&Path>,
+) -> io::Result<Report> {
+    let mut report = Report::default();
+    for index in 0..jobs {
+        let job = job(seed, index);
+        let before = report.differences.len();
+        report.add(subject, reference, index, &job);
+        if let (Some(difference), Some(folder)) = (report.differences.get_mut(before), failures) {
+            let path = folder.join(format!("seed-{seed}-job-{index}.bin"));
+            fs::create_dir_all(folder)?;
+            fs::write(&path, &job.bytes)?;
+            difference.written = Some(path);
+        }
+        if report.differences.len() >= ENOUGH {
+            break;
+        }
+    }
+    Ok(report)
+}
+
+impl fmt::Display for Report {
+    fn fmt(&self, out: &mut fmt::Formatter<'_>) -> fmt::Result {
+        writeln!(
+            out,
+            "{} jobs, {} calls, {} bytes written",
+            self.jobs, self.calls, self.written_bytes
+        )?;
+        let families: Vec<String> =
+            self.by_family.iter().map(|(family, count)| format!("{family:?} {count}")).collect();
+        writeln!(out, "families: {}", families.join(", "))?;
+        writeln!(out, "{:>6} {:>9} {:>9}  when", "answer", "jobs", "calls")?;
+        let count = |map: &BTreeMap<u64, u64>, number| map.get(&number).copied().unwrap_or(0);
+        let mut row = |number: u64, text: &str| {
+            let (jobs, calls) =
+                (count(&self.by_number, number), count(&self.calls_by_number, number));
+            writeln!(out, "{number:>6} {jobs:>9} {calls:>9}  {text}")
+        };
+        row(0, "written")?;
+        for reason in numbers() {
+            row(u64::from(reason.number()), reason.text())?;
+        }
+        for difference in &self.differences {
+            writeln!(out, "DIFFERENCE: {difference}")?;
+        }
+        Ok(())
+    }
+}

@@ -1,0 +1,167 @@
+//! Single faults that can be built into the checker or the writer, to test that
+//! the comparison would notice them. The exact rules are a type of their own whose
+//! answer is always "no fault", so they hold none of this code.
+
+/// The rules to follow: document 01's, or those with one fault.
+pub trait Rules: Copy {
+    fn has(self, fault: Fault) -> bool;
+}
+
+/// No fault.
+#[derive(Clone, Copy, Debug)]
+pub struct Exact;
+
+impl Rules for Exact {
+    #[inline(always)]
+    fn has(self, _: Fault) -> bool {
+        false
+    }
+}
+
+/// One fault.
+#[derive(Clone, Copy, Debug)]
+pub struct Broken(pub Fault);
+
+impl Rules for Broken {
+    fn has(self, fault: Fault) -> bool {
+        self.0 == fault
+    }
+}
+
+macro_rules! faults {
+    (checker: { $($name:ident: $text:literal,)* } writer: { $($other:ident: $other_text:literal,)* }) => {
+        #[derive(Clone, Copy, Debug, PartialEq, Eq)]
+        pub enum Fault {
+            $($name,)*
+            $($other,)*
+        }
+
+        impl Fault {
+            pub const CHECKER: &[Fault] = &[$(Fault::$name,)*];
+            pub const WRITER: &[Fault] = &[$(Fault::$other,)*];
+
+            pub fn text(self) -> &'static str {
+                match self {
+                    $(Fault::$name => $text,)*
+                    $(Fault::$other => $other_text,)*
+                }
+            }
+        }
+    };
+}
+
+faults! {
+    checker: {
+        // Areas and header.
+        AreaKeptOnRefusal: "the area keeps its old words on refusal",
+        AreaTailKept: "the area keeps its old words past the last term",
+        AreaOneShort: "an area one word too short is taken",
+        LongerFileTaken: "bytes after the last record are taken",
+        LimitBeforeVersion: "3 comes before 2",
+        LengthBeforeLimit: "the exact length comes before 3",
+        AreaBeforeLength: "4 comes before the exact length",
+        LimitOfTermsOff: "1,025 terms are taken",
+        LimitOfLinksOff: "2,049 links are taken",
+        LimitOfContextsOff: "257 contexts are taken",
+        LastRecordCounts: "the last bad record of a section counts",
+        // Links, symbols, variables.
+        LinkToItselfTaken: "a link's next may be itself",
+        LastLinkRefused: "a link's next may not be L",
+        LinkPastEndTaken: "a link's next may be L + 1",
+        VariablesBeforeSymbols: "variables are judged before symbols",
+        ArgumentSortsUnread: "the sorts in a symbol's list are not judged",
+        VariableSortTwoTaken: "a variable may have sort 2",
+        // Terms.
+        TermOfItself: "a term may refer to itself",
+        UnusedFieldTaken: "a variable term's second field is not judged",
+        ReservedSymbolTaken: "symbol 9 is taken",
+        ArgumentsPastCountUnread: "arguments past the symbol's count are not judged by 7",
+        SpareArgumentTaken: "one argument too many is taken",
+        ArgumentSortsIgnored: "argument sorts are not compared",
+        BodySortUnread: "a quantifier's body may be an item",
+        TruthQuantifierRefused: "a quantifier may bind items only",
+        EmptyLetTaken: "a let may have no variable",
+        RepeatsTaken: "a let or context may list a variable twice",
+        SpareBoundTaken: "one bound term too many is taken",
+        PairSortsIgnored: "sorts of variables and bound terms are not compared",
+        DuplicatesTaken: "equal terms are taken",
+        DuplicatesByStart: "lists of equal terms are compared by start",
+        QuantifiersAlike: "for-all and exists count as equal terms",
+        QuantifierBindsNothing: "a quantifier's variable stays free",
+        LetBindsItsBounds: "a let's bound terms stand inside its variables",
+        // Contexts.
+        FixingFieldTaken: "a fixing context's second field is not judged",
+        ParentOfItself: "a context may be its own parent",
+        UnsettledReplacementTaken: "11 is left out",
+        OnlyFirstReplacementSettled: "11 looks at the first replacing term only",
+        FixingHidesNothing: "fixing a variable leaves its outer replacement",
+        ReplacedInTurn: "variables are replaced one after another",
+        OuterReplacementWins: "the entry nearest the empty context wins",
+        OwnTermMoves: "a variable replaced by itself is moved",
+        // Steps.
+        LastContextRefused: "a step's context may not be C",
+        LastTermRefused: "a step's right side may not be T",
+        PremiseOfItself: "a step may be its own premise",
+        ReflPremisesTaken: "REFL may have premises",
+        SparePremiseOfTransTaken: "TRANS may have three premises",
+        CongCountIsBadStep: "a wrong premise count of CONG is 12",
+        LetCountIsBadStep: "a wrong premise count of LET is 12",
+        ContextsByValue: "contexts are compared by value",
+        ReflFailureIsSide: "a failing REFL is 14",
+        ReflUnsettledTaken: "REFL takes equal sides that are not settled",
+        ReflWithoutImages: "REFL does not take a variable to its image",
+        CongSymbolsDiffer: "CONG takes two symbols",
+        CongPremiseMissing: "CONG takes too few premises",
+        CongContextsDiffer: "CONG takes premises of another context",
+        CongRightUnread: "CONG does not compare right sides",
+        CongRememberedUnread: "CONG takes any premises it has walked before",
+        TransFirstContextUnread: "TRANS takes a first premise of another context",
+        TransSecondContextUnread: "TRANS takes a second premise of another context",
+        TransMiddlesDiffer: "TRANS takes two middles",
+        TransMiddleUnsettled: "TRANS takes an unsettled middle",
+        SideBeforeRule: "14 comes before 13",
+        BindKindsDiffer: "BIND takes for-all to exists",
+        BindBodyUnread: "BIND does not compare the right body",
+        BindReplacesMore: "BIND's context may replace more variables",
+        BindFixesAny: "BIND's context may fix another variable",
+        BindWithoutFixing: "BIND's context need not fix the new variable",
+        BindParentUnread: "BIND's fixing context may have any parent",
+        BindSameNameRefused: "BIND may not keep the variable",
+        BindNameInBody: "BIND's printed side looks at the body",
+        BindAllImagesRead: "BIND's side looks at the images of all variables",
+        BindNameUnread: "BIND's printed side is left out",
+        BindImagesUnread: "BIND's side about images is left out",
+        LetVariablesByStart: "LET compares the variables by list start",
+        LetOrderIgnored: "LET compares variables and terms as sets",
+        LetBoundContextsDiffer: "LET takes bound premises of another context",
+        LetBoundsUnread: "LET does not compare bound terms",
+        LetReplacementsUnread: "LET does not compare the replacing terms",
+        LetRightUnread: "LET does not compare the right side",
+        LetParentUnread: "LET's context may have any parent",
+        // Claim.
+        ClaimBeforeSteps: "15 comes before the steps",
+        ClaimInAnyContext: "the last step may have any context",
+        ClaimedLeftUnread: "the claimed left is not compared",
+        ClaimedRightUnread: "the claimed right is not compared",
+        NoStepsTaken: "a file without steps is taken",
+    }
+    writer: {
+        OutputOneShort: "an output one byte too short is taken",
+        ScratchKept: "the scratch areas keep their old words",
+        OutputTailKept: "the output keeps its old bytes after the file",
+        RightUnread: "a right word that is not 0 is taken",
+        ClaimBeforeBare: "15 comes before 18",
+        FullBeforeOpen: "16 comes before 17",
+        OpenTaken: "an open rule is taken",
+        LimitOneShort: "a section at its limit is full",
+        OnlyOldTermsLookedUp: "terms written before are not looked up",
+        ListOfFoundTerm: "the arguments of a term that is there are written again",
+        NewVariableIsItem: "a new variable is always an item",
+        NewLinkFirst: "the link of the new variable's term comes first",
+        LetInTurn: "a let's bound terms see its variables before them",
+        LetListCopied: "the let's list of variables is written again",
+        ResultsAfterBody: "the links of a let's results come after its body",
+        ImagesKept: "a binder's images stay after it",
+        LastArgumentFirst: "arguments are visited from the last",
+    }
+}

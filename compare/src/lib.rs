@@ -1,0 +1,21 @@
+//! A checker of rewriting derivations and a writer of let expansions, both
+//! independent of the proved library, and the means to compare them with it.
+
+pub mod answer;
+pub mod bench;
+pub mod bundle;
+pub mod check;
+pub mod compare;
+pub mod compare_writer;
+pub mod damage;
+pub mod eval;
+pub mod expand;
+pub mod fault;
+pub mod ffi;
+pub mod generate;
+pub mod mutants;
+pub mod naive;
+pub mod naive_expand;
+pub mod plot;
+pub mod report;
+pub mod rng;

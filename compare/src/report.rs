@@ -1,0 +1,235 @@
+//! The benchmark's tables, as text and as Markdown.
+
+use crate::bench::Row;
+use std::fmt::Write;
+use std::time::{SystemTime, UNIX_EPOCH};
+
+/// Everything a run of the benchmark measured.
+#[derive(Clone, Debug)]
+pub struct Results {
+    pub checks: Vec<Row>,
+    pub doubling: Vec<Row>,
+    pub writers: Vec<Row>,
+}
+
+const MISSING: &str = "The proved library was not there: Rust alone.";
+
+impl Results {
+    fn has_proved(&self) -> bool {
+        self.checks.iter().any(|row| row.proved.is_some())
+    }
+
+    /// The page for docs/.
+    pub fn markdown(&self) -> String {
+        let mut page = String::from("# Benchmark\n\n");
+        let _ = writeln!(
+            page,
+            "{}, {}. Written by `cargo run --release -- bench --write DIR` in `compare/`.",
+            today(),
+            machine()
+        );
+        if self.has_proved() {
+            let ratios: Vec<f64> = self.checks.iter().filter_map(Row::ratio).collect();
+            let (least, most) = ratios.iter().fold((f64::MAX, 0.0f64), |(least, most), &ratio| {
+                (least.min(ratio), most.max(ratio))
+            });
+            let _ = writeln!(
+                page,
+                "\nThe proved check takes {least:.2} to {most:.2} times as long as the Rust checker."
+            );
+        } else {
+            let _ = writeln!(page, "\n{MISSING}");
+        }
+        page.push_str(
+            "\nSame run, same input, both built for release; the area is cleared before each call, and \
+             that is not timed. Each time is the median of many calls, the two checkers in turn. \"Copy\" is \
+             the time to copy the file's bytes: no checker can be faster than that.\n\n\
+             ![time for each file, and time a step](benchmark.svg)\n\n## Checking\n\n",
+        );
+        page.push_str(&table(&self.checks, "copy µs", true));
+        page.push_str("\n## Time a step as steps double\n\nExpansions of the same kind, nanoseconds a step.\n\n");
+        page.push_str(&step_table(&self.doubling, true));
+        page.push_str("\n## Writing\n\nThe largest jobs with files of these sizes; \"clear\" is the time to clear the three areas.\n\n");
+        page.push_str(&table(&self.writers, "clear µs", true));
+        page
+    }
+
+    /// The same for a terminal.
+    pub fn text(&self) -> String {
+        let mut text = String::new();
+        if !self.has_proved() {
+            let _ = writeln!(text, "{MISSING}");
+        }
+        text.push_str(&table(&self.checks, "copy µs", false));
+        text.push('\n');
+        text.push_str(&step_table(&self.doubling, false));
+        text.push('\n');
+        text.push_str(&table(&self.writers, "clear µs", false));
+        text
+    }
+}
+
+fn table(rows: &[Row], floor: &str, markdown: bool) -> String {
+    let proved = rows.iter().any(|row| row.proved.is_some());
+    let mut head = vec!["file", "bytes", "steps", floor];
+    head.extend(if proved { vec!["proved µs", "Rust µs", "ratio"] } else { vec!["Rust µs"] });
+    let body = rows.iter().map(|row| {
+        let mut cells = vec![
+            row.name.clone(),
+            thousands(row.bytes),
+            thousands(row.steps as usize),
+            number(row.copy),
+        ];
+        if let (Some(time), Some(ratio)) = (row.proved, row.ratio()) {
+            cells.extend([number(time), number(row.rust), format!("{ratio:.2}")]);
+        } else {
+            cells.push(number(row.rust));
+        }
+        cells
+    });
+    layout(&head, body.collect(), markdown)
+}
+
+fn step_table(rows: &[Row], markdown: bool) -> String {
+    let proved = rows.iter().any(|row| row.proved.is_some());
+    let mut head = vec!["up to", "steps", "bytes"];
+    head.extend(if proved { vec!["proved ns", "Rust ns", "ratio"] } else { vec!["Rust ns"] });
+    let body = rows.iter().map(|row| {
+        let mut cells = vec![row.name.clone(), thousands(row.steps as usize), thousands(row.bytes)];
+        if let (Some(time), Some(ratio)) = (row.proved, row.ratio()) {
+            cells.extend([
+                number(row.per_step(time)),
+                number(row.per_step(row.rust)),
+                format!("{ratio:.2}"),
+            ]);
+        } else {
+            cells.push(number(row.per_step(row.rust)));
+        }
+        cells
+    });
+    layout(&head, body.collect(), markdown)
+}
+
+/// Columns of equal width, the first to the left and the others to the right.
+fn layout(head: &[&str], body: Vec<Vec<String>>, markdown: bool) -> String {
+    let width = |column: usize| {
+        let cells = body.iter().map(|row| row[column].chars().count());
+        cells.chain([head[column].chars().count()]).max().unwrap_or(0)
+    };
+    let widths: Vec<usize> = (0..head.len()).map(width).collect();
+    let line = |cells: Vec<&str>| {
+        let padded: Vec<String> = cells
+            .iter()
+            .zip(&widths)
+            .enumerate()
+            .map(|(column, (cell, &width))| match column {
+                0 => format!("{cell:<width$}"),
+                _ => format!("{cell:>width$}"),
+            })
+            .collect();
+        if markdown {
+            format!("| {} |\n", padded.join(" | "))
+        } else {
+            format!("{}\n", padded.join("  "))
+        }
+    };
+    let mut text = line(head.to_vec());
+    if markdown {
+        let rule: Vec<String> = widths
+            .iter()
+            .enumerate()
+            .map(|(column, &width)| match column {
+                0 => "-".repeat(width),
+                _ => "-".repeat(width - 1) + ":",
+            })
+            .collect();
+        text.push_str(&line(rule.iter().map(String::as_str).collect()));
+    }
+    for row in &body {
+        text.push_str(&line(row.iter().map(String::as_str).collect()));
+    }
+    text
+}
+
+/// Three significant digits or whole numbers.
+pub fn number(value: f64) -> String {
+    match value {
+        ..0.1 => format!("{value:.3}"),
+        ..10.0 => format!("{value:.2}"),
+        ..100.0 => format!("{value:.1}"),
+        _ => thousands(value.round() as usize),
+    }
+}
+
+pub fn thousands(value: usize) -> String {
+    let digits = value.to_string();
+    let mut text = String::new();
+    for (place, digit) in digits.chars().enumerate() {
+        if place > 0 && (digits.len() - place).is_multiple_of(3) {
+            text.push(',');
+        }
+        text.push(digit);
+    }
+    text
+}
+
+/// The date in UTC, as year-month-day.
+pub fn today() -> String {
+    let seconds = SystemTime::now().duration_since(UNIX_EPOCH).map_or(0, |time| time.as_secs());
+    date((seconds / 86_400) as i64)
+}
+
+/// The date so many days after 1970-01-01 (Hinnant's algorithm).
+fn date(days: i64) -> String {
+    let days = days + 719_468;
+    let era = days.div_euclid(146_097);
+    let day_of_era = days.rem_euclid(146_097);
+    let year_of_era =
+        (day_of_era - day_of_era / 1_460 + day_of_era / 36_524 - day_of_era / 146_096) / 365;
+    let day_of_year = day_of_era - (365 * year_of_era + year_of_era / 4 - year_of_era / 100);
+    let month_from_march = (5 * day_of_year + 2) / 153;
+    let day = day_of_year - (153 * month_from_march + 2) / 5 + 1;
+    let month = if month_from_march < 10 { month_from_march + 3 } else { month_from_march - 9 };
+    let year = year_of_era + 400 * era + i64::from(month <= 2);
+    format!("{year}-{month:02}-{day:02}")
+}
+
+/// The processor's name, where the system tells.
+fn machine() -> String {
+    let text = std::fs::read_to_string("/proc/cpuinfo").unwrap_or_default();
+    let name = text.lines().find_map(|line| line.strip_prefix("model name")?.split_once(':'));
+    name.map_or("an unnamed processor".into(), |(_, name)| name.trim().to_string())
+}
+
+#[cfg(test)]
+mod tests {
+    use super::*;
+
+    #[test]
+    fn dates() {
+        assert_eq!(date(0), "1970-01-01");
+        assert_eq!(date(19_782), "2024-02-29");
+        assert_eq!(date(20_088), "2024-12-31");
+        assert_eq!(date(20_089), "2025-01-01");
+    }
+
+    #[test]
+    fn numbers() {
+        assert_eq!(thousands(0), "0");
+        assert_eq!(thousands(58_148), "58,148");
+        assert_eq!(thousands(1_000_000), "1,000,000");
+        assert_eq!(number(0.0123), "0.012");
+        assert_eq!(number(3.456), "3.46");
+        assert_eq!(number(1234.5), "1,235");
+    }
+
+    #[test]
+    fn tables_with_and_without_the_library() {
+        let row =
+            |proved| Row { name: "a".into(), bytes: 1024, steps: 4, copy: 0.05, proved, rust: 2.0 };
+        let alone = table(&[row(None)], "copy µs", true);
+        assert!(alone.starts_with("| file | bytes | steps | copy µs | Rust µs |\n"));
+        let both = table(&[row(Some(3.0))], "copy µs", true);
+        assert!(both.contains("| ratio |\n") && both.contains("|  1.50 |\n"), "{both}");
+    }
+}

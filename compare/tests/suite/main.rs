@@ -1,0 +1,41 @@
+//! One binary for all tests that use the library from outside.
+
+mod agreement;
+mod examples;
+mod limits;
+mod teeth;
+mod worlds;
+mod writer;
+
+use nezkaldo_compare::answer::packed;
+use nezkaldo_compare::bundle::{Section, to_bytes};
+use nezkaldo_compare::{check, compare_writer, expand, naive};
+
+/// The checker's answer in the library's form.
+pub fn exact(file: &[u8], free: &mut [u64]) -> u64 {
+    packed(check::check(file, free))
+}
+
+/// The plain reading's.
+pub fn plain(file: &[u8], free: &mut [u64]) -> u64 {
+    packed(naive::check(file, free))
+}
+
+pub fn exact_expand(job: &[u8], out: &mut [u8], words: &mut [u32], sets: &mut [u64]) -> u64 {
+    compare_writer::packed(expand::expand(job, out, words, sets))
+}
+
+/// Number and record of the checker, which the plain reading shares; (0, 0) where
+/// accepted. The free sets come with it.
+pub fn judge(words: &[u32]) -> ((u32, u32), Vec<u64>) {
+    judge_bytes(&to_bytes(words))
+}
+
+pub fn judge_bytes(file: &[u8]) -> ((u32, u32), Vec<u64>) {
+    let area = vec![u64::MAX; Section::Terms.limit() as usize + 3];
+    let (mut free, mut other) = (area.clone(), area);
+    let answer = exact(file, &mut free);
+    assert_eq!(answer, plain(file, &mut other), "the two readings answer alike");
+    assert_eq!(free, other, "the two readings leave the same area");
+    (((answer >> 32) as u32, answer as u32), free)
+}

@@ -1,0 +1,66 @@
+//! The comparison notices every single fault, by the ordinary files alone.
+
+use crate::{exact, exact_expand};
+use nezkaldo_compare::eval::claim_holds;
+use nezkaldo_compare::fault::Fault;
+use nezkaldo_compare::generate::case;
+use nezkaldo_compare::mutants::{Verdict, broken_checker, try_checkers, try_writers};
+use nezkaldo_compare::naive;
+use nezkaldo_compare::rng::Rng;
+
+const SEED: u64 = 5;
+
+fn assert_all_told(verdicts: &[Verdict]) {
+    let missed: Vec<Fault> = verdicts
+        .iter()
+        .filter(|verdict| verdict.first.is_none())
+        .map(|verdict| verdict.fault)
+        .collect();
+    assert_eq!(missed, [], "these faults went unnoticed");
+}
+
+#[test]
+fn every_broken_checker_is_told_apart() {
+    assert!(Fault::CHECKER.len() >= 20);
+    assert_all_told(&try_checkers(&exact, SEED, 20_000, true));
+}
+
+#[test]
+fn every_broken_writer_is_told_apart() {
+    assert_all_told(&try_writers(&exact_expand, SEED, 3_000, true));
+}
+
+/// An exact copy is not told apart: no fault is no difference.
+#[test]
+fn the_exact_checker_is_not() {
+    let report = nezkaldo_compare::compare::run(&exact, &exact, SEED, 500, None).unwrap();
+    assert!(report.agrees());
+}
+
+/// The evaluator has teeth too: files that only an unsound checker accepts claim
+/// something false in some world.
+#[test]
+fn unsound_faults_let_false_claims_through() {
+    for fault in [
+        Fault::BindImagesUnread,
+        Fault::BindNameUnread,
+        Fault::CongSymbolsDiffer,
+        Fault::BindKindsDiffer,
+    ] {
+        let broken = broken_checker(fault);
+        let found = (0..40_000).any(|index| {
+            let file = case(SEED, index).bytes;
+            let mut free = vec![0; 2048];
+            if broken(&file, &mut free) != 0 || exact(&file, &mut free) == 0 {
+                return false;
+            }
+            let Ok(plain) = naive::tables(&file, |_| true) else { return false };
+            let inside = |term: u32| term >= 1 && term as usize <= plain.terms.len();
+            if !inside(plain.left) || !inside(plain.right) {
+                return false;
+            }
+            claim_holds(&plain, 300, &mut Rng::new(index)).is_err()
+        });
+        assert!(found, "{fault:?} was not seen to let a false claim through");
+    }
+}
