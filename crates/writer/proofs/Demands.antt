@@ -1,0 +1,69 @@
+-- THE DEMANDS on the writer.
+--     written-well              what is to hold of the file of a bundle that was derived from the job's
+--     expansion-right           demand 3, its second half
+use Prim.Native.Nat.{ℕ, _*_, _≤_}
+use mathlib.Core.Path.{_≡_, refl, sym, subst}
+use mathlib.Core.List.{List}
+use native.Mathlib.Omega.{arith}
+use lib.ListN.{length}
+use Rattle.bundle.specs.Bundle.{Bundle}
+use Rattle.bundle.specs.Limits.{headerWords, setWords, Within}
+use Rattle.bundle.specs.File.{countsOf, bundleOf}
+use Rattle.checker.specs.declared.Answer.the-variants.{Accepted}
+use Rattle.checker.specs.Judge.{judge}
+use Rattle.checker.specs.Demands.{Acceptable}
+use Rattle.checker.proofs.Demands.{accepted-exactly, accepted-sound}
+use Rattle.writer.specs.Visit.{expanded}
+use Rattle.writer.specs.File.{countsIn, fileOf}
+use Rattle.writer.specs.Demands.{WrittenWell, ExpansionRight}
+use Rattle.writer.proofs.Small.{Small}
+use Rattle.writer.proofs.Files.{file-length, file-counts, file-bundle, file-whole}
+use Rattle.writer.proofs.SmallWords.{file-small, expanded-small}
+use Rattle.writer.proofs.JobChecks.{job-answer, job-file}
+use Rattle.writer.proofs.Derived.{Derived, derived}
+
+-- f is the job, B the bundle that is written
+module _ (f : List ℕ) (B : Bundle) (fit : Within (countsIn B)) (small : Small B) (theorem : Derived (bundleOf f) B) where
+  same : B ≡ bundleOf (fileOf B)
+  same = sym (file-bundle B fit small)
+
+  here : Derived (bundleOf f) (bundleOf (fileOf B))
+  here = subst (Derived (bundleOf f)) same theorem
+
+  acceptable : (m : ℕ) → setWords * countsOf (fileOf B) .terms ≤ m → Acceptable (fileOf B) m
+  unfolding headerWords
+  acceptable m long = record {
+    header = omega (arith, file-length B);
+    version = rw (file-counts B fit small);
+    whole = file-whole B fit small;
+    area = long;
+    formed = here .formed;
+    steps = here .steps;
+    claim = here .claim;
+  }
+
+  file-accepted : (m : ℕ) → setWords * countsOf (fileOf B) .terms ≤ m
+      → judge (fileOf B) m ≡ Accepted (bundleOf (fileOf B) .left) (bundleOf (fileOf B) .right)
+  file-accepted m long = accepted-exactly (fileOf B) m _ _ .1 (acceptable m long, refl, refl)
+
+  pub written-well : WrittenWell f (fileOf B)
+  written-well = record {
+    accepted = file-accepted;
+    left = here .left;
+    records = here .longer;
+    plain = here .plain;
+    equal =
+        let m : ℕ = setWords * countsOf (fileOf B) .terms in
+        accepted-sound (fileOf B) m _ _ (file-accepted m (omega arith));
+  }
+
+pub expansion-right : ExpansionRight
+unfolding expanded
+expansion-right f out words sets bytes formed closed fits long =
+    let b : Bundle = bundleOf f in (
+      length (fileOf (expanded b)),
+      job-answer f out words sets formed closed fits long,
+      rw (job-file f out words sets formed closed fits long)
+          (written-well f (expanded b) fits (expanded-small b (file-small f bytes) fits)
+          (derived b (formed .tables) (formed .contexts) (formed .steps) (formed .left) closed)),
+    )
