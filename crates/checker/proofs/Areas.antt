@@ -1,11 +1,10 @@
--- The lent area: how many words of it a file asks for, what is in it, and zeros.
+-- The lent area: how many words a file asks for, the free sets in them, and zeros.
 --     lent-is         the words that the code asks for give the same fault as those that are required
 --     whole-long      a whole file has a header
 --     free-sets       an area that is `freeArea` holds the free sets, if each variable has a bit
 --     sets-held       so it does where the file is whole
 --     all-cleared     an area cleared from end to end is zeros
---     area-free, area-zeros     what is left where nothing is wrong, and where something is
-use Prim.Native.Nat.{ℕ, zero, suc, _+_, _*_, _-_, _≤_, _<_}
+use Prim.Native.Nat.{ℕ, _+_, _*_, _-_, _≤_, _<_}
 use mathlib.Core.Path.{_≡_, refl, sym, ap, _∙_}
 use mathlib.Core.Bool.{Bool, true, false, cond, false≢true}
 use mathlib.Core.List.{List}
@@ -16,7 +15,7 @@ use lib.Dec.{leb}
 use Rattle.bundle.specs.declared.Bundle.{Bundle as Counts}
 use Rattle.bundle.specs.Bundle.{Bundle}
 use Rattle.bundle.specs.Limits.{setWords, headerWords}
-use Rattle.bundle.specs.File.{Whole, bundleAt, bundleOf}
+use Rattle.bundle.specs.File.{Whole, bundleAt}
 use Rattle.bundle.proofs.Tab.{tab-length}
 use Rattle.bundle.proofs.Fields.{variables-length, terms-length}
 use Rattle.sets.specs.Sets.{holds, member, cleared}
@@ -27,7 +26,7 @@ use Rattle.logic.proofs.Tests.{numbers-of}
 use Rattle.logic.proofs.Trees.{free-known}
 use Rattle.tables.proofs.SetWords.{area-member}
 use Rattle.steps.specs.Given.{FreeSets}
-use Rattle.checker.specs.Judge.{required, lentFor, faultOf, areaFor, areaAfter}
+use Rattle.checker.specs.Judge.{required, lentFor}
 
 -- ---- how many words
 
@@ -84,17 +83,3 @@ all-cleared w =
     zero-at i h =
         let place : 0 + i ≡ i = omega arith in
         (rw place at (filled-in (λ k. 0) w 0 (length w) i (omega arith) h)) ∙ sym (getD-replicate (length w) i 0 0 h)
-
--- ---- what is left
-
-pub area-free : (f : List ℕ) (m : ℕ) → faultOf f m .number ≡ 0 → areaAfter f m ≡ freeArea (bundleOf f) setWords m
-unfolding areaAfter
-area-free f m e = rw e
-
-pub area-zeros : (f : List ℕ) (m : ℕ) → (faultOf f m .number ≡ 0 → ⊥) → areaAfter f m ≡ replicate m 0
-unfolding areaAfter
-area-zeros f m = go (faultOf f m .number)
-  where
-    go : (n : ℕ) → (n ≡ 0 → ⊥) → areaFor (bundleOf f) n m ≡ replicate m 0
-    go zero ne = absurd (ne refl)
-    go (suc n) ne = refl

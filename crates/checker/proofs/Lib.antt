@@ -4,6 +4,7 @@
 --     Acceptance    nothing is wrong exactly with an acceptable file
 --     Demands       THE DEMANDS
 --     Areas         the lent area: its length, the free sets in it, zeros
+--     Answers       the answer and the area, from what the code finds
 --     Sizes         how large the number and the record of an answer can be
 --     Examples      THE EXAMPLES of document 01: every row of the table is right
 pub mod Order
@@ -11,5 +12,6 @@ pub mod Header
 pub mod Acceptance
 pub mod Demands
 pub mod Areas
+pub mod Answers
 pub mod Sizes
 pub mod Examples
