@@ -1,4 +1,5 @@
--- How large the number and the record of an answer can be: at most 15, and at most the longest section's length.
+-- How large the number and the record of an answer can be: at most 18 (15 for the checker; the writer has three more), and at most the longest section's length.
+--     failing-le, none-small, else-small, next-small, sections-small     of tests, of faults one after another, of sections
 --     fault-small     of the first fault of a file
 --     refused-small   of a refusal
 use mathlib.Core.Path.{_≡_, refl, sym, ap, subst, _∙_}
@@ -22,35 +23,35 @@ use Rattle.checker.proofs.Header.{header-exactly}
 use Rattle.checker.proofs.Acceptance.{refused-where}
 
 pub record Small (r : Fault) : Type 0 where
-  pub number : r .number ≤ 15
+  pub number : r .number ≤ 18
   pub place : r .«record» ≤ 2048
 
-failing-le : (ts : List Test) → All (λ t. t .number ≤ 15) ts → firstFailing ts ≤ 15
+pub failing-le : (ts : List Test) → All (λ t. t .number ≤ 18) ts → firstFailing ts ≤ 18
 unfolding firstFailing
 failing-le [] h = omega arith
 failing-le (t ∷ ts) h = go (t .holds) (failing-le ts (h .1))
   where
-    go : (p : Bool) → firstFailing ts ≤ 15 → cond p (firstFailing ts) (t .number) ≤ 15
+    go : (p : Bool) → firstFailing ts ≤ 18 → cond p (firstFailing ts) (t .number) ≤ 18
     go true later = later
     go false later = h .0
 
-none-small : Small (fault 0 0)
+pub none-small : Small (fault 0 0)
 none-small = record { number = omega arith; place = omega arith }
 
-else-small : (n i : ℕ) (rest : Fault) → n ≤ 15 → i ≤ 2048 → Small rest → Small (orElse n i rest)
+pub else-small : (n i : ℕ) (rest : Fault) → n ≤ 18 → i ≤ 2048 → Small rest → Small (orElse n i rest)
 unfolding orElse
 else-small zero i rest h l s = s
 else-small (suc n) i rest h l s = record { number = h; place = l }
 
-next-small : (a rest : Fault) → Small a → Small rest → Small (orNext a rest)
+pub next-small : (a rest : Fault) → Small a → Small rest → Small (orNext a rest)
 next-small a rest s t = else-small (a .number) (a .«record») rest (s .number) (s .place) t
 
-from-small : (f : ℕ → ℕ) → ((i : ℕ) → f i ≤ 15) → (i left : ℕ) → i + left ≤ 2049 → Small (firstFrom f i left)
+from-small : (f : ℕ → ℕ) → ((i : ℕ) → f i ≤ 18) → (i left : ℕ) → i + left ≤ 2049 → Small (firstFrom f i left)
 unfolding firstFrom
 from-small f h i zero l = none-small
 from-small f h i (suc left) l = else-small (f i) i (firstFrom f (suc i) left) (h i) (omega arith) (from-small f h (suc i) left (omega arith))
 
-section-small : (f : ℕ → ℕ) → ((i : ℕ) → f i ≤ 15) → (n : ℕ) → n ≤ 2048 → Small (firstFault f n)
+section-small : (f : ℕ → ℕ) → ((i : ℕ) → f i ≤ 18) → (n : ℕ) → n ≤ 2048 → Small (firstFault f n)
 unfolding firstFault
 section-small f h n l = from-small f h 1 n (omega arith)
 
@@ -68,7 +69,7 @@ module _ (f : List ℕ) (whole : Whole f (countsOf f)) where
       claim : Fault
       claim = orElse (firstFailing (claimTests b)) 0 (fault 0 0)
 
-  sections-small : Small (sectionsFault (bundleOf f))
+  pub sections-small : Small (sectionsFault (bundleOf f))
   unfolding sectionsFault linksFault linkFault symbolsFault symbolFault variablesFault variableFault termsFault termFault bundleOf
   sections-small =
       next-small (linksFault b) (orNext (symbolsFault b) (orNext (variablesFault b) (termsFault b))) (section-small (linkFault b) (λ i. failing-le (linkTests b i) (omega arith, tt)) (length (b .links)) (omega (arith, links-length f (countsOf f), whole .within .links)))
@@ -83,7 +84,7 @@ pub fault-small : (f : List ℕ) (m : ℕ) → Small (faultOf f m)
 unfolding faultOf tablesFault orElse
 fault-small f m = go (headerFault f m (required f)) refl
   where
-    header-le : headerFault f m (required f) ≤ 15
+    header-le : headerFault f m (required f) ≤ 18
     header-le = failing-le (headerTests f m (required f)) (omega arith, (omega arith, (omega arith, (omega arith, (omega arith, tt)))))
 
     go : (n : ℕ) → headerFault f m (required f) ≡ n → Small (orNext (orElse n 0 (sectionsFault (bundleOf f))) (lateFault (bundleOf f)))
@@ -92,7 +93,7 @@ fault-small f m = go (headerFault f m (required f)) refl
         next-small (sectionsFault (bundleOf f)) (lateFault (bundleOf f)) (sections-small f whole) (late-small f whole)
     go (suc n) e = record { number = omega (arith, header-le); place = omega arith }
 
-pub refused-small : (f : List ℕ) (m n i : ℕ) → judge f m ≡ Refused n i → (n ≤ 15) × (i ≤ 2048)
+pub refused-small : (f : List ℕ) (m n i : ℕ) → judge f m ≡ Refused n i → (n ≤ 18) × (i ≤ 2048)
 refused-small f m n i e =
     let s : Small (fault n i) = subst Small (refused-where f m n i .0 e .1) (fault-small f m) in
     (s .number, s .place)
