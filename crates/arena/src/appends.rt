@@ -8,7 +8,7 @@ ghost use Rattle.arena.specs.Scratch.{bundleIn, Roomy};
 use bundle::Bundle;
 
 // A number as a word.
-fn narrow(x: usize) -> u32
+fn as_word(x: usize) -> u32
     requires { ⌜ x ≤ 4294967295 ⌝ }
     ensures { λ r. ⌜ r ≡ x ⌝ }
 {
@@ -22,7 +22,7 @@ pub fn append_variable(words: &mut [u32], c: Bundle, sort: usize) -> Bundle
     let mut after = c;
     let count = c.variables;
     let at = Bundle::largest().variables_at() + count;
-    words[at] = narrow(sort);
+    words[at] = as_word(sort);
     after.variables = count + 1;
     after
 }
@@ -41,10 +41,10 @@ pub fn append_term(
     let mut after = c;
     let count = c.terms;
     let at = Bundle::largest().terms_at() + 4 * count;
-    words[at] = narrow(kind);
-    words[at + 1] = narrow(first);
-    words[at + 2] = narrow(second);
-    words[at + 3] = narrow(third);
+    words[at] = as_word(kind);
+    words[at + 1] = as_word(first);
+    words[at + 2] = as_word(second);
+    words[at + 3] = as_word(third);
     after.terms = count + 1;
     after
 }
@@ -56,8 +56,8 @@ pub fn append_link(words: &mut [u32], c: Bundle, value: usize, next: usize) -> B
     let mut after = c;
     let count = c.links;
     let at = Bundle::largest().links_at() + 2 * count;
-    words[at] = narrow(value);
-    words[at + 1] = narrow(next);
+    words[at] = as_word(value);
+    words[at + 1] = as_word(next);
     after.links = count + 1;
     after
 }
@@ -76,10 +76,10 @@ pub fn append_context(
     let mut after = c;
     let count = c.contexts;
     let at = Bundle::largest().contexts_at() + 4 * count;
-    words[at] = narrow(kind);
-    words[at + 1] = narrow(first);
-    words[at + 2] = narrow(second);
-    words[at + 3] = narrow(parent);
+    words[at] = as_word(kind);
+    words[at + 1] = as_word(first);
+    words[at + 2] = as_word(second);
+    words[at + 3] = as_word(parent);
     after.contexts = count + 1;
     after
 }
@@ -99,11 +99,11 @@ pub fn append_step(
     let mut after = c;
     let count = c.steps;
     let at = Bundle::largest().steps_at() + 5 * count;
-    words[at] = narrow(rule);
-    words[at + 1] = narrow(context);
-    words[at + 2] = narrow(left);
-    words[at + 3] = narrow(right);
-    words[at + 4] = narrow(premises);
+    words[at] = as_word(rule);
+    words[at + 1] = as_word(context);
+    words[at + 2] = as_word(left);
+    words[at + 3] = as_word(right);
+    words[at + 4] = as_word(premises);
     after.steps = count + 1;
     after
 }

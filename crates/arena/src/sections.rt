@@ -8,7 +8,7 @@ ghost use Rattle.arena.specs.Copies.{wordsFrom};
 use bundle::words::word_at;
 
 // A number as a word, and a word's bytes.
-fn narrow(x: usize) -> u32
+fn as_word(x: usize) -> u32
     requires { ⌜ x ≤ 4294967295 ⌝ }
     ensures { λ r. ⌜ r ≡ x ⌝ }
 {
@@ -29,7 +29,7 @@ pub fn copy_section(file: &[u8], from: usize, words: &mut [u32], to: usize, coun
 {
     let mut i = 0;
     while i < count {
-        words[to + i] = narrow(word_at(file, from + i));
+        words[to + i] = as_word(word_at(file, from + i));
         i += 1;
     }
 }

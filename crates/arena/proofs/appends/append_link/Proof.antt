@@ -21,8 +21,8 @@ mul-at c = search needs
 add-at : tie.Need-add-at
 add-at c = search needs
 
-narrow-requires : tie.Need-narrow-requires
-narrow-requires c κs = search needs
+as-word-requires : tie.Need-as-word-requires
+as-word-requires c κs = search needs
 
 mul-words : tie.Need-mul-words
 mul-words c = search needs
@@ -30,8 +30,8 @@ mul-words c = search needs
 slice-write-words : tie.Need-slice-write-words
 slice-write-words c = rw (c .before .links-at .ensures .0, c .before .before .largest .ensures) (omega (arith, c .before .before .before .before .pre .0 .long))
 
-narrow-requires-2 : tie.Need-narrow-requires-2
-narrow-requires-2 c κs = search needs
+as-word-requires-2 : tie.Need-as-word-requires-2
+as-word-requires-2 c κs = search needs
 
 add-words : tie.Need-add-words
 add-words c = search needs
@@ -52,7 +52,7 @@ returns : tie.Need-returns
 returns c =
     let a = c .before .before .before .before .before .args in
     let p = c .before .before .before .before .before .pre in
-    rw (c .before .narrow .ensures, c .narrow2 .ensures, c .before .before .links-at .ensures .0, c .before .before .before .largest .ensures)
+    rw (c .before .as-word .ensures, c .as-word2 .ensures, c .before .before .links-at .ensures .0, c .before .before .before .largest .ensures)
     (link-appended (a .words .now) _ (a .c) (p .0) (p .1)
     (written-2 (a .words .now) (linksAt limits + 2 * a .c .links) (a .value) (a .next) (omega (arith, p .0 .long))))
 
@@ -64,10 +64,10 @@ append-link-spec =
     links-at-requires
     mul-at
     add-at
-    narrow-requires
+    as-word-requires
     mul-words
     slice-write-words
-    narrow-requires-2
+    as-word-requires-2
     add-words
     mul-words-2
     slice-write-words-2

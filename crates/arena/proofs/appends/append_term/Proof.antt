@@ -21,8 +21,8 @@ mul-at c = search needs
 add-at : tie.Need-add-at
 add-at c = search needs
 
-narrow-requires : tie.Need-narrow-requires
-narrow-requires c κs = search needs
+as-word-requires : tie.Need-as-word-requires
+as-word-requires c κs = search needs
 
 mul-words : tie.Need-mul-words
 mul-words c = search needs
@@ -30,8 +30,8 @@ mul-words c = search needs
 slice-write-words : tie.Need-slice-write-words
 slice-write-words c = rw (c .before .terms-at .ensures .0, c .before .before .largest .ensures) (omega (arith, c .before .before .before .before .pre .0 .long))
 
-narrow-requires-2 : tie.Need-narrow-requires-2
-narrow-requires-2 c κs = search needs
+as-word-requires-2 : tie.Need-as-word-requires-2
+as-word-requires-2 c κs = search needs
 
 add-words : tie.Need-add-words
 add-words c = search needs
@@ -42,8 +42,8 @@ mul-words-2 c = search needs
 slice-write-words-2 : tie.Need-slice-write-words-2
 slice-write-words-2 c = simp length-set (rw (c .before .before .terms-at .ensures .0, c .before .before .before .largest .ensures) (omega (arith, c .before .before .before .before .before .pre .0 .long)))
 
-narrow-requires-3 : tie.Need-narrow-requires-3
-narrow-requires-3 c κs = search needs
+as-word-requires-3 : tie.Need-as-word-requires-3
+as-word-requires-3 c κs = search needs
 
 add-words-2 : tie.Need-add-words-2
 add-words-2 c = search needs
@@ -54,8 +54,8 @@ mul-words-3 c = search needs
 slice-write-words-3 : tie.Need-slice-write-words-3
 slice-write-words-3 c = simp length-set (rw (c .before .before .before .terms-at .ensures .0, c .before .before .before .before .largest .ensures) (omega (arith, c .before .before .before .before .before .before .pre .0 .long)))
 
-narrow-requires-4 : tie.Need-narrow-requires-4
-narrow-requires-4 c κs = search needs
+as-word-requires-4 : tie.Need-as-word-requires-4
+as-word-requires-4 c κs = search needs
 
 add-words-3 : tie.Need-add-words-3
 add-words-3 c = search needs
@@ -76,7 +76,7 @@ returns : tie.Need-returns
 returns c =
     let a = c .before .before .before .before .before .before .before .args in
     let p = c .before .before .before .before .before .before .before .pre in
-    rw (c .before .before .before .narrow .ensures, c .before .before .narrow2 .ensures, c .before .narrow3 .ensures, c .narrow4 .ensures, c .before .before .before .before .terms-at .ensures .0, c .before .before .before .before .before .largest .ensures)
+    rw (c .before .before .before .as-word .ensures, c .before .before .as-word2 .ensures, c .before .as-word3 .ensures, c .as-word4 .ensures, c .before .before .before .before .terms-at .ensures .0, c .before .before .before .before .before .largest .ensures)
     (term-appended (a .words .now) _ (a .c) (p .0) (p .1)
     (written-4 (a .words .now) (termsAt limits + 4 * a .c .terms) (a .kind) (a .first) (a .second) (a .third) (omega (arith, p .0 .long))))
 
@@ -88,18 +88,18 @@ append-term-spec =
     terms-at-requires
     mul-at
     add-at
-    narrow-requires
+    as-word-requires
     mul-words
     slice-write-words
-    narrow-requires-2
+    as-word-requires-2
     add-words
     mul-words-2
     slice-write-words-2
-    narrow-requires-3
+    as-word-requires-3
     add-words-2
     mul-words-3
     slice-write-words-3
-    narrow-requires-4
+    as-word-requires-4
     add-words-3
     mul-words-4
     slice-write-words-4

@@ -17,8 +17,8 @@ variables-at-requires c κs = rw (c .largest .ensures) limits-within
 add-at : tie.Need-add-at
 add-at c = search needs
 
-narrow-requires : tie.Need-narrow-requires
-narrow-requires c κs = search needs
+as-word-requires : tie.Need-as-word-requires
+as-word-requires c κs = search needs
 
 mul-words : tie.Need-mul-words
 mul-words c = search needs
@@ -36,7 +36,7 @@ returns : tie.Need-returns
 returns c =
     let a = c .before .before .before .before .args in
     let p = c .before .before .before .before .pre in
-    rw (c .narrow .ensures, c .before .variables-at .ensures .0, c .before .before .largest .ensures)
+    rw (c .as-word .ensures, c .before .variables-at .ensures .0, c .before .before .largest .ensures)
     (variable-appended (a .words .now) _ (a .c) (p .0) (p .1)
     (written-more (written-none (a .words .now) (variablesAt limits + 1 * a .c .variables)) (variablesAt limits + a .c .variables) (a .sort) (omega arith) (omega (arith, p .0 .long))))
 
@@ -47,7 +47,7 @@ append-variable-spec =
     largest-requires
     variables-at-requires
     add-at
-    narrow-requires
+    as-word-requires
     mul-words
     slice-write-words
     add-after

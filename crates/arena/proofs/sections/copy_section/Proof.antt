@@ -25,8 +25,8 @@ add-word-at c = omega arith
 word-at-requires : tie.Need-word-at-requires Inv-loop μ-loop
 word-at-requires c κs = omega arith
 
-narrow-requires : tie.Need-narrow-requires Inv-loop μ-loop
-narrow-requires c κs = omega arith
+as-word-requires : tie.Need-as-word-requires Inv-loop μ-loop
+as-word-requires c κs = omega arith
 
 add-words : tie.Need-add-words Inv-loop μ-loop
 add-words c = omega arith
@@ -47,7 +47,7 @@ loop-again : tie.Need-loop-again Inv-loop μ-loop
 loop-again c =
     let a = c .before .before .before .before .before .before .args in
     let l = c .before .before .before .loop in
-    (omega arith, simp length-set (l .inv .1), rw (l .inv .2, c .narrow .ensures, c .before .word-at .ensures .0) (copied-more (a .words .now) (a .to) (a .file .now) (a .from) (l .i) (omega arith)))
+    (omega arith, simp length-set (l .inv .1), rw (l .inv .2, c .as-word .ensures, c .before .word-at .ensures .0) (copied-more (a .words .now) (a .to) (a .file .now) (a .from) (l .i) (omega arith)))
 
 same-length : tie.Need-same-length Inv-loop μ-loop
 same-length c = c .before .loop .inv .1
@@ -66,7 +66,7 @@ copy-section-spec =
     loop-holds
     add-word-at
     word-at-requires
-    narrow-requires
+    as-word-requires
     add-words
     mul-words
     slice-write-words
