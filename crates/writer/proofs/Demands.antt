@@ -1,8 +1,12 @@
 -- THE DEMANDS on the writer.
+--     refused-job-exactly       a job is refused with number n and record i exactly where that check is the first that fails
+--     written-exactly           a file is written exactly for well-formed closed jobs that fit, with long enough areas
+--     areas-left                what is left in the areas besides the file: zeros
 --     written-well              what is to hold of the file of a bundle that was derived from the job's
 --     expansion-right           demand 3, its second half
 use Prim.Native.Nat.{ℕ, _*_, _≤_}
-use mathlib.Core.Path.{_≡_, refl, sym, subst}
+use mathlib.Core.Path.{_≡_, refl, sym, subst, _∙_}
+use mathlib.Core.Logic.{Iff·trans}
 use mathlib.Core.List.{List}
 use native.Mathlib.Omega.{arith}
 use lib.ListN.{length}
@@ -12,15 +16,31 @@ use Rattle.bundle.specs.File.{countsOf, bundleOf}
 use Rattle.checker.specs.declared.Answer.the-variants.{Accepted}
 use Rattle.checker.specs.Judge.{judge}
 use Rattle.checker.specs.Demands.{Acceptable}
+use Rattle.checker.proofs.Order.{first-fails, fails-first, failing-number}
 use Rattle.checker.proofs.Demands.{accepted-exactly, accepted-sound}
 use Rattle.writer.specs.Visit.{expanded}
 use Rattle.writer.specs.File.{countsIn, fileOf}
-use Rattle.writer.specs.Demands.{WrittenWell, ExpansionRight}
+use Rattle.writer.specs.JobOrder.{allJobChecks}
+use Rattle.writer.specs.Demands.{RefusedJobExactly, WrittenExactly, AreasLeft, WrittenWell, ExpansionRight}
 use Rattle.writer.proofs.Small.{Small}
 use Rattle.writer.proofs.Files.{file-length, file-counts, file-bundle, file-whole}
 use Rattle.writer.proofs.SmallWords.{file-small, expanded-small}
-use Rattle.writer.proofs.JobChecks.{job-answer, job-file}
+use Rattle.writer.proofs.JobOrder.{job-checks-find}
+use Rattle.writer.proofs.JobChecks.{job-exactly, written-where, refused-job-where, job-answer, job-file, zeros-left}
 use Rattle.writer.proofs.Derived.{Derived, derived}
+
+pub refused-job-exactly : RefusedJobExactly
+refused-job-exactly f out words sets n i =
+    let finds = job-checks-find f out words sets in (
+      λ e. let r = refused-job-where f out words sets n i .0 e in fails-first (allJobChecks f out words sets) n i (r .0) (finds .first ∙ r .1),
+      λ h. refused-job-where f out words sets n i .1 (failing-number finds h, sym (finds .first) ∙ first-fails (allJobChecks f out words sets) n i h),
+    )
+
+pub written-exactly : WrittenExactly
+written-exactly f out words sets = Iff·trans (written-where f out words sets) (job-exactly f out words sets)
+
+pub areas-left : AreasLeft
+areas-left = zeros-left
 
 -- f is the job, B the bundle that is written
 module _ (f : List ℕ) (B : Bundle) (fit : Within (countsIn B)) (small : Small B) (theorem : Derived (bundleOf f) B) where
@@ -60,10 +80,11 @@ module _ (f : List ℕ) (B : Bundle) (fit : Within (countsIn B)) (small : Small 
 pub expansion-right : ExpansionRight
 unfolding expanded
 expansion-right f out words sets bytes formed closed fits long =
-    let b : Bundle = bundleOf f in (
+    let b : Bundle = bundleOf f in
+    let passes = job-exactly f out words sets .1 (formed, closed, fits, long) in (
       length (fileOf (expanded b)),
-      job-answer f out words sets formed closed fits long,
-      rw (job-file f out words sets formed closed fits long)
+      job-answer f out words sets passes,
+      rw (job-file f out words sets passes)
           (written-well f (expanded b) fits (expanded-small b (file-small f bytes) fits)
           (derived b (formed .tables) (formed .contexts) (formed .steps) (formed .left) closed)),
     )

@@ -50,7 +50,7 @@ open-longer b x c =
     longer-trans (fresh-longer b x)
     (longer-trans (fixing-longer (p .bundle) (newVariable b) c)
     (longer-trans (list-longer (f .bundle) (x ∷ []))
-    (replacing-longer (addList (f .bundle) (x ∷ [])) (listStart (f .bundle) (x ∷ [])) (f .context) (p .term ∷ []))))
+    (replacing-longer (addList (f .bundle) (x ∷ [])) (listStart (f .bundle) (x ∷ [])) _ (p .term ∷ []))))
 
 mutual
   unfolding visit
@@ -77,7 +77,7 @@ mutual
 
   pub visitAll-longer : (ns : Nodes) (c : ℕ) (b : Bundle) → Longer b (visitAll ns c b .bundle)
   visitAll-longer nil c b = longer-refl b
-  visitAll-longer (cons τ ns) c b = longer-trans (visit-longer τ c b) (visitAll-longer ns c (visit τ c b .bundle))
+  visitAll-longer (cons τ ns) c b = longer-trans (visit-longer τ c b) (visitAll-longer ns _ (visit τ c b .bundle))
 
 -- ---- the bundle that is written
 

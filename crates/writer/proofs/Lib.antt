@@ -10,7 +10,8 @@
 --     Small            bundles all of whose numbers are words of 32 bits
 --     Files            the file of a bundle reads back
 --     SmallWords       all numbers of the bundle that is written are words of 32 bits
---     JobChecks        a well-formed closed job that fits fails no check: its file is written
+--     JobOrder         the writer's first fault is the first failing check of the one ordered list
+--     JobChecks        a file is written exactly for well-formed closed jobs that fit; what is left in the areas
 --     Demands          THE DEMANDS
 --     Examples         THE TWELVE EXAMPLES of document 01
 pub mod Grown
@@ -24,6 +25,7 @@ pub mod Derived
 pub mod Small
 pub mod Files
 pub mod SmallWords
+pub mod JobOrder
 pub mod JobChecks
 pub mod Demands
 pub mod Examples

@@ -300,7 +300,7 @@ renaming-longer b x y t c =
     let f : Opened = fixing b y c in
     longer-trans (fixing-longer b y c)
     (longer-trans (list-longer (f .bundle) (x ∷ []))
-    (replacing-longer (addList (f .bundle) (x ∷ [])) (listStart (f .bundle) (x ∷ [])) (f .context) (t ∷ [])))
+    (replacing-longer (addList (f .bundle) (x ∷ [])) (listStart (f .bundle) (x ∷ [])) _ (t ∷ [])))
 
 -- `end` is the last bundle, and within the limits.
 module _ {end : Bundle} (fit : Within (countsIn end)) where

@@ -1,10 +1,10 @@
 -- THE DEMANDS on the writer, as types. proofs/ has each under the same name.
-use Prim.Native.Nat.{ℕ, _*_, _≤_, _<_}
+use Prim.Native.Nat.{ℕ, _-_, _*_, _≤_, _<_}
 use mathlib.Core.Path.{_≡_}
+use mathlib.Core.Logic.{_↔_}
 use mathlib.Core.Bool.{false}
 use mathlib.Core.List.{List, []}
-use lib.ListN.{length, take}
-use Rattle.bundle.specs.Bundle.{Bundle}
+use lib.ListN.{length, take, drop, replicate}
 use Rattle.bundle.specs.Limits.{limits, setWords, wordsOf, bytesOf, Within}
 use Rattle.bundle.specs.File.{Whole, countsOf, bundleOf}
 use Rattle.logic.specs.Lists.{All, Number}
@@ -16,10 +16,12 @@ use Rattle.logic.specs.Values.{EqualValues}
 use Rattle.logic.specs.Longer.{Longer}
 use Rattle.checker.specs.declared.Answer.the-variants.{Accepted}
 use Rattle.checker.specs.Judge.{judge}
-use Rattle.writer.specs.declared.Answer.the-variants.{Written}
+use Rattle.checker.specs.Order.{FirstFailing}
+use Rattle.writer.specs.declared.Answer.the-variants.{Written, Refused}
 use Rattle.writer.specs.Visit.{visited}
 use Rattle.writer.specs.File.{countsIn}
 use Rattle.writer.specs.Expansion.{Outcome, expansion}
+use Rattle.writer.specs.JobOrder.{allJobChecks}
 
 -- a string of bytes
 abbrev pub Bytes : List ℕ → Type 0
@@ -45,6 +47,30 @@ pub record LongEnough (out words sets : ℕ) : Type 0 where
   pub output : bytesOf limits ≤ out
   pub scratch : wordsOf limits ≤ words
   pub stack : 1024 ≤ sets
+
+-- Demand 1, for the writer. A job is refused with number n and record i exactly where check n fails at record i and every check before it in
+-- document 01's order holds.
+abbrev pub RefusedJobExactly : Type 0
+RefusedJobExactly =
+    (f : List ℕ) (out words sets n i : ℕ) → (expansion f out words sets .answer ≡ Refused n i) ↔ FirstFailing (allJobChecks f out words sets) n i
+
+-- Demand 2, for the writer: a file is written exactly for well-formed closed jobs whose derivation fits, with long enough areas.
+abbrev pub WrittenExactly : Type 0
+WrittenExactly =
+    (f : List ℕ) (out words sets : ℕ)
+    → ((n : ℕ) × (expansion f out words sets .answer ≡ Written n))
+    ↔ (JobFormed f × Closed (tree (bundleOf f) (bundleOf f .left)) × Fits f × LongEnough out words sets)
+
+-- What is left in areas of these lengths: scratch ends zero; where the job is refused, the output is zero too; bytes after the result, which is as
+-- long as the answer says, are zero.
+pub record ZerosLeft (out words sets : ℕ) (o : Outcome) : Type 0 where
+  pub scratch : o .words ≡ replicate words 0
+  pub stack : o .sets ≡ replicate sets 0
+  pub refused : (n i : ℕ) → o .answer ≡ Refused n i → o .out ≡ replicate out 0
+  pub written : (n : ℕ) → o .answer ≡ Written n → (n ≤ out) × (drop n (o .out) ≡ replicate (out - n) 0)
+
+abbrev pub AreasLeft : Type 0
+AreasLeft = (f : List ℕ) (out words sets : ℕ) → ZerosLeft out words sets (expansion f out words sets)
 
 -- What is to hold of the file g that is written for the job f:
 pub record WrittenWell (f g : List ℕ) : Type 0 where

@@ -6,7 +6,7 @@ use lib.ListN.{length, replicate}
 use lib.Dec.{eqb, leb}
 use Rattle.bundle.specs.Bundle.{Bundle}
 use Rattle.bundle.specs.Lists.{numbers}
-use Rattle.bundle.specs.Limits.{limits, setWords, wordsOf, bytesOf, headerWords, withinOf}
+use Rattle.bundle.specs.Limits.{limits, wordsOf, bytesOf, headerWords, withinOf}
 use Rattle.bundle.specs.File.{bundleOf}
 use Rattle.logic.specs.declared.Fault.{Fault}
 use Rattle.logic.specs.Tests.{passed, upTo, Test, test, firstFailing, fault, orElse, orNext}
@@ -30,17 +30,28 @@ longEnough out words sets =
 
 -- ---- after 1 to 9 come 18, 15, 17, 16
 
--- 18: C, P or the right word not 0; 15: left not a term; 17: the rule has a free variable
-abbrev pub earlyTests : Bundle → List Test
-earlyTests b =
-    test 18 (passed (eqb (length (b .contexts)) 0 ∷ eqb (length (b .steps)) 0 ∷ eqb (b .right) 0 ∷ []))
-    ∷ test 15 (numbers (length (b .terms)) (b .left))
-    ∷ test 17 (upTo (length (b .variables)) (λ x. not (freeAt b (b .left) x)))
-    ∷ []
+-- 18 where C, P or the right word is not 0
+abbrev pub isBare : Bundle → Bool
+isBare b = passed (eqb (length (b .contexts)) 0 ∷ eqb (length (b .steps)) 0 ∷ eqb (b .right) 0 ∷ [])
 
--- and 16: a section would pass its limit
+-- 15 where left is not a term
+abbrev pub leftIsTerm : Bundle → Bool
+leftIsTerm b = numbers (length (b .terms)) (b .left)
+
+-- 17 where the rule has a free variable
+abbrev pub ruleClosed : Bundle → Bool
+ruleClosed b = upTo (length (b .variables)) (λ x. not (freeAt b (b .left) x))
+
+-- 16 where a section would pass its limit
+abbrev pub derivationFits : Bundle → Bool
+derivationFits b = withinOf (countsIn (visited b .bundle))
+
+-- those before the visit
+abbrev pub earlyTests : Bundle → List Test
+earlyTests b = test 18 (isBare b) ∷ test 15 (leftIsTerm b) ∷ test 17 (ruleClosed b) ∷ []
+
 abbrev pub jobTests : Bundle → List Test
-jobTests b = earlyTests b ++ (test 16 (withinOf (countsIn (visited b .bundle))) ∷ [])
+jobTests b = earlyTests b ++ (test 16 (derivationFits b) ∷ [])
 
 unfoldable pub jobFault : List ℕ → ℕ → ℕ → ℕ → Fault
 unfolding tablesFault longEnough firstFailing passed upTo freeAt visited orElse bundleOf

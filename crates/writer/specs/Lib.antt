@@ -3,11 +3,13 @@
 --     Visit       THE VISITS, without limits: what each appends, in order
 --     File        the file of a bundle
 --     Expansion   the answer for every job and all lengths of the lent areas, and what is left there
+--     JobOrder    document 01's one order of the writer's checks, as one list
 --     Examples    example 11, which completes the table of twelve
 --     Demands     THE DEMANDS on the writer, as types: proofs/ has each under the same name
 pub mod Nodes
 pub mod Visit
 pub mod File
 pub mod Expansion
+pub mod JobOrder
 pub mod Examples
 pub mod Demands
