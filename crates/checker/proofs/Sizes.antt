@@ -1,5 +1,6 @@
 -- How large the number and the record of an answer can be: at most 18 (15 for the checker; the writer has three more), and at most the longest section's length.
 --     failing-le, none-small, else-small, next-small, sections-small     of tests, of faults one after another, of sections
+--     tables-small    of the first of checks 1 to 9
 --     fault-small     of the first fault of a file
 --     refused-small   of a refusal
 use mathlib.Core.Path.{_≡_, refl, sym, ap, subst, _∙_}
@@ -80,18 +81,27 @@ module _ (f : List ℕ) (whole : Whole f (countsOf f)) where
       b : Bundle
       b = bundleAt f (countsOf f)
 
+header-le : (f : List ℕ) (lent required : ℕ) → headerFault f lent required ≤ 18
+unfolding headerFault
+header-le f lent required = failing-le (headerTests f lent required) (omega arith, (omega arith, (omega arith, (omega arith, (omega arith, tt)))))
+
+pub tables-small : (f : List ℕ) (lent required : ℕ) → Small (tablesFault f lent required)
+unfolding tablesFault orElse
+tables-small f lent required = go (headerFault f lent required) refl
+  where
+    go : (n : ℕ) → headerFault f lent required ≡ n → Small (orElse n 0 (sectionsFault (bundleOf f)))
+    go zero e = sections-small f (header-exactly f lent required .0 e .whole)
+    go (suc n) e = record { number = omega (arith, header-le f lent required); place = omega arith }
+
 pub fault-small : (f : List ℕ) (m : ℕ) → Small (faultOf f m)
 unfolding faultOf tablesFault orElse
 fault-small f m = go (headerFault f m (required f)) refl
   where
-    header-le : headerFault f m (required f) ≤ 18
-    header-le = failing-le (headerTests f m (required f)) (omega arith, (omega arith, (omega arith, (omega arith, (omega arith, tt)))))
-
     go : (n : ℕ) → headerFault f m (required f) ≡ n → Small (orNext (orElse n 0 (sectionsFault (bundleOf f))) (lateFault (bundleOf f)))
     go zero e =
         let whole : Whole f (countsOf f) = header-exactly f m (required f) .0 e .whole in
         next-small (sectionsFault (bundleOf f)) (lateFault (bundleOf f)) (sections-small f whole) (late-small f whole)
-    go (suc n) e = record { number = omega (arith, header-le); place = omega arith }
+    go (suc n) e = record { number = omega (arith, header-le f m (required f)); place = omega arith }
 
 pub refused-small : (f : List ℕ) (m n i : ℕ) → judge f m ≡ Refused n i → (n ≤ 18) × (i ≤ 2048)
 refused-small f m n i e =

@@ -12,6 +12,7 @@
 --     SmallWords       all numbers of the bundle that is written are words of 32 bits
 --     JobOrder         the writer's first fault is the first failing check of the one ordered list
 --     JobChecks        a file is written exactly for well-formed closed jobs that fit; what is left in the areas
+--     JobSizes         how large the number and the record of a refused job can be
 --     Demands          THE DEMANDS
 --     Examples         THE TWELVE EXAMPLES of document 01
 pub mod Grown
@@ -27,5 +28,6 @@ pub mod Files
 pub mod SmallWords
 pub mod JobOrder
 pub mod JobChecks
+pub mod JobSizes
 pub mod Demands
 pub mod Examples
