@@ -10,6 +10,14 @@
 --     Small            bundles all of whose numbers are words of 32 bits
 --     Files            the file of a bundle reads back
 --     SmallWords       all numbers of the bundle that is written are words of 32 bits
+--     Closing          from what the scratch is left as to outcomes, and from outcomes to what is known
+--     Calls            each opener and closer by its calls
+--     Carried          what stands for a node stands in every longer bundle; what a visit ends in
+--     Pairs            the stack of pairs
+--     Told             what an outcome tells
+--     ListTurns        the visit to a list, turn by turn
+--     TermTurns        the visit to a term, kind by kind
+--     Rooted           a term of well-formed tables stands for its node
 --     JobOrder         the writer's first fault is the first failing check of the one ordered list
 --     JobChecks        a file is written exactly for well-formed closed jobs that fit; what is left in the areas
 --     JobSizes         how large the number and the record of a refused job can be
@@ -26,6 +34,14 @@ pub mod Derived
 pub mod Small
 pub mod Files
 pub mod SmallWords
+pub mod Closing
+pub mod Calls
+pub mod Carried
+pub mod Pairs
+pub mod Told
+pub mod ListTurns
+pub mod TermTurns
+pub mod Rooted
 pub mod JobOrder
 pub mod JobChecks
 pub mod JobSizes

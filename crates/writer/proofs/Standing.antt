@@ -2,6 +2,7 @@
 --     StandsAs, Stands, Stand              the numbers of a node are terms, each with the tree that the node shows; its binders are the job's
 --     stands-term, stand-terms, stands-kept, stand-kept     they are terms, in longer bundles too
 --     application-sorts, binder-sorts, let-lists     what a well-formed bundle says of a term, from its tree
+--     node-here                            the node of a term, by its record
 --     standing                             THE LAW: the node of a term stands for it
 use mathlib.Core.Path.{_≡_, refl, sym, ap, ap₂, _∙_, subst}
 use Prim.Native.Nat.{ℕ, zero, suc, _+_, _≤_, _<_}
@@ -165,7 +166,7 @@ module _ (b : Bundle) where
       ap₂ (block (r .place) (r .term .a) (items b (r .term .a))) (nodes-same f g n h (items b (r .term .b)) (below .1)) (h (r .term .c) (below .0 .1))
   node-reads other r n below f g h = refl
 
-  node-here : (t : ℕ) → Number (length (b .terms)) t → Before (refs b (termOf b t)) t
+  pub node-here : (t : ℕ) → Number (length (b .terms)) t → Before (refs b (termOf b t)) t
       → nodeAt b t ≡ nodeBy b (nodeAt b) (record { place = t; term = termOf b t })
   unfolding nodeAt nodeBy refs
   node-here zero n below = absurd (omega arith)

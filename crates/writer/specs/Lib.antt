@@ -4,6 +4,8 @@
 --     File        the file of a bundle
 --     Expansion   the answer for every job and all lengths of the lent areas, and what is left there
 --     JobOrder    document 01's one order of the writer's checks, as one list
+--     Outcomes    what the inner functions answer
+--     Left        what is left in the areas
 --     Examples    example 11, which completes the table of twelve
 --     Demands     THE DEMANDS on the writer, as types: proofs/ has each under the same name
 pub mod Nodes
@@ -11,5 +13,7 @@ pub mod Visit
 pub mod File
 pub mod Expansion
 pub mod JobOrder
+pub mod Outcomes
+pub mod Left
 pub mod Examples
 pub mod Demands

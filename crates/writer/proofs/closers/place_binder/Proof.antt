@@ -1,0 +1,48 @@
+-- `closers::place_binder` meets its contract: by what the lookup found.
+use mathlib.Core.Path.{refl, subst}
+use mathlib.Core.List.{[]}
+use Prim.Native.Nat.{ℕ}
+use Rattle.logic.specs.Lookup.{binderKind}
+use Rattle.arena.specs.Scratch.{bundleIn}
+use Rattle.writer.specs.Outcomes.{PlaceOutcome}
+use Rattle.writer.proofs.Calls.{termed, no-list, found-is, term-on}
+use borrow.Author.Needs.{needs}
+use Rattle.writer.proofs.closers.place_binder.Statement.{statement}
+use Rattle.writer.proofs.closers.place_binder.Tie as tie
+
+find-binder-requires : tie.Need-find-binder-requires
+find-binder-requires c κs = search needs
+
+same-length : tie.Need-same-length
+same-length c = search needs
+
+returns : tie.Need-returns
+returns c =
+    let s = c .before .before .before .before in
+    let a = s .args in
+    let f = c .before .find-binder in
+    (refl, λ q e. found-is (s .pre .0) [] (λ s. record { kind = binderKind q; a = a .y; b = a .body; c = 0 }) _ (f .result) (f .ensures q e) (c .if1 .taken))
+
+add-term-requires : tie.Need-add-term-requires
+add-term-requires c κs = search needs
+
+same-length-2 : tie.Need-same-length-2
+same-length-2 c = search needs
+
+returns-2 : tie.Need-returns-2
+returns-2 c =
+    let s = c .before .before .before .before .before .before .before .before in
+    let a = s .args in
+    let f = c .before .before .before .before .before .find-binder in
+    let t = c .before .before .add-term in (
+      t .ensures .0,
+      λ q e.
+          term-on (no-list (s .pre .0)) refl (λ s. record { kind = binderKind q; a = a .y; b = a .body; c = 0 }) _ (f .result) (f .ensures q e) (c .before .before .before .before .if1 .left)
+          (subst (λ (k : ℕ). PlaceOutcome (termed (bundleIn (a .words .now) (a .c)) (record { kind = k; a = a .y; b = a .body; c = 0 })) (t .last .0) (t .result)) e
+          (t .ensures .1)),
+    )
+
+pub place-binder-spec : {M : Type 1} → statement M
+place-binder-spec =
+    tie.close
+    (tie.spec find-binder-requires same-length returns add-term-requires same-length-2 returns-2)

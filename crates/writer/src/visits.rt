@@ -1,0 +1,136 @@
+// The visit to a term and the visit to a list of terms, which call on each other: the term number falls, ties by links left.
+ghost use mathlib.Core.Path.{_≡_};
+ghost use lib.ListN.{length};
+ghost use Rattle.writer.specs.Outcomes.{TermAsks, TermGives, ListAsks, ListGives};
+use super::Listed;
+use super::Opened;
+use super::Visited;
+use super::closers::close_application;
+use super::closers::close_quantifier;
+use super::closers::close_variable;
+use super::closers::conclude;
+use super::closers::open_let;
+use super::closers::open_quantifier;
+use arena::lists::pack;
+use arena::records::link_field;
+use arena::records::term_field;
+use bundle::Bundle;
+
+// Visits a term in a context: its parts in order, then its result and its step.
+pub fn visit_term(
+    words: &mut [u32],
+    stack: &mut [u64],
+    c: Bundle,
+    context: usize,
+    height: usize,
+    term: usize,
+) -> Visited
+    requires { ⌜ TermAsks (now words) (now stack) c context height term ⌝ }
+    ensures { λ r. ⌜ TermGives (now (words .entry)) (now (stack .entry)) c context height term (now (words .exit)) (now (stack .exit)) r ⌝ }
+{
+    let kind = term_field(words, c, term, 0);
+    let first = term_field(words, c, term, 1);
+    let second = term_field(words, c, term, 2);
+    let third = term_field(words, c, term, 3);
+    if kind == 1 {
+        return close_variable(words, c, context, term, first);
+    }
+    if (kind == 3) | (kind == 4) {
+        let y = c.variables + 1;
+        let opened = open_quantifier(words, c, first, context);
+        return match opened {
+            Opened::Full => Visited::Full,
+            Opened::Done {
+                counts: inside,
+                context: inner,
+            } => {
+                let visited = visit_term(words, stack, inside, inner, height, second);
+                match visited {
+                    Visited::Full => Visited::Full,
+                    Visited::Done {
+                        counts: after,
+                        result,
+                        step,
+                    } => close_quantifier(words, after, context, term, kind, y, result, step),
+                }
+            }
+        };
+    }
+    let listed = visit_list(words, stack, c, context, height, term, second);
+    match listed {
+        Listed::Full => Visited::Full,
+        Listed::Done {
+            counts: bound,
+            height: top,
+        } => {
+            if kind == 2 {
+                return close_application(words, bound, context, term, first, stack, height, top);
+            }
+            let opened = open_let(words, bound, first, context, stack, height, top);
+            match opened {
+                Opened::Full => Visited::Full,
+                Opened::Done {
+                    counts: inside,
+                    context: inner,
+                } => {
+                    let visited = visit_term(words, stack, inside, inner, top, third);
+                    match visited {
+                        Visited::Full => Visited::Full,
+                        Visited::Done {
+                            counts: after,
+                            result,
+                            step,
+                        } => {
+                            let pair = pack(result, step);
+                            stack[top] = pair;
+                            conclude(
+                                words,
+                                after,
+                                5,
+                                context,
+                                term,
+                                result,
+                                stack,
+                                height,
+                                top + 1,
+                            )
+                        }
+                    }
+                }
+            }
+        }
+    }
+}
+
+// Visits each term of a list of the term `owner` from link `list` on, and leaves their pairs on the stack, from `height` on.
+pub fn visit_list(
+    words: &mut [u32],
+    stack: &mut [u64],
+    c: Bundle,
+    context: usize,
+    height: usize,
+    owner: usize,
+    list: usize,
+) -> Listed
+    requires { ⌜ ListAsks (now words) (now stack) c context height owner list ⌝ }
+    ensures { λ r. ⌜ ListGives (now (words .entry)) (now (stack .entry)) c context height owner list (now (words .exit)) (now (stack .exit)) r ⌝ }
+{
+    if list == 0 {
+        return Listed::Done { counts: c, height };
+    }
+    let value = link_field(words, c, list, 0);
+    let next = link_field(words, c, list, 1);
+    let visited = visit_term(words, stack, c, context, height, value);
+    match visited {
+        Visited::Full => Listed::Full,
+        Visited::Done {
+            counts: after,
+            result,
+            step,
+        } => {
+            let pair = pack(result, step);
+            stack[height] = pair;
+            visit_list(words, stack, after, context, height + 1, owner, next)
+        }
+    }
+}
