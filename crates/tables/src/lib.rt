@@ -8,7 +8,8 @@ pub mod header; // header.rt: the file as a whole, 1 to 4
 pub mod links; // links.rt: 5
 pub mod symbols; // symbols.rt: 6, in symbols and variables
 pub mod sorts; // sorts.rt: signatures and sorts
-pub mod terms; // terms.rt: 7, 8, 9
+pub mod duplicates; // duplicates.rt: 9
+pub mod terms; // terms.rt: 7, 8, and all of a term
 pub mod free; // free.rt: free sets
 
 use bundle::Bundle;

@@ -1,10 +1,13 @@
 // Checks 7, 8 and 9: a term's references, its sorts, and whether it is equal to an earlier one.
 ghost use mathlib.Core.Path.{_≡_};
-ghost use Prim.Native.Nat.{_≤_};
+ghost use Prim.Native.Nat.{_≤_, _<_};
 ghost use Rattle.bundle.specs.Bundle.{termOf};
 ghost use Rattle.bundle.specs.Lists.{numbers};
 ghost use Rattle.bundle.specs.File.{Whole, bundleAt};
-ghost use Rattle.logic.specs.Checks.{refers, sorted, firstIsList, secondIsList, sameField, sameTerm, isNew, termFault, termsFault};
+ghost use Rattle.logic.specs.Checks.{refers, sorted, termFault, termsFault};
+ghost use Rattle.tables.specs.Digests.{digestOf, Filed};
+use super::duplicates::digest;
+use super::duplicates::is_new;
 use super::sorts::arguments_fit;
 use super::sorts::is_known;
 use super::sorts::lists_agree;
@@ -12,7 +15,6 @@ use super::sorts::signature_of;
 use super::sorts::term_sort;
 use bundle::Bundle;
 use bundle::lists::all_numbers;
-use bundle::lists::same_list;
 use bundle::records::term_field;
 use logic::Fault;
 use logic::no_fault;
@@ -75,67 +77,21 @@ pub fn term_sorted(file: &[u8], b: Bundle, i: usize) -> bool
     true
 }
 
-// Whether two fields are the same: as lists, item by item, or as numbers.
-fn same_field(file: &[u8], b: Bundle, list: bool, x: usize, y: usize) -> bool
-    requires { ⌜ Whole (now file) b ⌝ }
-    ensures { λ r. ⌜ r ≡ sameField (bundleAt (now (file .entry)) b) list x y ⌝ }
-{
-    if list {
-        same_list(file, b, x, y)
-    } else {
-        x == y
-    }
-}
-
-// Whether terms i and j have the same record, lists compared item by item.
-pub fn same_term(file: &[u8], b: Bundle, i: usize, j: usize) -> bool
-    requires { ⌜ Whole (now file) b ⌝ }
-    ensures { λ r. ⌜ r ≡ sameTerm (bundleAt (now (file .entry)) b) (termOf (bundleAt (now (file .entry)) b) i) (termOf (bundleAt (now (file .entry)) b) j) ⌝ }
-{
-    let kind = term_field(file, b, i, 0);
-    if kind != term_field(file, b, j, 0) {
-        return false;
-    }
-    let first = same_field(
-        file,
-        b,
-        kind == 5,
-        term_field(file, b, i, 1),
-        term_field(file, b, j, 1),
-    );
-    let second = same_field(
-        file,
-        b,
-        (kind == 2) | (kind == 5),
-        term_field(file, b, i, 2),
-        term_field(file, b, j, 2),
-    );
-    first & second & (term_field(file, b, i, 3) == term_field(file, b, j, 3))
-}
-
-// 9: whether no earlier term has the same record.
-pub fn is_new(file: &[u8], b: Bundle, i: usize) -> bool
-    requires { ⌜ Whole (now file) b × (1 ≤ i) ⌝ }
-    ensures { λ r. ⌜ r ≡ isNew (bundleAt (now (file .entry)) b) i ⌝ }
-{
-    let mut j = i - 1;
-    while j != 0 {
-        if same_term(file, b, j, i) {
-            return false;
-        }
-        j -= 1;
-    }
-    true
-}
-
-// What is wrong with term i.
-pub fn term_fault(file: &[u8], b: Bundle, i: usize) -> usize
-    requires { ⌜ Whole (now file) b × (1 ≤ i) ⌝ }
+// What is wrong with term i, where the terms below it are filed, and d is its digest.
+fn term_fault(
+    file: &[u8],
+    b: Bundle,
+    heads: &[u16; 1024],
+    next: &[u16; 1025],
+    i: usize,
+    d: usize,
+) -> usize
+    requires { ⌜ Whole (now file) b × Filed (bundleAt (now file) b) (now heads) (now next) i × (1 ≤ i) × (i ≤ 1024) × (d < 1024) × (d ≡ digestOf (bundleAt (now file) b) (termOf (bundleAt (now file) b) i)) ⌝ }
     ensures { λ r. ⌜ r ≡ termFault (bundleAt (now (file .entry)) b) i ⌝ }
 {
     let refers = term_refers(file, b, i);
     let sorted = term_sorted(file, b, i);
-    let new = is_new(file, b, i);
+    let new = is_new(file, b, heads, next, i, d);
     if !refers {
         return 7;
     }
@@ -148,18 +104,23 @@ pub fn term_fault(file: &[u8], b: Bundle, i: usize) -> usize
     0
 }
 
-// The first bad term.
+// The first bad term. Terms that are good are filed by their digests.
 pub fn terms_fault(file: &[u8], b: Bundle) -> Fault
     requires { ⌜ Whole (now file) b ⌝ }
     ensures { λ r. ⌜ r ≡ termsFault (bundleAt (now (file .entry)) b) ⌝ }
 {
     let terms = b.terms;
+    let mut heads = [0u16; 1024];
+    let mut next = [0u16; 1025];
     let mut i = 1;
     while i <= terms {
-        let number = term_fault(file, b, i);
+        let d = digest(file, b, i);
+        let number = term_fault(file, b, &heads, &next, i, d);
         if number != 0 {
             return Fault { number, record: i };
         }
+        next[i] = heads[d];
+        heads[d] = i as u16;
         i += 1;
     }
     no_fault()

@@ -1,0 +1,20 @@
+-- `duplicates::mixed` meets its contract: the definition, which is small.
+use borrow.Author.Needs.{needs}
+use mathlib.Core.Path.{refl}
+use Rattle.tables.specs.Digests.{mix}
+use Rattle.tables.proofs.Digests.{mix-small}
+use Rattle.tables.proofs.duplicates.mixed.Statement.{statement}
+use Rattle.tables.proofs.duplicates.mixed.Tie as tie
+
+mul-result : tie.Need-mul-result
+mul-result c = search needs
+
+add-result : tie.Need-add-result
+add-result c = search needs
+
+returns : tie.Need-returns
+unfolding mix
+returns c = (refl, mix-small (c .args .d) (c .args .x))
+
+pub mixed-spec : {M : Type 1} → statement M
+mixed-spec = tie.close (tie.spec mul-result add-result returns)

@@ -1,0 +1,39 @@
+-- Digests of term records, and terms filed by them. Terms with the same record have the same digest, so a term that repeats an earlier one is
+-- found among those with its digest. Which digest is taken is of no account to what is checked, only to how long it takes.
+use Prim.Native.Nat.{ℕ, _+_, _*_, _%_, _≤_, _<_}
+use mathlib.Core.Path.{_≡_}
+use mathlib.Core.Bool.{Bool, true, false}
+use mathlib.Core.List.{List, [], _∷_}
+use lib.ListN.{getD}
+use Rattle.bundle.specs.Bundle.{Bundle, TermRecord, termOf}
+use Rattle.bundle.specs.Links.{items}
+use Rattle.logic.specs.Checks.{firstIsList, secondIsList}
+
+-- a digest d and one number more
+unfoldable pub mix : ℕ → ℕ → ℕ
+mix d x = (d * 31 + x % 1024) % 1024
+
+-- and the numbers of a list
+unfoldable pub mixItems : ℕ → List ℕ → ℕ
+mixItems d [] = d
+mixItems d (x ∷ xs) = mixItems (mix d x) xs
+
+-- and a field: the items of its list, or its number
+unfoldable pub mixField : Bundle → Bool → ℕ → ℕ → ℕ
+mixField b true d x = mixItems d (items b x)
+mixField b false d x = mix d x
+
+-- the digest of a term's record: its kind, then its fields as they are compared
+unfoldable pub digestOf : Bundle → TermRecord → ℕ
+digestOf b r = mix (mixField b (secondIsList (r .kind)) (mixField b (firstIsList (r .kind)) (mix 0 (r .kind)) (r .a)) (r .b)) (r .c)
+
+-- j is on the chain that starts at h: it is h, or on the chain of what follows h. 0 ends a chain.
+pub data Reach (next : List ℕ) : ℕ → ℕ → Type 0 where
+  here : {h j : ℕ} → h ≡ j → Reach next h j
+  later : {h j : ℕ} → (h ≡ 0 → ⊥) → Reach next (getD next h 0) j → Reach next h j
+
+-- `heads` and `next` hold the terms below i: each is on the chain that starts at the head of its digest. Chains fall.
+pub record Filed (b : Bundle) (heads next : List ℕ) (i : ℕ) : Type 0 where
+  pub low : (d : ℕ) → getD heads d 0 < i
+  pub falls : (j : ℕ) → 1 ≤ j → getD next j 0 < j
+  pub reached : (j : ℕ) → 1 ≤ j → j < i → Reach next (getD heads (digestOf b (termOf b j)) 0) j
