@@ -1,2 +1,5 @@
--- An answer as one number, for other languages.
+-- The library for other languages.
+--     Packed     answers as one number
+--     Demand     DEMAND 3 WHOLE, over the contracts of the two public calls: proofs/ has it under the same name
 pub mod Packed
+pub mod Demand

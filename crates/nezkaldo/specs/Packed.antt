@@ -1,9 +1,16 @@
--- An answer as one number, for other languages.
+-- Answers as one number, for other languages.
 use Prim.Native.Nat.{ℕ, _+_, _*_}
 use Rattle.checker.specs.declared.Answer.{Answer}
 use Rattle.checker.specs.declared.Answer.the-variants.{Accepted, Refused}
+use Rattle.writer.specs.declared.Answer.{Answer as Reply}
+use Rattle.writer.specs.declared.Answer.the-variants.{Written, Refused as Denied}
 
 -- 0 where the file is accepted, else number · 2^32 + record
 unfoldable pub packed : Answer → ℕ
 packed (Accepted left right) = 0
 packed (Refused number i) = 4294967296 * number + i
+
+-- the file's length where it is written, else number · 2^32 + record
+unfoldable pub packedReply : Reply → ℕ
+packedReply (Written n) = n
+packedReply (Denied number i) = 4294967296 * number + i

@@ -3,7 +3,8 @@ ghost use mathlib.Core.Path.{_≡_};
 ghost use Prim.Native.Nat.{_+_, _*_, _≤_};
 ghost use lib.ListN.{length};
 ghost use Rattle.checker.specs.Judge.{judge, areaAfter};
-ghost use Rattle.nezkaldo.specs.Packed.{packed};
+ghost use Rattle.writer.specs.Expansion.{expansion};
+ghost use Rattle.nezkaldo.specs.Packed.{packed, packedReply};
 use checker::Answer;
 
 // Number and record in one word.
@@ -25,5 +26,26 @@ pub extern "C" fn nezkaldo_check(file: &[u8], free: &mut [u64]) -> u64
     match answer {
         Answer::Accepted { left: _, right: _ } => 0,
         Answer::Refused { number, record } => pack(number, record),
+    }
+}
+
+// Expands the lets of a job's rule: the file's length where it is written at the start of the output, else number · 2^32 + record of the first check that
+// fails. The scratch ends zero, and so do the bytes after the file; where the job is refused, all of the output.
+#[no_mangle]
+pub extern "C" fn nezkaldo_expand(
+    job: &[u8],
+    out: &mut [u8],
+    words: &mut [u32],
+    sets: &mut [u64],
+) -> u64
+    ensures { λ r. ⌜ r ≡ packedReply (expansion (now (job .entry)) (length (now (out .entry))) (length (now (words .entry))) (length (now (sets .entry))) .answer) ⌝ }
+    ensures { λ _. ⌜ now (out .exit) ≡ expansion (now (job .entry)) (length (now (out .entry))) (length (now (words .entry))) (length (now (sets .entry))) .out ⌝ }
+    ensures { λ _. ⌜ now (words .exit) ≡ expansion (now (job .entry)) (length (now (out .entry))) (length (now (words .entry))) (length (now (sets .entry))) .words ⌝ }
+    ensures { λ _. ⌜ now (sets .exit) ≡ expansion (now (job .entry)) (length (now (out .entry))) (length (now (words .entry))) (length (now (sets .entry))) .sets ⌝ }
+{
+    let reply = writer::expand(job, out, words, sets);
+    match reply {
+        writer::Answer::Written { length } => length as u64,
+        writer::Answer::Refused { number, record } => pack(number, record),
     }
 }

@@ -20,6 +20,12 @@
 --     Rooted           a term of well-formed tables stands for its node
 --     JobOrder         the writer's first fault is the first failing check of the one ordered list
 --     JobChecks        a file is written exactly for well-formed closed jobs that fit; what is left in the areas
+--     Zeros            zeros written into an area one by one
+--     SectionPlaces    where the sections of a file and of the scratch end, and that they fit
+--     JobCopied        a job copied into the scratch
+--     FileStored       the file stored from the scratch
+--     JobTests         18, 15, 17, as the code tests for them
+--     Expanding        the answer of the expansion, as the code comes to it
 --     JobSizes         how large the number and the record of a refused job can be
 --     Demands          THE DEMANDS
 --     Examples         THE TWELVE EXAMPLES of document 01
@@ -44,6 +50,12 @@ pub mod TermTurns
 pub mod Rooted
 pub mod JobOrder
 pub mod JobChecks
+pub mod Zeros
+pub mod SectionPlaces
+pub mod JobCopied
+pub mod FileStored
+pub mod JobTests
+pub mod Expanding
 pub mod JobSizes
 pub mod Demands
 pub mod Examples

@@ -1,0 +1,3 @@
+-- Theorems.
+--     Demand     DEMAND 3 WHOLE
+pub mod Demand

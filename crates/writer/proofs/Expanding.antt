@@ -1,0 +1,316 @@
+-- The answer of the expansion, as the code comes to it.
+--     long-areas                              the three areas are long enough
+--     refused-early, refused-late             a check of 1 to 9 fails; 18, 15 or 17 does
+--     visit-asks, visit-is                    what the visit to the rule asks for, and what it gives, where none of those fails
+--     Told, told-done, told-full              what the visit's answer says
+--     refused-full, written                   16 fails; no check does
+--     bytes-of, right-small                   the result's term is a word of 32 bits
+--     stored-refused, stored-written          what is left before the zeros are written
+--     left-refused, left-written              and after
+use Prim.Native.Nat.{ℕ, zero, suc, _+_, _-_, _≤_, _<_}
+use mathlib.Core.Path.{_≡_, refl, sym, ap, _∙_}
+use mathlib.Core.Bool.{Bool, true, false, cond}
+use mathlib.Core.List.{List, [], _∷_, _++_}
+use native.Mathlib.Omega.{arith}
+use lib.ListN.{length, getD, take, replicate}
+use lib.Dec.{leb, ltb}
+use borrow.Author.Tests.{leb-true, ltb-true}
+use Rattle.bundle.specs.declared.Bundle.{Bundle as Counts}
+use Rattle.bundle.specs.Bundle.{Bundle}
+use Rattle.bundle.specs.Words.{wordAt}
+use Rattle.bundle.specs.Limits.{limits, wordsOf, bytesOf, Within, withinOf}
+use Rattle.bundle.specs.File.{bundleAt, bundleOf, countsOf}
+use Rattle.bundle.proofs.Limits.{within-all, within-true}
+use Rattle.logic.specs.declared.Fault.{Fault}
+use Rattle.logic.specs.Lists.{Number}
+use Rattle.logic.specs.WellFormed.{TablesFormed}
+use Rattle.logic.specs.Tests.{Test, test, firstFailing, fault, orElse}
+use Rattle.logic.specs.Checks.{headerFault, sectionsFault, tablesFault}
+use Rattle.logic.proofs.Tests.{numbered, failing-none, numbers-of, and-left, and-right}
+use Rattle.logic.proofs.Firsts.{orElse-on, orElse-here, next-both}
+use Rattle.logic.proofs.Formed.{tables-exactly}
+use Rattle.sets.specs.Sets.{cleared}
+use Rattle.checker.proofs.Header.{HeaderGood, tables-header}
+use Rattle.checker.proofs.Areas.{all-cleared}
+use Rattle.arena.specs.Scratch.{bundleIn}
+use Rattle.writer.specs.declared.Answer.{Answer}
+use Rattle.writer.specs.declared.Answer.the-variants.{Written, Refused}
+use Rattle.writer.specs.declared.Visited.{Visited}
+use Rattle.writer.specs.Nodes.{Node, nodeAt}
+use Rattle.writer.specs.Visit.{Visit, visit, visited, expanded, claiming}
+use Rattle.writer.specs.File.{countsIn, fileOf}
+use Rattle.writer.specs.Expansion.{longEnough, earlyTests, jobTests, jobFault, outcomeOf, expansion}
+use Rattle.writer.specs.Demands.{LongEnough, Bytes}
+use Rattle.writer.specs.Outcomes.{Holds, TooMuch, VisitOutcome, done, full, Stands, TermAsks}
+use Rattle.writer.specs.Left.{Left, Stored}
+use Rattle.writer.proofs.Files.{file-length}
+use Rattle.writer.proofs.SmallWords.{file-small, expanded-small}
+use Rattle.writer.proofs.SectionPlaces.{within-words}
+use Rattle.writer.proofs.Rooted.{stands-at}
+
+-- ---- areas
+
+three-of : (p q s : Bool) → 3 ≤ cond p 1 0 + cond q 1 0 + cond s 1 0 → (p ≡ true) × (q ≡ true) × (s ≡ true)
+three-of true true true h = (refl, refl, refl)
+three-of true true false h = absurd (omega arith)
+three-of true false true h = absurd (omega arith)
+three-of true false false h = absurd (omega arith)
+three-of false true true h = absurd (omega arith)
+three-of false true false h = absurd (omega arith)
+three-of false false true h = absurd (omega arith)
+three-of false false false h = absurd (omega arith)
+
+pub long-areas : (out words sets : ℕ) → 3 ≤ longEnough out words sets → LongEnough out words sets
+unfolding longEnough
+long-areas out words sets h =
+    let t = three-of (leb (bytesOf limits) out) (leb (wordsOf limits) words) (leb 1024 sets) h in
+    record { output = leb-true _ _ (t .0); scratch = leb-true _ _ (t .1); stack = leb-true _ _ (t .2) }
+
+-- ---- tests in a row
+
+module _ (us : List Test) where
+  failing-early : (ts : List Test) → (firstFailing ts ≡ 0 → ⊥) → firstFailing (ts ++ us) ≡ firstFailing ts
+  unfolding firstFailing
+  failing-early [] ne = absurd (ne refl)
+  failing-early (t ∷ ts) ne = go (t .holds) ne (failing-early ts)
+    where
+      go : (p : Bool) → (cond p (firstFailing ts) (t .number) ≡ 0 → ⊥) → ((firstFailing ts ≡ 0 → ⊥) → firstFailing (ts ++ us) ≡ firstFailing ts)
+          → cond p (firstFailing (ts ++ us)) (t .number) ≡ cond p (firstFailing ts) (t .number)
+      go true ne rest = rest ne
+      go false ne rest = refl
+
+  failing-late : (ts : List Test) → numbered ts ≡ true → firstFailing ts ≡ 0 → firstFailing (ts ++ us) ≡ firstFailing us
+  unfolding firstFailing
+  failing-late [] n e = refl
+  failing-late (t ∷ ts) n e = go (t .holds) e (failing-late ts (and-right (ltb 0 (t .number)) (numbered ts) n))
+    where
+      go : (p : Bool) → cond p (firstFailing ts) (t .number) ≡ 0 → (firstFailing ts ≡ 0 → firstFailing (ts ++ us) ≡ firstFailing us)
+          → cond p (firstFailing (ts ++ us)) (t .number) ≡ firstFailing us
+      go true e rest = rest e
+      go false e rest =
+          let l : 0 < t .number = ltb-true 0 (t .number) (and-left (ltb 0 (t .number)) (numbered ts) n) in
+          absurd (omega arith)
+
+-- a test that fails
+off : (p : Bool) → (p ≡ true → ⊥) → p ≡ false
+off true h = absurd (h refl)
+off false h = refl
+
+-- ---- the visit's answer
+
+-- the answer of a visit that was done, with its counts c and result x
+pub record Told (v : Visit) (w : List ℕ) (c : Counts) (x : ℕ) : Type 0 where
+  pub counts : c ≡ countsIn (v .bundle)
+  pub result : x ≡ v .result
+  pub holds : Holds w (v .bundle)
+
+pub told-done : {v : Visit} {w : List ℕ} {r : Visited} → VisitOutcome v w r → {c : Counts} {x y : ℕ} → r ≡ Visited.Done c x y → Told v w c x
+told-done (done h e) k = record { counts = cc; result = cc; holds = h }
+told-done (full h e) k = let z : _≡_ {A = ℕ} 0 1 = cc in absurd (omega arith)
+
+pub told-full : {v : Visit} {w : List ℕ} {r : Visited} → VisitOutcome v w r → r ≡ Visited.Full → TooMuch (v .bundle)
+told-full (done h e) k = let z : _≡_ {A = ℕ} 0 1 = cc in absurd (omega arith)
+told-full (full h e) k = h
+
+-- a string of bytes, by its elements
+pub bytes-of : (f : List ℕ) → ((i : ℕ) → getD f i 0 < 256) → Bytes f
+bytes-of [] h = tt
+bytes-of (x ∷ xs) h = (h 0, bytes-of xs (λ i. h (suc i)))
+
+-- where the visit is done, its result's term is a word of 32 bits
+pub right-small : (f : List ℕ) → Bytes f → {w : List ℕ} {d : Counts} {x : ℕ} → Told (visited (bundleOf f)) w d x → x ≤ 4294967295
+unfolding expanded
+right-small f bytes t =
+    let small = expanded-small (bundleOf f) (file-small f bytes) (t .holds .within) .right in
+    omega (arith, small, t .result)
+
+-- ---- the job f, and areas of these lengths
+
+module _ (f : List ℕ) (out words sets : ℕ) where
+  refused : (m i : ℕ) → (m ≡ 0 → ⊥) → jobFault f out words sets ≡ fault m i → Refused m i ≡ expansion f out words sets .answer
+  unfolding expansion outcomeOf
+  refused m i ne e = sym (ap (λ (r : Fault). outcomeOf (bundleOf f) r (r .number) out words sets .answer) e ∙ go m ne)
+    where
+      go : (m : ℕ) → (m ≡ 0 → ⊥) → outcomeOf (bundleOf f) (fault m i) m out words sets .answer ≡ Refused m i
+      go zero ne = absurd (ne refl)
+      go (suc m) ne = refl
+
+  pub refused-early : (r : Fault) → r ≡ tablesFault f (longEnough out words sets) 3 → (r .number ≡ 0 → ⊥)
+      → Refused (r .number) (r .«record») ≡ expansion f out words sets .answer
+  unfolding jobFault
+  refused-early r e ne = refused (r .number) (r .«record») ne (rw (← e) (orElse-here (r .number) (r .«record») _ ne))
+
+  -- 1 to 9 do not fail
+  module _ (none : tablesFault f (longEnough out words sets) 3 .number ≡ 0) where
+    pub header-good : HeaderGood f (longEnough out words sets) 3
+    header-good = tables-header f (longEnough out words sets) 3 none
+
+    pub areas-long : LongEnough out words sets
+    areas-long = long-areas out words sets (header-good .area)
+
+    tables-formed : TablesFormed (bundleOf f)
+    unfolding tablesFault
+    tables-formed = tables-exactly (bundleOf f) .0 (next-both (fault (headerFault f (longEnough out words sets) 3) 0) (sectionsFault (bundleOf f)) none .1)
+
+    late-is : jobFault f out words sets ≡ orElse (firstFailing (jobTests (bundleOf f))) 0 (fault 0 0)
+    unfolding jobFault
+    late-is = orElse-on (tablesFault f (longEnough out words sets) 3 .number) (tablesFault f (longEnough out words sets) 3 .«record») _ none
+
+    refused-number : (m : ℕ) → (m ≡ 0 → ⊥) → firstFailing (jobTests (bundleOf f)) ≡ m → Refused m 0 ≡ expansion f out words sets .answer
+    refused-number m ne e = refused m 0 ne (late-is ∙ rw e (orElse-here m 0 (fault 0 0) ne))
+
+    pub refused-late : (m : ℕ) → m ≡ firstFailing (earlyTests (bundleOf f)) → (m ≡ 0 → ⊥) → Refused m 0 ≡ expansion f out words sets .answer
+    refused-late m e ne =
+        refused-number m ne (failing-early (test 16 (withinOf (countsIn (visited (bundleOf f) .bundle))) ∷ []) (earlyTests (bundleOf f)) (λ z. ne (e ∙ z)) ∙ sym e)
+
+    -- nor do 18, 15, 17
+    module _ (early : firstFailing (earlyTests (bundleOf f)) ≡ 0) where
+      left-known : Number (length (bundleOf f .terms)) (bundleOf f .left)
+      left-known = numbers-of (length (bundleOf f .terms)) (bundleOf f .left) (failing-none (earlyTests (bundleOf f)) refl early .1 .0)
+
+      last-is : firstFailing (jobTests (bundleOf f)) ≡ cond (withinOf (countsIn (visited (bundleOf f) .bundle))) 0 16
+      unfolding firstFailing
+      last-is = failing-late (test 16 (withinOf (countsIn (visited (bundleOf f) .bundle))) ∷ []) (earlyTests (bundleOf f)) refl early
+
+      pub refused-full : TooMuch (visited (bundleOf f) .bundle) → Refused 16 0 ≡ expansion f out words sets .answer
+      refused-full h =
+          refused-number 16 (λ z. omega arith)
+          (last-is ∙ rw (off (withinOf (countsIn (visited (bundleOf f) .bundle))) (λ e. h (within-all (countsIn (visited (bundleOf f) .bundle)) e))))
+
+      pub written : Within (countsIn (visited (bundleOf f) .bundle)) → Written (length (fileOf (expanded (bundleOf f)))) ≡ expansion f out words sets .answer
+      unfolding expansion outcomeOf
+      written h =
+          let e : jobFault f out words sets ≡ fault 0 0 = late-is
+          ∙ orElse-on (firstFailing (jobTests (bundleOf f))) 0 (fault 0 0) (last-is ∙ rw (within-true (countsIn (visited (bundleOf f) .bundle)) h)) in
+          sym (ap (λ (r : Fault). outcomeOf (bundleOf f) r (r .number) out words sets .answer) e)
+
+      -- The scratch w holds the job; c and left are what the code has read. The stack is s.
+      module _ (w s : List ℕ) (c : Counts) (left : ℕ) (counted : c ≡ countsOf f) (read : left ≡ wordAt f 7) (copied : bundleIn w c ≡ bundleAt f c) where
+        bundle-is : bundleIn w c ≡ bundleOf f
+        unfolding bundleOf
+        bundle-is = copied ∙ ap (bundleAt f) counted
+
+        left-is : left ≡ bundleOf f .left
+        unfolding bundleOf bundleAt
+        left-is = read
+
+        visit-stands : Stands (bundleIn w c) left (nodeAt (bundleIn w c) left)
+        visit-stands = rw (bundle-is, left-is) (stands-at (bundleOf f) tables-formed (bundleOf f .left) left-known)
+
+        pub visit-asks : wordsOf limits ≤ length w → 1024 ≤ length s → TermAsks w s c 0 0 left
+        visit-asks long places = record {
+          ready = record { room = record { within = rw counted (header-good .whole .within); long = long }; version = rw counted (header-good .version) };
+          pending = record { places = places; height = omega arith };
+          context = omega arith;
+          standing = nodeAt (bundleIn w c) left;
+          stands = visit-stands;
+        }
+
+        pub visit-is : (w′ : List ℕ) (r : Visited) → ((τ : Node) → Stands (bundleIn w c) left τ → VisitOutcome (visit τ 0 (bundleIn w c)) w′ r)
+            → VisitOutcome (visited (bundleOf f)) w′ r
+        unfolding visited
+        visit-is w′ r o = rw (bundle-is, left-is) at (o (nodeAt (bundleIn w c) left) visit-stands)
+
+-- ---- what is left before the zeros are written
+
+module _ (f out words sets out′ words′ sets′ : List ℕ) (o : length out′ ≡ length out) (w : length words′ ≡ length words) (s : length sets′ ≡ length sets) where
+  pub stored-refused : (m i : ℕ) → Refused m i ≡ expansion f (length out) (length words) (length sets) .answer
+      → Stored f out words sets out′ words′ sets′ (Refused m i)
+  stored-refused m i e = record {
+    answer = e;
+    output = o;
+    scratch = w;
+    stack = s;
+    file = λ n k. let z : _≡_ {A = ℕ} 0 1 = cc in absurd (omega arith);
+  }
+
+  -- the visit was done, with the counts d and the result x, and the scratch v; the file was stored, n bytes long
+  module _ (none : tablesFault f (longEnough (length out) (length words) (length sets)) 3 .number ≡ 0) (early : firstFailing (earlyTests (bundleOf f)) ≡ 0)
+      (v : List ℕ) (d : Counts) (left x n : ℕ) (read : left ≡ wordAt f 7) (t : Told (visited (bundleOf f)) v d x) (size : n ≡ bytesOf d)
+      (stored : take (bytesOf d) out′ ≡ fileOf (claiming (bundleIn v d) left x)) where
+    holds-bundle : bundleIn v d ≡ visited (bundleOf f) .bundle
+    holds-bundle = rw (t .counts) (t .holds .bundle)
+
+    -- the claim's left is the job's
+    left-of : left ≡ bundleOf f .left
+    unfolding bundleOf bundleAt
+    left-of = read
+
+    file-is : fileOf (claiming (bundleIn v d) left x) ≡ fileOf (expanded (bundleOf f))
+    unfolding expanded
+    file-is = λ i. fileOf (claiming (holds-bundle i) (left-of i) (t .result i))
+
+    size-is : n ≡ length (fileOf (expanded (bundleOf f)))
+    unfolding expanded
+    size-is = size ∙ ap bytesOf (t .counts) ∙ sym (file-length (expanded (bundleOf f)))
+
+    fits : n ≤ length out
+    fits =
+        let within : Within d = rw (t .counts) (t .holds .within) in
+        omega (arith, size, within-words d within, areas-long f (length out) (length words) (length sets) none .output)
+
+    pub stored-written : Stored f out words sets out′ words′ sets′ (Written n)
+    stored-written = record {
+      answer = ap Written size-is ∙ written f (length out) (length words) (length sets) none early (t .holds .within);
+      output = o;
+      scratch = w;
+      stack = s;
+      file = λ m k.
+          let e : n ≡ m = cc in
+          rw (← e) (fits, rw size stored ∙ file-is);
+    }
+
+-- ---- and after
+
+module _ (b : Bundle) (r : Fault) (out words sets : ℕ) where
+  outcome-words : (k : ℕ) → outcomeOf b r k out words sets .words ≡ replicate words 0
+  unfolding outcomeOf
+  outcome-words zero = refl
+  outcome-words (suc k) = refl
+
+  outcome-sets : (k : ℕ) → outcomeOf b r k out words sets .sets ≡ replicate sets 0
+  unfolding outcomeOf
+  outcome-sets zero = refl
+  outcome-sets (suc k) = refl
+
+  outcome-refused : (k m i : ℕ) → Refused m i ≡ outcomeOf b r k out words sets .answer → outcomeOf b r k out words sets .out ≡ replicate out 0
+  unfolding outcomeOf
+  outcome-refused zero m i e = let z : _≡_ {A = ℕ} 0 1 = cc in absurd (omega arith)
+  outcome-refused (suc k) m i e = refl
+
+  outcome-written : (k n : ℕ) → Written n ≡ outcomeOf b r k out words sets .answer → outcomeOf b r k out words sets .out ≡ fileOf (expanded b) ++ replicate (out - n) 0
+  unfolding outcomeOf
+  outcome-written zero n e = let l : n ≡ length (fileOf (expanded b)) = cc in rw l
+  outcome-written (suc k) n e = let z : _≡_ {A = ℕ} 0 1 = cc in absurd (omega arith)
+
+module _ (f out words sets out′ words′ sets′ words″ sets″ : List ℕ) (w : words″ ≡ replicate (length words′) 0) (s : sets″ ≡ cleared sets′ 0 (length sets′)) where
+  module _ (r : Answer) (stored : Stored f out words sets out′ words′ sets′ r) where
+    scratch-zero : words″ ≡ expansion f (length out) (length words) (length sets) .words
+    unfolding expansion
+    scratch-zero = w ∙ rw (stored .scratch) (sym (outcome-words (bundleOf f) (jobFault f (length out) (length words) (length sets)) (length out) (length words) (length sets) (jobFault f (length out) (length words) (length sets) .number)))
+
+    stack-zero : sets″ ≡ expansion f (length out) (length words) (length sets) .sets
+    unfolding expansion
+    stack-zero = s ∙ all-cleared sets′ ∙ rw (stored .stack) (sym (outcome-sets (bundleOf f) (jobFault f (length out) (length words) (length sets)) (length out) (length words) (length sets) (jobFault f (length out) (length words) (length sets) .number)))
+
+  pub left-refused : (m i : ℕ) (out″ : List ℕ) → Stored f out words sets out′ words′ sets′ (Refused m i) → out″ ≡ take 0 out′ ++ replicate (length out′ - 0) 0
+      → Left (expansion f (length out) (length words) (length sets)) (Refused m i) out″ words″ sets″
+  unfolding expansion
+  left-refused m i out″ stored e =
+      let l : length out′ - 0 ≡ length out = omega (arith, stored .output) in
+      record {
+        answer = stored .answer;
+        output = e ∙ rw l (sym (outcome-refused (bundleOf f) (jobFault f (length out) (length words) (length sets)) (length out) (length words) (length sets) (jobFault f (length out) (length words) (length sets) .number) m i (stored .answer)));
+        scratch = scratch-zero (Refused m i) stored;
+        stack = stack-zero (Refused m i) stored;
+      }
+
+  pub left-written : (n : ℕ) (out″ : List ℕ) → Stored f out words sets out′ words′ sets′ (Written n) → out″ ≡ take n out′ ++ replicate (length out′ - n) 0
+      → Left (expansion f (length out) (length words) (length sets)) (Written n) out″ words″ sets″
+  unfolding expansion
+  left-written n out″ stored e = record {
+    answer = stored .answer;
+    output = e ∙ rw (stored .file n refl .1, stored .output) (sym (outcome-written (bundleOf f) (jobFault f (length out) (length words) (length sets)) (length out) (length words) (length sets) (jobFault f (length out) (length words) (length sets) .number) n (stored .answer)));
+    scratch = scratch-zero (Written n) stored;
+    stack = stack-zero (Written n) stored;
+  }

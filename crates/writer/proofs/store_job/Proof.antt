@@ -1,0 +1,186 @@
+-- `store_job` meets its contract: the checks in their order, the visit to the rule, and the file.
+use borrow.Author.Needs.{needs}
+use mathlib.Core.Path.{_≡_, refl, sym, ap, _∙_}
+use native.Mathlib.Omega.{arith}
+use lib.ListN.{length}
+use Rattle.bundle.specs.Bundle.{Bundle}
+use Rattle.bundle.specs.File.{Whole, bundleOf}
+use Rattle.logic.specs.Tests.{firstFailing}
+use Rattle.logic.specs.Checks.{tablesFault}
+use Rattle.tables.proofs.Headers.{bundle-is}
+use Rattle.checker.proofs.Header.{HeaderGood}
+use Rattle.writer.specs.Visit.{visited}
+use Rattle.writer.specs.Expansion.{longEnough, earlyTests}
+use Rattle.writer.specs.Demands.{LongEnough}
+use Rattle.writer.specs.Outcomes.{VisitOutcome, TermAsks}
+use Rattle.writer.proofs.Expanding.{refused-early, header-good, areas-long, refused-late, refused-full, visit-asks, visit-is, Told, told-done, told-full, right-small, bytes-of, stored-refused, stored-written}
+use Rattle.writer.proofs.store_job.Statement.{statement}
+use Rattle.writer.proofs.store_job.Tie as tie
+
+-- what the checks 1 to 9 find
+tables : (c : tie.After-tables-fault)
+    → let a = c .before .before .before .before .before .before .args in
+    c .tables-fault .result ≡ tablesFault (a .job .now) (longEnough (length (a .out .now)) (length (a .words .now)) (length (a .sets .now))) 3
+tables c = c .tables-fault .ensures ∙ rw (c .before .long-enough .ensures)
+
+-- they find nothing
+none : (c : tie.Else1)
+    → let a = c .before .before .before .before .before .before .before .before .args in
+    tablesFault (a .job .now) (longEnough (length (a .out .now)) (length (a .words .now)) (length (a .sets .now))) 3 .number ≡ 0
+none c = rw (← tables (c .before .before)) (c .if1 .left)
+
+good : (c : tie.Else1) → let a = c .before .before .before .before .before .before .before .before .args in HeaderGood (a .job .now) (longEnough (length (a .out .now)) (length (a .words .now)) (length (a .sets .now))) 3
+good c = let a = c .before .before .before .before .before .before .before .before .args in header-good (a .job .now) (length (a .out .now)) (length (a .words .now)) (length (a .sets .now)) (none c)
+
+areas : (c : tie.Else1) → let a = c .before .before .before .before .before .before .before .before .args in LongEnough (length (a .out .now)) (length (a .words .now)) (length (a .sets .now))
+areas c = let a = c .before .before .before .before .before .before .before .before .args in areas-long (a .job .now) (length (a .out .now)) (length (a .words .now)) (length (a .sets .now)) (none c)
+
+whole : (c : tie.After-counts) → Whole (c .before .before .before .before .before .before .before .before .before .args .job .now) (c .counts .result)
+whole c = rw (c .counts .ensures) (good (c .before) .whole)
+
+-- what 18, 15, 17 find
+late : (c : tie.After-job-fault) → c .job-fault .result ≡ firstFailing (earlyTests (bundleOf (c .before .before .before .before .before .before .before .before .before .before .before .args .job .now)))
+late c =
+    c .job-fault .ensures .1
+    ∙ ap (λ (b : Bundle). firstFailing (earlyTests b)) (bundle-is (c .before .before .before .before .before .before .before .before .before .before .before .args .job .now) (c .before .before .counts .ensures))
+
+-- they find nothing
+early : (c : tie.Else2) → firstFailing (earlyTests (bundleOf (c .before .before .before .before .before .before .before .before .before .before .before .before .before .before .args .job .now))) ≡ 0
+early c = sym (late (c .before .before .before)) ∙ c .if2 .left
+
+-- what the visit asks for, and what it gives
+asks : (c : tie.After-word-at)
+    → TermAsks (c .before .before .before .copy-job .last .1 .1 .0) (c .before .before .before .before .before .before .before .before .job-fault .last .1 .1 .0) (c .before .before .before .before .before .before .before .before .before .before .counts .result) 0 0 (c .word-at .result)
+asks c =
+    let a = c .before .before .before .before .before .before .before .before .before .before .before .before .before .before .before .before .before .before .before .args in
+    visit-asks (a .job .now) (length (a .out .now)) (length (a .words .now)) (length (a .sets .now)) (none (c .before .before .before .before .before .before .before .before .before .before .before)) (early (c .before .before .before .before .before))
+    (c .before .before .before .copy-job .last .1 .1 .0) (c .before .before .before .before .before .before .before .before .job-fault .last .1 .1 .0) (c .before .before .before .before .before .before .before .before .before .before .counts .result) (c .word-at .result)
+    (c .before .before .before .before .before .before .before .before .before .before .counts .ensures) (c .word-at .ensures .0) (c .before .before .before .copy-job .ensures .1)
+    (rw (c .before .before .words .given) (areas (c .before .before .before .before .before .before .before .before .before .before .before) .scratch)) (rw (c .before .before .before .before .before .before .before .sets .given) (areas (c .before .before .before .before .before .before .before .before .before .before .before) .stack))
+
+outcome : (c : tie.After-visit-term)
+    → VisitOutcome (visited (bundleOf (c .before .before .before .before .before .before .before .before .before .before .before .before .before .before .before .before .before .before .before .before .before .before .args .job .now))) (c .visit-term .last .0) (c .visit-term .result)
+outcome c =
+    let a = c .before .before .before .before .before .before .before .before .before .before .before .before .before .before .before .before .before .before .before .before .before .before .args in
+    visit-is (a .job .now) (length (a .out .now)) (length (a .words .now)) (length (a .sets .now)) (none (c .before .before .before .before .before .before .before .before .before .before .before .before .before .before)) (early (c .before .before .before .before .before .before .before .before))
+    (c .before .before .before .before .before .before .copy-job .last .1 .1 .0) (c .before .before .before .before .before .before .before .before .before .before .before .job-fault .last .1 .1 .0) (c .before .before .before .before .before .before .before .before .before .before .before .before .before .counts .result) (c .before .before .before .word-at .result)
+    (c .before .before .before .before .before .before .before .before .before .before .before .before .before .counts .ensures) (c .before .before .before .word-at .ensures .0) (c .before .before .before .before .before .before .copy-job .ensures .1)
+    (c .visit-term .last .0) (c .visit-term .result) (c .visit-term .ensures .outcome)
+
+told : (c : tie.After-visited)
+    → Told (visited (bundleOf (c .before .before .before .before .before .before .before .before .before .before .before .before .before .before .before .before .before .before .before .before .before .before .before .before .before .before .before .before .args .job .now))) (c .before .before .before .before .before .before .visit-term .last .0) (c .visited .given .0 .0) (c .visited .given .0 .1 .0)
+told c = told-done (outcome (c .before .before .before .before .before .before)) (c .visited .given .1)
+
+long-enough-requires : tie.Need-long-enough-requires
+long-enough-requires c κs = search needs
+
+tables-fault-requires : tie.Need-tables-fault-requires
+tables-fault-requires c κs = search needs
+
+returns : tie.Need-returns
+returns c =
+    let a = c .before .before .before .before .before .before .before .before .args in
+    stored-refused (a .job .now) (a .out .now) (a .words .now) (a .sets .now) (a .out .now) (a .words .now) (a .sets .now) refl refl refl
+    _ _ (refused-early (a .job .now) (length (a .out .now)) (length (a .words .now)) (length (a .sets .now)) (c .before .before .tables-fault .result) (tables (c .before .before)) (c .if1 .taken))
+
+counts-requires : tie.Need-counts-requires
+counts-requires c κs = good c .header
+
+job-fault-requires : tie.Need-job-fault-requires
+job-fault-requires c κs =
+    (whole (c .before), omega (arith, whole (c .before) .within .terms, areas (c .before .before) .stack))
+
+same-length : tie.Need-same-length
+same-length c = c .before .before .sets .given
+
+returns-2 : tie.Need-returns-2
+returns-2 c =
+    let a = c .before .before .before .before .before .before .before .before .before .before .before .before .before .before .args in
+    stored-refused (a .job .now) (a .out .now) (a .words .now) (a .sets .now) (a .out .now) (a .words .now) (c .before .before .before .job-fault .last .1 .1 .0) refl refl (c .before .before .sets .given)
+    _ _ (refused-late (a .job .now) (length (a .out .now)) (length (a .words .now)) (length (a .sets .now)) (none (c .before .before .before .before .before .before)) (c .before .before .before .job-fault .result) (late (c .before .before .before)) (c .if2 .taken))
+
+copy-job-requires : tie.Need-copy-job-requires
+copy-job-requires c κs = (whole (c .before .before .before .before .before .before), areas (c .before .before .before .before .before .before .before) .scratch)
+
+word-at-requires : tie.Need-word-at-requires
+word-at-requires c κs = omega (arith, good (c .before .before .before .before .before .before .before .before .before .before) .header)
+
+visit-term-requires : tie.Need-visit-term-requires
+visit-term-requires c κs = asks (c .before .before)
+
+enum-told : tie.Need-enum-told
+enum-told c = search needs
+
+enum-known-visited : tie.Need-enum-known-visited
+enum-known-visited c = search needs
+
+store-file-requires : tie.Need-store-file-requires
+store-file-requires c κs =
+    let t = told (c .before .before .before) in (
+      rw (t .counts) (t .holds .ready),
+      c .before .before .before .before .before .before .before .before .before .before .before .before .word-at .ensures .1,
+      right-small (c .before .before .before .before .before .before .before .before .before .before .before .before .before .before .before .before .before .before .before .before .before .before .before .before .before .before .before .before .before .before .before .args .job .now) (bytes-of (c .before .before .before .before .before .before .before .before .before .before .before .before .before .before .before .before .before .before .before .before .before .before .before .before .before .before .before .before .before .before .before .args .job .now) (λ i. omega (arith, c .before .before .before .before .before .before .before .before .before .before .before .before .before .before .before .before .before .before .before .before .before .before .before .before .before .before .before .before .before .before .shared-slice-known .given i))) t,
+      areas (c .before .before .before .before .before .before .before .before .before .before .before .before .before .before .before .before .before .before .before .before .before .before .before) .output,
+    )
+
+bytes-requires : tie.Need-bytes-requires
+bytes-requires c κs = let t = told (c .before .before .before .before .before .before .before .before) in rw (t .counts) (t .holds .within)
+
+same-length-2 : tie.Need-same-length-2
+same-length-2 c = c .before .before .before .before .before .words2 .given ∙ c .before .before .before .before .before .before .before .before .before .before .before .words .given
+
+same-length-3 : tie.Need-same-length-3
+same-length-3 c = c .before .before .before .sets2 .given ∙ c .before .before .before .before .before .before .before .before .before .before .before .before .before .before .before .before .sets .given
+
+returns-3 : tie.Need-returns-3
+returns-3 c =
+    let a = c .before .before .before .before .before .before .before .before .before .before .before .before .before .before .before .before .before .before .before .before .before .before .before .before .before .before .before .before .args in
+    stored-refused (a .job .now) (a .out .now) (a .words .now) (a .sets .now) (a .out .now) (c .before .before .before .before .before .before .visit-term .last .0) (c .before .before .before .before .before .before .visit-term .last .1 .0)
+    refl (c .before .before .before .before .before .words2 .given ∙ c .before .before .before .before .before .before .before .before .before .before .before .words .given) (c .before .before .before .sets2 .given ∙ c .before .before .before .before .before .before .before .before .before .before .before .before .before .before .before .before .sets .given)
+    16 0 (refused-full (a .job .now) (length (a .out .now)) (length (a .words .now)) (length (a .sets .now)) (none (c .before .before .before .before .before .before .before .before .before .before .before .before .before .before .before .before .before .before .before .before)) (early (c .before .before .before .before .before .before .before .before .before .before .before .before .before .before)) (told-full (outcome (c .before .before .before .before .before .before)) (c .enum-told .given .1)))
+
+same-length-4 : tie.Need-same-length-4
+same-length-4 c = c .before .before .out .given
+
+same-length-5 : tie.Need-same-length-5
+same-length-5 c = c .before .before .before .before .words3 .given ∙ c .before .before .before .before .before .before .before .before .before .before .before .before .before .before .words2 .given ∙ c .before .before .before .before .before .before .before .before .before .before .before .before .before .before .before .before .before .before .before .before .words .given
+
+same-length-6 : tie.Need-same-length-6
+same-length-6 c = c .before .before .before .before .before .before .before .before .before .before .before .before .sets2 .given ∙ c .before .before .before .before .before .before .before .before .before .before .before .before .before .before .before .before .before .before .before .before .before .before .before .before .before .sets .given
+
+returns-4 : tie.Need-returns-4
+returns-4 c =
+    let a = c .before .before .before .before .before .before .before .before .before .before .before .before .before .before .before .before .before .before .before .before .before .before .before .before .before .before .before .before .before .before .before .before .before .before .before .before .before .args in
+    let t = told (c .before .before .before .before .before .before .before .before .before) in
+    stored-written (a .job .now) (a .out .now) (a .words .now) (a .sets .now)
+    (c .before .before .before .before .before .store-file .last .1 .1 .1 .1 .0) (c .before .before .before .before .before .store-file .last .0) (c .before .before .before .before .before .before .before .before .before .before .before .before .before .before .before .visit-term .last .1 .0)
+    (c .before .before .out .given) (c .before .before .before .before .words3 .given ∙ c .before .before .before .before .before .before .before .before .before .before .before .before .before .before .words2 .given ∙ c .before .before .before .before .before .before .before .before .before .before .before .before .before .before .before .before .before .before .before .before .words .given) (c .before .before .before .before .before .before .before .before .before .before .before .before .sets2 .given ∙ c .before .before .before .before .before .before .before .before .before .before .before .before .before .before .before .before .before .before .before .before .before .before .before .before .before .sets .given)
+    (none (c .before .before .before .before .before .before .before .before .before .before .before .before .before .before .before .before .before .before .before .before .before .before .before .before .before .before .before .before .before)) (early (c .before .before .before .before .before .before .before .before .before .before .before .before .before .before .before .before .before .before .before .before .before .before .before))
+    (c .before .before .before .before .before .before .before .before .before .before .before .before .before .before .before .visit-term .last .0) (c .before .before .before .before .before .before .before .before .before .visited .given .0 .0) (c .before .before .before .before .before .before .before .before .before .before .before .before .before .before .before .before .before .before .word-at .result) (c .before .before .before .before .before .before .before .before .before .visited .given .0 .1 .0) (c .bytes .result)
+    (c .before .before .before .before .before .before .before .before .before .before .before .before .before .before .before .before .before .before .word-at .ensures .0) t (c .bytes .ensures) (c .before .before .before .before .before .store-file .ensures .2)
+
+pub store-job-spec : {M : Type 1} → statement M
+store-job-spec =
+    tie.close
+    (tie.spec
+    long-enough-requires
+    tables-fault-requires
+    returns
+    counts-requires
+    job-fault-requires
+    same-length
+    returns-2
+    copy-job-requires
+    word-at-requires
+    visit-term-requires
+    enum-told
+    enum-known-visited
+    store-file-requires
+    bytes-requires
+    same-length-2
+    same-length-3
+    returns-3
+    same-length-4
+    same-length-5
+    same-length-6
+    returns-4)

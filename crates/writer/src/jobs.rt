@@ -1,0 +1,84 @@
+// The checks of a job after 1 to 9, and its way into the scratch.
+ghost use mathlib.Core.Path.{_≡_};
+ghost use mathlib.Core.Bool.{not};
+ghost use Prim.Native.Nat.{ℕ, _+_, _*_, _≤_};
+ghost use lib.ListN.{length};
+ghost use Rattle.bundle.specs.Limits.{limits, wordsOf};
+ghost use Rattle.bundle.specs.File.{Whole, bundleAt};
+ghost use Rattle.sets.specs.Sets.{member};
+ghost use Rattle.logic.specs.Tests.{upTo, firstFailing};
+ghost use Rattle.arena.specs.Scratch.{bundleIn};
+ghost use Rattle.writer.specs.Expansion.{earlyTests};
+use arena::sections::copy_section;
+use bundle::Bundle;
+use bundle::words::word_at;
+
+// Whether no variable up to v is in the set at word `at`.
+fn is_closed(sets: &[u64], at: usize, n: usize, variables: usize) -> bool
+    requires { ⌜ at + n ≤ length (now sets) ⌝ }
+    ensures { λ r. ⌜ r ≡ upTo variables (λ x. not (member (now (sets .entry)) at n x)) ⌝ }
+{
+    let mut v = variables;
+    while v != 0 {
+        if sets::member(sets, at, n, v) {
+            return false;
+        }
+        v -= 1;
+    }
+    true
+}
+
+// 18, 15, 17: what is wrong with a job, 0 where nothing is. The free sets are written into the lent words.
+pub fn job_fault(job: &[u8], b: Bundle, sets: &mut [u64]) -> usize
+    requires { ⌜ Whole (now job) b × (b .terms ≤ length (now sets)) ⌝ }
+    ensures { λ r. ⌜ (length (now (sets .exit)) ≡ length (now (sets .entry))) × (r ≡ firstFailing (earlyTests (bundleAt (now (job .entry)) b))) ⌝ }
+{
+    let left = word_at(job, 7);
+    let right = word_at(job, 8);
+    let contexts = b.contexts;
+    let steps = b.steps;
+    let terms = b.terms;
+    if !((contexts == 0) & (steps == 0) & (right == 0)) {
+        return 18;
+    }
+    if !((0 < left) & (left <= terms)) {
+        return 15;
+    }
+    tables::free::free_sets(job, b, sets, Bundle::SET_WORDS);
+    if !is_closed(
+        sets,
+        Bundle::SET_WORDS * (left - 1),
+        Bundle::SET_WORDS,
+        b.variables,
+    ) {
+        return 17;
+    }
+    0
+}
+
+// Copies the header and every section of the job into its place in the scratch.
+pub fn copy_job(job: &[u8], b: Bundle, words: &mut [u32])
+    requires { ⌜ Whole (now job) b × (wordsOf limits ≤ length (now words)) ⌝ }
+    ensures { λ _. ⌜ (length (now (words .exit)) ≡ length (now (words .entry))) × (bundleIn (now (words .exit)) b ≡ bundleAt (now (job .entry)) b) ⌝ }
+{
+    let room = Bundle::largest();
+    copy_section(job, 0, words, 0, 9);
+    copy_section(job, b.symbols_at(), words, room.symbols_at(), 2 * b.symbols);
+    copy_section(
+        job,
+        b.variables_at(),
+        words,
+        room.variables_at(),
+        b.variables,
+    );
+    copy_section(job, b.terms_at(), words, room.terms_at(), 4 * b.terms);
+    copy_section(job, b.links_at(), words, room.links_at(), 2 * b.links);
+    copy_section(
+        job,
+        b.contexts_at(),
+        words,
+        room.contexts_at(),
+        4 * b.contexts,
+    );
+    copy_section(job, b.steps_at(), words, room.steps_at(), 5 * b.steps);
+}
