@@ -1,4 +1,4 @@
-/* Nezkaldo: a proved checker of rewriting derivations.
+/* Nezkaldo: a proved checker of rewriting derivations, and a proved writer of them.
  *
  * Link with target/staticlib/libnezkaldo.a (built by `rt staticlib nezkaldo`, x86-64 Linux).
  * The calls allocate nothing, keep no state and may run in several threads at once on areas of their own. */
@@ -23,6 +23,21 @@ extern "C" {
  *
  * Both pointers are never null; with length 0 they may point anywhere that is aligned. The areas do not overlap. */
 uint64_t nezkaldo_check(const uint8_t *file, size_t file_length, uint64_t *free, size_t free_length);
+
+/* Expands the lets of the rule of the job at `job`: a bundle with no contexts, no steps and right 0, whose left is the rule.
+ *
+ * Returns the length of the file that now stands at the start of `out`, at most 58,148: nezkaldo_check accepts it, its left is the rule, its
+ * right holds no let. Else number * 2^32 + record of the first check of document 01 that fails (record 0 for 1 to 4 and
+ * 15 to 18), which is at least 2^32.
+ *
+ * Lent for writing, with anything in them before: `out`, at least 58,148 bytes; `words`, at least 14,537 words of 32 bits; `sets`, at least 1,024
+ * words of 64 bits (else 4). `words` and `sets` come back zero. Written: `out` is the file, then zeros. Refused: `out` is zero.
+ *
+ * The visit of a term calls itself as deep as the rule nests: give the thread 4 MB of stack (1,023 nested terms take about 1.3 MB).
+ *
+ * No pointer is null; with length 0 it may point anywhere that is aligned. The areas do not overlap. */
+uint64_t nezkaldo_expand(
+    const uint8_t *job, size_t job_length, uint8_t *out, size_t out_length, uint32_t *words, size_t words_length, uint64_t *sets, size_t sets_length);
 
 #ifdef __cplusplus
 }
