@@ -98,7 +98,7 @@ pub fn time_check(
     let terms = counts_of(file).map_or(0, |counts| counts[Section::Terms]) as usize;
     let mut area = vec![0u64; terms];
     let mut copy = vec![0u8; file.len()];
-    let mut once = |check: Checker| {
+    let once = |check: Checker| {
         area.fill(0);
         let begun = Instant::now();
         let answer = check(black_box(file), black_box(&mut area));
@@ -106,13 +106,7 @@ pub fn time_check(
         assert_eq!(answer, 0, "the files of the benchmark are accepted");
         time
     };
-    let (mut proved_times, mut rust_times) = (Times::default(), Times::default());
-    while rust_times.total < budget || proved.is_some() && proved_times.total < budget {
-        rust_times.add(once(rust));
-        if let Some(proved) = proved {
-            proved_times.add(once(proved));
-        }
-    }
+    let (mut proved_times, mut rust_times) = in_turn(once, proved, rust, budget);
     let mut copy_times = Times::default();
     while copy_times.total < budget / 8 {
         // One copy is too short for the clock.
@@ -144,7 +138,7 @@ pub fn time_writer(
     let job = to_bytes(&jobs::of_size(bytes));
     let file = written(&job).expect("the job was made to fit");
     let (mut out, mut words, mut sets) = (vec![0; MAX_BYTES], vec![0; MAX_WORDS], vec![0; SETS]);
-    let mut once = |write: Writer| {
+    let once = |write: Writer| {
         clear(&mut out, &mut words, &mut sets);
         let begun = Instant::now();
         let answer = write(black_box(&job), &mut out, &mut words, &mut sets);
@@ -152,13 +146,7 @@ pub fn time_writer(
         assert_eq!(answer, file.len() as u64, "the jobs of the benchmark are written");
         time
     };
-    let (mut proved_times, mut rust_times) = (Times::default(), Times::default());
-    while rust_times.total < budget || proved.is_some() && proved_times.total < budget {
-        rust_times.add(once(rust));
-        if let Some(proved) = proved {
-            proved_times.add(once(proved));
-        }
-    }
+    let (mut proved_times, mut rust_times) = in_turn(once, proved, rust, budget);
     let mut clear_times = Times::default();
     while clear_times.total < budget / 8 {
         let begun = Instant::now();
@@ -173,6 +161,23 @@ pub fn time_writer(
         proved: proved.map(|_| proved_times.median()),
         rust: rust_times.median(),
     }
+}
+
+/// Times the two in turn, for about `budget` each.
+fn in_turn<P: Copy>(
+    mut once: impl FnMut(P) -> Duration,
+    proved: Option<P>,
+    rust: P,
+    budget: Duration,
+) -> (Times, Times) {
+    let (mut proved_times, mut rust_times) = (Times::default(), Times::default());
+    while rust_times.total < budget || proved.is_some() && proved_times.total < budget {
+        rust_times.add(once(rust));
+        if let Some(proved) = proved {
+            proved_times.add(once(proved));
+        }
+    }
+    (proved_times, rust_times)
 }
 
 fn clear(out: &mut [u8], words: &mut [u32], sets: &mut [u64]) {

@@ -8,10 +8,9 @@ use crate::eval::{claim_holds, steps_hold};
 use crate::generate::{Case, Family, case};
 use crate::naive;
 use crate::rng::Rng;
-use std::collections::BTreeMap;
-use std::fmt;
+use crate::tally::{ENOUGH, Tally, keep};
 use std::path::{Path, PathBuf};
-use std::{fs, io};
+use std::{fmt, io};
 
 /// A check as the proved library offers it: 0 where accepted, else
 /// number * 2^32 + record; the area is written.
@@ -78,11 +77,7 @@ pub struct Report {
     pub files: u64,
     pub bytes: u64,
     pub calls: u64,
-    /// Files by the answer's number at an area of T words; 0 is accepted.
-    pub by_number: BTreeMap<u64, u64>,
-    /// Calls by the answer's number, all areas together.
-    pub calls_by_number: BTreeMap<u64, u64>,
-    pub by_family: BTreeMap<Family, u64>,
+    pub tally: Tally<Family>,
     /// Accepted claims that were tried in worlds, and those of them that were
     /// tried in every world of one and two items.
     pub claims: u64,
@@ -100,23 +95,17 @@ pub fn numbers() -> impl Iterator<Item = Reason> {
     Reason::ALL.into_iter().take_while(|&reason| reason <= Reason::Claim)
 }
 
-/// Stop after so many differences.
-const ENOUGH: usize = 10;
-
 impl Report {
     /// Compares on one file and counts it.
     pub fn add(&mut self, subject: Checker, reference: Checker, index: u64, case: &Case) {
         self.files += 1;
         self.bytes += case.bytes.len() as u64;
-        *self.by_family.entry(case.family).or_default() += 1;
+        self.tally.add_family(case.family);
         for (place, length) in areas(&case.bytes).into_iter().enumerate() {
             let (expected, expected_area) = call(reference, &case.bytes, length, index);
             let (found, area) = call(subject, &case.bytes, length, index);
             self.calls += 1;
-            *self.calls_by_number.entry(expected >> 32).or_default() += 1;
-            if place == 0 {
-                *self.by_number.entry(expected >> 32).or_default() += 1;
-            }
+            self.tally.add_call(expected, place == 0);
             let same = (found, &area) == (expected, &expected_area);
             let falsehood = match expected {
                 0 if place == 0 && case.bytes.len() <= SMALL => self.try_in_worlds(index, case),
@@ -158,12 +147,7 @@ impl Report {
 
     /// The numbers of the checker's table answered fewer than `least` times.
     pub fn unseen(&self, least: u64) -> Vec<u32> {
-        numbers()
-            .map(Reason::number)
-            .filter(|&number| {
-                self.calls_by_number.get(&u64::from(number)).copied().unwrap_or(0) < least
-            })
-            .collect()
+        self.tally.unseen(numbers(), least)
     }
 
     pub fn agrees(&self) -> bool {
@@ -186,10 +170,8 @@ pub fn run(
         let before = report.differences.len();
         report.add(subject, reference, index, &case);
         if let (Some(difference), Some(folder)) = (report.differences.get_mut(before), failures) {
-            let path = folder.join(format!("seed-{seed}-file-{index}.bin"));
-            fs::create_dir_all(folder)?;
-            fs::write(&path, &case.bytes)?;
-            difference.written = Some(path);
+            let name = format!("seed-{seed}-file-{index}.bin");
+            difference.written = Some(keep(folder, name, &case.bytes)?);
         }
         if report.differences.len() >= ENOUGH {
             break;
@@ -201,20 +183,7 @@ pub fn run(
 impl fmt::Display for Report {
     fn fmt(&self, out: &mut fmt::Formatter<'_>) -> fmt::Result {
         writeln!(out, "{} files, {} bytes, {} calls", self.files, self.bytes, self.calls)?;
-        let families: Vec<String> =
-            self.by_family.iter().map(|(family, count)| format!("{family:?} {count}")).collect();
-        writeln!(out, "families: {}", families.join(", "))?;
-        writeln!(out, "{:>6} {:>9} {:>9}  when", "answer", "files", "calls")?;
-        let count = |map: &BTreeMap<u64, u64>, number| map.get(&number).copied().unwrap_or(0);
-        let mut row = |number: u64, text: &str| {
-            let (files, calls) =
-                (count(&self.by_number, number), count(&self.calls_by_number, number));
-            writeln!(out, "{number:>6} {files:>9} {calls:>9}  {text}")
-        };
-        row(0, "accepted")?;
-        for reason in numbers() {
-            row(u64::from(reason.number()), reason.text())?;
-        }
+        self.tally.write(out, "files", "accepted", numbers())?;
         writeln!(
             out,
             "{} accepted claims tried in worlds, {} of them in every world of 1 and 2 items",

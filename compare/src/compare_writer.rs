@@ -3,17 +3,15 @@
 
 use crate::answer::{Packed, Reason, Refusal};
 use crate::bundle::{LEFT, MAX_BYTES, MAX_WORDS, RIGHT, Section, counts_of, to_words};
-use crate::check::check;
-use crate::compare::{SMALL, WORLDS};
+use crate::compare::{Checker, SMALL, WORLDS};
 use crate::eval::claim_holds;
 use crate::expand::SETS;
 use crate::generate::jobs::{Job, JobFamily, job};
 use crate::naive::{Plain, Tree, load};
 use crate::rng::Rng;
-use std::collections::BTreeMap;
-use std::fmt;
+use crate::tally::{ENOUGH, Tally, keep};
 use std::path::{Path, PathBuf};
-use std::{fs, io};
+use std::{fmt, io};
 
 /// A writer as the proved library offers it: the length where written, else
 /// number * 2^32 + record; the output and both scratch areas are written.
@@ -84,10 +82,7 @@ pub struct Report {
     pub jobs: u64,
     pub calls: u64,
     pub written_bytes: u64,
-    /// Jobs by the answer's number with areas just long enough; 0 is written.
-    pub by_number: BTreeMap<u64, u64>,
-    pub calls_by_number: BTreeMap<u64, u64>,
-    pub by_family: BTreeMap<JobFamily, u64>,
+    pub tally: Tally<JobFamily>,
     pub differences: Vec<Difference>,
 }
 
@@ -97,25 +92,29 @@ pub fn numbers() -> impl Iterator<Item = Reason> {
     Reason::ALL.into_iter().filter(move |reason| !checks_of_steps.contains(reason))
 }
 
-const ENOUGH: usize = 10;
-
 impl Report {
-    pub fn add(&mut self, subject: Writer, reference: Writer, index: u64, job: &Job) {
+    /// Compares on one job and counts it. A written file has to be accepted by each
+    /// of the checkers.
+    pub fn add(
+        &mut self,
+        subject: Writer,
+        reference: Writer,
+        checkers: &[Checker],
+        index: u64,
+        job: &Job,
+    ) {
         self.jobs += 1;
-        *self.by_family.entry(job.family).or_default() += 1;
+        self.tally.add_family(job.family);
         for (place, lengths) in lengths(index).into_iter().enumerate() {
             let (expected, expected_areas) = call(reference, &job.bytes, lengths, index);
             let (found, areas) = call(subject, &job.bytes, lengths, index);
             self.calls += 1;
-            *self.calls_by_number.entry(expected >> 32).or_default() += 1;
-            if place == 0 {
-                *self.by_number.entry(expected >> 32).or_default() += 1;
-            }
+            self.tally.add_call(expected, place == 0);
             let mut problem = difference(found, &areas, expected, &expected_areas);
             if expected >> 32 == 0 && place == 0 {
                 self.written_bytes += expected;
                 let file = &areas.out[..(found as usize).min(areas.out.len())];
-                problem = problem.or_else(|| misfit(&job.bytes, file));
+                problem = problem.or_else(|| misfit(checkers, &job.bytes, file));
             }
             if let Some(text) = problem {
                 let text = format!("areas of {lengths:?}: {text}");
@@ -131,12 +130,7 @@ impl Report {
     }
 
     pub fn unseen(&self, least: u64) -> Vec<u32> {
-        numbers()
-            .map(Reason::number)
-            .filter(|&number| {
-                self.calls_by_number.get(&u64::from(number)).copied().unwrap_or(0) < least
-            })
-            .collect()
+        self.tally.unseen(numbers(), least)
     }
 
     pub fn agrees(&self) -> bool {
@@ -164,12 +158,15 @@ fn first_difference<T: PartialEq>(one: &[T], other: &[T]) -> Option<usize> {
     if one == other { None } else { one.iter().zip(other).position(|(a, b)| a != b) }
 }
 
-/// What is wrong with a written file: it has to be accepted, keep the job's
-/// records and left, have a right side without lets, and hold in worlds.
-pub fn misfit(job: &[u8], file: &[u8]) -> Option<String> {
+/// What is wrong with a written file: every checker has to accept it; it has to keep
+/// the job's records and left, have a right side without lets, and hold in worlds.
+pub fn misfit(checkers: &[Checker], job: &[u8], file: &[u8]) -> Option<String> {
     let mut free = vec![0; Section::Terms.limit() as usize];
-    if let Err(refusal) = check(file, &mut free) {
-        return Some(format!("the written file is {refusal}"));
+    for (place, check) in checkers.iter().enumerate() {
+        let answer = check(file, &mut free);
+        if answer != 0 {
+            return Some(format!("the written file is {} by checker {place}", Packed(answer)));
+        }
     }
     let (Some(old), Some(new)) = (counts_of(job), counts_of(file)) else {
         return Some("a header is missing".into());
@@ -215,6 +212,7 @@ pub fn holds_let(plain: &Plain, term: u32) -> bool {
 pub fn run(
     subject: Writer,
     reference: Writer,
+    checkers: &[Checker],
     seed: u64,
     jobs: u64,
     failures: Option<&Path>,
@@ -223,12 +221,10 @@ pub fn run(
     for index in 0..jobs {
         let job = job(seed, index);
         let before = report.differences.len();
-        report.add(subject, reference, index, &job);
+        report.add(subject, reference, checkers, index, &job);
         if let (Some(difference), Some(folder)) = (report.differences.get_mut(before), failures) {
-            let path = folder.join(format!("seed-{seed}-job-{index}.bin"));
-            fs::create_dir_all(folder)?;
-            fs::write(&path, &job.bytes)?;
-            difference.written = Some(path);
+            let name = format!("seed-{seed}-job-{index}.bin");
+            difference.written = Some(keep(folder, name, &job.bytes)?);
         }
         if report.differences.len() >= ENOUGH {
             break;
@@ -244,20 +240,7 @@ impl fmt::Display for Report {
             "{} jobs, {} calls, {} bytes written",
             self.jobs, self.calls, self.written_bytes
         )?;
-        let families: Vec<String> =
-            self.by_family.iter().map(|(family, count)| format!("{family:?} {count}")).collect();
-        writeln!(out, "families: {}", families.join(", "))?;
-        writeln!(out, "{:>6} {:>9} {:>9}  when", "answer", "jobs", "calls")?;
-        let count = |map: &BTreeMap<u64, u64>, number| map.get(&number).copied().unwrap_or(0);
-        let mut row = |number: u64, text: &str| {
-            let (jobs, calls) =
-                (count(&self.by_number, number), count(&self.calls_by_number, number));
-            writeln!(out, "{number:>6} {jobs:>9} {calls:>9}  {text}")
-        };
-        row(0, "written")?;
-        for reason in numbers() {
-            row(u64::from(reason.number()), reason.text())?;
-        }
+        self.tally.write(out, "jobs", "written", numbers())?;
         for difference in &self.differences {
             writeln!(out, "DIFFERENCE: {difference}")?;
         }

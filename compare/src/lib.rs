@@ -19,3 +19,4 @@ pub mod naive_expand;
 pub mod plot;
 pub mod report;
 pub mod rng;
+pub mod tally;

@@ -97,7 +97,7 @@ fn run_compare(arguments: &Arguments) -> Result<ExitCode, String> {
     };
     let mut good = compare_checks(checker, seed, files, least, &failures)?;
     match writer {
-        Some(writer) => good &= compare_jobs(writer, seed, jobs, least, &failures)?,
+        Some(writer) => good &= compare_jobs(writer, checker, seed, jobs, least, &failures)?,
         None => println!("the library has no nezkaldo_expand: no jobs compared"),
     }
     println!("{}", if good { "no difference" } else { "FAILED" });
@@ -114,17 +114,22 @@ fn compare_checks(
     let begun = Instant::now();
     let report = compare::run(subject, &exact_check, seed, files, Some(failures))
         .map_err(|error| format!("cannot write into {}: {error}", failures.display()))?;
-    print!("{report}");
-    println!("seed {seed}, {:.1} s", begun.elapsed().as_secs_f64());
-    let unseen = report.unseen(least);
+    print!("{report}seed {seed}, {:.1} s\n", begun.elapsed().as_secs_f64());
+    Ok(report.agrees() & all_seen(&report.unseen(least), least))
+}
+
+/// Says which numbers were answered too seldom.
+fn all_seen(unseen: &[u32], least: u64) -> bool {
     if !unseen.is_empty() {
         println!("seen fewer than {least} times: {unseen:?}");
     }
-    Ok(report.agrees() && unseen.is_empty())
+    unseen.is_empty()
 }
 
+/// Every written file has to be accepted by `checker` and by the Rust checker.
 fn compare_jobs(
     subject: Writer,
+    checker: Checker,
     seed: u64,
     jobs: u64,
     least: u64,
@@ -134,15 +139,17 @@ fn compare_jobs(
         return Ok(true);
     }
     let begun = Instant::now();
-    let report = compare_writer::run(subject, &exact_expand, seed, jobs, Some(failures))
-        .map_err(|error| format!("cannot write into {}: {error}", failures.display()))?;
-    print!("{report}");
-    println!("seed {seed}, {:.1} s", begun.elapsed().as_secs_f64());
-    let unseen = report.unseen(least);
-    if !unseen.is_empty() {
-        println!("seen fewer than {least} times: {unseen:?}");
-    }
-    Ok(report.agrees() && unseen.is_empty())
+    let report = compare_writer::run(
+        subject,
+        &exact_expand,
+        &[checker, &exact_check],
+        seed,
+        jobs,
+        Some(failures),
+    )
+    .map_err(|error| format!("cannot write into {}: {error}", failures.display()))?;
+    print!("{report}seed {seed}, {:.1} s\n", begun.elapsed().as_secs_f64());
+    Ok(report.agrees() & all_seen(&report.unseen(least), least))
 }
 
 fn run_mutants(arguments: &Arguments) -> Result<ExitCode, String> {

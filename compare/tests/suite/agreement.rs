@@ -26,7 +26,15 @@ fn the_two_readings_agree_on_files() {
 
 #[test]
 fn the_two_readings_agree_on_jobs() {
-    let report = compare_writer::run(&plain_expand, &exact_expand, SEED, JOBS, failures()).unwrap();
+    let report = compare_writer::run(
+        &plain_expand,
+        &exact_expand,
+        &[&plain, &exact],
+        SEED,
+        JOBS,
+        failures(),
+    )
+    .unwrap();
     assert!(report.agrees(), "{report}");
     assert_eq!(report.unseen(1), [], "{report}");
 }
@@ -44,11 +52,13 @@ fn the_proved_check_agrees() {
 
 #[test]
 fn the_proved_writer_agrees() {
-    let Some(proved) = ffi::proved_expand() else {
+    let (Some(proved), Some(checker)) = (ffi::proved_expand(), ffi::proved_check()) else {
         eprintln!("no proved writer in this build: not compared");
         return;
     };
-    let report = compare_writer::run(proved, &exact_expand, SEED, JOBS, failures()).unwrap();
+    let report =
+        compare_writer::run(proved, &exact_expand, &[checker, &exact], SEED, JOBS, failures())
+            .unwrap();
     assert!(report.agrees(), "{report}");
     assert_eq!(report.unseen(1), [], "{report}");
 }

@@ -1,5 +1,6 @@
 //! The writer: its refusals in order, its areas, its limits.
 
+use crate::exact;
 use nezkaldo_compare::answer::{Reason, Refusal};
 use nezkaldo_compare::bundle::{LEFT, MAX_BYTES, MAX_WORDS, RIGHT, Section, counts_of, to_bytes};
 use nezkaldo_compare::compare_writer::misfit;
@@ -80,7 +81,7 @@ fn each_section_fits_to_its_limit() {
             let fits = to_bytes(&job(Rng::new(seed), section.limit()));
             let file = written(&fits).expect("the limit itself fits");
             assert_eq!(counts_of(&file).unwrap()[section], section.limit());
-            assert_eq!(misfit(&fits, &file), None);
+            assert_eq!(misfit(&[&exact], &fits, &file), None);
             assert_eq!(reason(&job(Rng::new(seed), section.limit() + 1)), Some(Reason::Full));
         }
     }

@@ -1,4 +1,4 @@
--- Document 01's examples ('Sawn examples') as rows of one table: a file, by its bytes, what `judge` answers, and what is left in the lent area.
+-- Document 01's twelve examples as rows of one table: a file, by its bytes, what `judge` answers, and what is left in the lent area.
 --     rows            the table, in document 01's order
 --     ExamplesRight   THE STATEMENT: every row is right; proofs/ has it under the name `examples-right`
 -- Every accepted claim here is closed and of sort truth.
