@@ -1,7 +1,7 @@
 //! The benchmark: the proved check and the Rust checker on the same files, in
 //! turn, with the time to copy the file as the floor.
 
-use crate::bundle::{MAX_BYTES, MAX_WORDS, Section, counts_of, to_bytes};
+use crate::bundle::{MAX_BYTES, MAX_WORDS, Section, counts_of, to_bytes, to_words};
 use crate::compare::Checker;
 use crate::compare_writer::Writer;
 use crate::expand::{SETS, written};
@@ -15,13 +15,19 @@ use std::time::{Duration, Instant};
 pub struct Subject {
     pub name: String,
     pub file: Vec<u8>,
+    pub terms: u32,
     pub steps: u32,
 }
 
 impl Subject {
     fn new(name: &str, file: Vec<u8>) -> Self {
-        let steps = counts_of(&file).map_or(0, |counts| counts[Section::Steps]);
-        Subject { name: name.into(), file, steps }
+        let counts = counts_of(&file).unwrap_or_default();
+        Subject {
+            name: name.into(),
+            file,
+            terms: counts[Section::Terms],
+            steps: counts[Section::Steps],
+        }
     }
 }
 
@@ -30,6 +36,7 @@ impl Subject {
 pub struct Row {
     pub name: String,
     pub bytes: usize,
+    pub terms: u32,
     pub steps: u32,
     pub copy: f64,
     pub proved: Option<f64>,
@@ -42,8 +49,30 @@ impl Row {
         self.proved.map(|proved| proved / self.rust)
     }
 
-    pub fn per_step(&self, time: f64) -> f64 {
-        1000.0 * time / f64::from(self.steps.max(1))
+    /// How many copies of the file the proved check takes.
+    pub fn copies(&self) -> Option<f64> {
+        self.proved.map(|proved| proved / self.copy)
+    }
+}
+
+/// What a time is shared out to: the terms or the steps of a file.
+#[derive(Clone, Copy, Debug, PartialEq, Eq)]
+pub enum Share {
+    Term,
+    Step,
+}
+
+impl Share {
+    pub fn count(self, row: &Row) -> u32 {
+        match self {
+            Share::Term => row.terms,
+            Share::Step => row.steps,
+        }
+    }
+
+    /// In nanoseconds.
+    pub fn of(self, row: &Row, time: f64) -> f64 {
+        1000.0 * time / f64::from(self.count(row).max(1))
     }
 }
 
@@ -66,6 +95,7 @@ pub fn subjects() -> Vec<Subject> {
         .iter()
         .map(|&(name, bytes)| Subject::new(name, expansion(jobs::of_size(bytes))))
         .collect();
+    subjects.push(Subject::new(FULL, full()));
     let made = |name: &str, words: Vec<u32>| Subject::new(name, to_bytes(&words));
     subjects.push(made("deep contexts (256)", large::deep_contexts(rng(), 256, 1024)));
     subjects.push(made("long lists (2,048 links)", large::full_lists(rng())));
@@ -74,16 +104,49 @@ pub fn subjects() -> Vec<Subject> {
     subjects
 }
 
-/// Expansions with about 64 to 1,024 steps.
-pub fn doubling() -> Vec<Subject> {
+/// The name of the file that is full.
+pub const FULL: &str = "full file";
+
+/// The largest expansion, filled up: every section has as many records as it may.
+fn full() -> Vec<u8> {
+    let file = expansion(jobs::of_size(MAX_BYTES));
+    let counts = counts_of(&file).unwrap_or_default();
+    let words = to_words(&file);
+    let mut filled = words[..counts.start(Section::Symbols)].to_vec();
+    for (place, section) in Section::ALL.into_iter().enumerate() {
+        let start = counts.start(section);
+        let records = &words[start..start + counts[section] as usize * section.width()];
+        filled.extend(records);
+        // A symbol of truth, a variable of truth, a link at the end of a list, a context that fixes
+        // variable 1, the claim's step once more. No term: the expansion has them all.
+        let more: &[u32] = match section {
+            Section::Symbols => &[0, 0],
+            Section::Variables => &[0],
+            Section::Terms => &[],
+            Section::Links => &[1, 0],
+            Section::Contexts => &[1, 1, 0, 0],
+            Section::Steps => &records[records.len() - section.width()..],
+        };
+        for _ in counts[section]..section.limit() {
+            filled.extend(more);
+        }
+        filled[1 + place] = section.limit();
+    }
+    to_bytes(&filled)
+}
+
+/// Files with 64 to 1,024 terms, or expansions with about so many steps.
+pub fn doubling(share: Share) -> Vec<Subject> {
+    let file = |most: u32| match share {
+        Share::Term => to_bytes(&large::many_terms(Rng::new(1), most)),
+        Share::Step => expansion(jobs::largest(|file| {
+            counts_of(file).is_some_and(|counts| counts[Section::Steps] <= most)
+        })),
+    };
+    let unit = if share == Share::Term { "terms" } else { "steps" };
     [64, 128, 256, 512, 1024]
         .into_iter()
-        .map(|steps| {
-            let job = jobs::largest(|file| {
-                counts_of(file).is_some_and(|counts| counts[Section::Steps] <= steps)
-            });
-            Subject::new(&format!("{steps} steps"), expansion(job))
-        })
+        .map(|most| Subject::new(&format!("{most} {unit}"), file(most)))
         .collect()
 }
 
@@ -120,6 +183,7 @@ pub fn time_check(
     Row {
         name: subject.name.clone(),
         bytes: file.len(),
+        terms: subject.terms,
         steps: subject.steps,
         copy: copy_times.median() / 16.0,
         proved: proved.map(|_| proved_times.median()),
@@ -153,10 +217,12 @@ pub fn time_writer(
         clear(black_box(&mut out), black_box(&mut words), black_box(&mut sets));
         clear_times.add(begun.elapsed());
     }
+    let counts = counts_of(&file).unwrap_or_default();
     Row {
         name: name.into(),
         bytes: file.len(),
-        steps: counts_of(&file).map_or(0, |counts| counts[Section::Steps]),
+        terms: counts[Section::Terms],
+        steps: counts[Section::Steps],
         copy: clear_times.median(),
         proved: proved.map(|_| proved_times.median()),
         rust: rust_times.median(),
@@ -215,7 +281,8 @@ mod tests {
     #[test]
     fn subjects_are_what_they_say() {
         let subjects = subjects();
-        for subject in subjects.iter().chain(&doubling()) {
+        let (terms, steps) = (doubling(Share::Term), doubling(Share::Step));
+        for subject in subjects.iter().chain(&terms).chain(&steps) {
             let mut area = vec![0; 1024];
             assert!(check(&subject.file, &mut area).is_ok(), "{}", subject.name);
         }
@@ -224,10 +291,14 @@ mod tests {
             assert!((1000 * kb..1100 * kb).contains(&size), "{size} bytes for {kb} KB");
         }
         let counts = |place: usize| counts_of(&subjects[place].file).unwrap_or_default();
-        assert_eq!(counts(4)[Section::Contexts], 256);
-        assert_eq!(counts(5)[Section::Links], 2048);
-        for (subject, most) in doubling().iter().zip([64, 128, 256, 512, 1024]) {
-            assert!((most * 8 / 10..=most).contains(&subject.steps), "{} of {most}", subject.steps);
+        assert_eq!(subjects[4].file.len(), MAX_BYTES);
+        assert_eq!(counts(5)[Section::Contexts], 256);
+        assert_eq!(counts(6)[Section::Links], 2048);
+        for (share, subjects) in [(Share::Term, terms), (Share::Step, steps)] {
+            for (subject, most) in subjects.iter().zip([64, 128, 256, 512, 1024]) {
+                let count = if share == Share::Term { subject.terms } else { subject.steps };
+                assert!((most * 8 / 10..=most).contains(&count), "{count} of {most}");
+            }
         }
     }
 }

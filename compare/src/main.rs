@@ -3,6 +3,7 @@
 mod arguments;
 
 use arguments::Arguments;
+use nezkaldo_compare::bench::Share;
 use nezkaldo_compare::compare::Checker;
 use nezkaldo_compare::compare_writer::Writer;
 use nezkaldo_compare::mutants::Verdict;
@@ -26,6 +27,7 @@ usage: compare COMMAND [OPTIONS]
            [--self]             a second, plain Rust reading instead of the library
   mutants  --files N --seed S   how the broken copies are told apart
   bench    [--ms N]             time for each measurement (default 120)
+           [--only TEXT]        only rows whose name has this text
            [--write DIR]        write BENCHMARK.md and benchmark.svg there
   check    [FILE]               judge a file, or standard input
   expand   JOB FILE             write the expansion of a job
@@ -176,15 +178,21 @@ fn print_verdicts(what: &str, verdicts: &[Verdict]) -> bool {
 }
 
 fn run_bench(arguments: &Arguments) -> Result<ExitCode, String> {
-    arguments.allow(&["ms", "write"], 0)?;
+    arguments.allow(&["ms", "only", "write"], 0)?;
+    let only = arguments.text("only").unwrap_or("");
     let budget = Duration::from_millis(arguments.number("ms", 120)?);
     let proved = ffi::proved_check();
     let check = |subject: &bench::Subject| bench::time_check(subject, proved, &exact_check, budget);
+    let rows = |subjects: Vec<bench::Subject>| {
+        subjects.iter().filter(|subject| subject.name.contains(only)).map(check).collect()
+    };
     let results = Results {
-        checks: bench::subjects().iter().map(check).collect(),
-        doubling: bench::doubling().iter().map(check).collect(),
+        checks: rows(bench::subjects()),
+        terms: rows(bench::doubling(Share::Term)),
+        doubling: rows(bench::doubling(Share::Step)),
         writers: bench::SIZES
             .into_iter()
+            .filter(|(name, _)| name.contains(only))
             .map(|size| bench::time_writer(size, ffi::proved_expand(), &exact_expand, budget))
             .collect(),
     };

@@ -1,7 +1,7 @@
 //! The benchmark as a picture: bars for each file, lines for the time a step.
 //! Both scales are logarithmic in time.
 
-use crate::bench::Row;
+use crate::bench::{Row, Share};
 use crate::report::{Results, number, thousands};
 use std::fmt::Write;
 
@@ -153,7 +153,7 @@ impl Picture {
 
     /// Time a step against steps.
     fn lines(&mut self, rows: &[Row], left: f64, right: f64) {
-        let of = |row: &Row, time: f64| row.per_step(time);
+        let of = |row: &Row, time: f64| Share::Step.of(row, time);
         let times = rows
             .iter()
             .flat_map(|row| [row.proved.map(|time| of(row, time)), Some(of(row, row.rust))])

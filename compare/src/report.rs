@@ -1,6 +1,6 @@
 //! The benchmark's tables, as text and as Markdown.
 
-use crate::bench::Row;
+use crate::bench::{FULL, Row, Share};
 use std::fmt::Write;
 use std::time::{SystemTime, UNIX_EPOCH};
 
@@ -8,6 +8,7 @@ use std::time::{SystemTime, UNIX_EPOCH};
 #[derive(Clone, Debug)]
 pub struct Results {
     pub checks: Vec<Row>,
+    pub terms: Vec<Row>,
     pub doubling: Vec<Row>,
     pub writers: Vec<Row>,
 }
@@ -30,13 +31,14 @@ impl Results {
         );
         if self.has_proved() {
             let ratios: Vec<f64> = self.checks.iter().filter_map(Row::ratio).collect();
-            let (least, most) = ratios.iter().fold((f64::MAX, 0.0f64), |(least, most), &ratio| {
-                (least.min(ratio), most.max(ratio))
-            });
+            let (least, most) = range(&ratios).unwrap_or_default();
             let _ = writeln!(
                 page,
                 "\nThe proved check takes {least:.2} to {most:.2} times as long as the Rust checker."
             );
+            for line in self.findings() {
+                let _ = writeln!(page, "{line}");
+            }
         } else {
             let _ = writeln!(page, "\n{MISSING}");
         }
@@ -47,10 +49,17 @@ impl Results {
              ![time for each file, and time a step](benchmark.svg)\n\n## Checking\n\n",
         );
         page.push_str(&table(&self.checks, "copy µs", true));
-        page.push_str("\n## Time a step as steps double\n\nExpansions of the same kind, nanoseconds a step.\n\n");
-        page.push_str(&step_table(&self.doubling, true));
+        page.push_str(
+            "\n## Time a term as terms double\n\nA term on the one before it again and again, and a CONG step for each; nanoseconds of the whole check a term.\n\n",
+        );
+        page.push_str(&share_table(&self.terms, Share::Term, true));
+        page.push_str(
+            "\n## Time a step as steps double\n\nExpansions of the same kind, nanoseconds of the whole check a step.\n\n",
+        );
+        page.push_str(&share_table(&self.doubling, Share::Step, true));
         page.push_str("\n## Writing\n\nThe largest jobs with files of these sizes; \"clear\" is the time to clear the three areas.\n\n");
         page.push_str(&table(&self.writers, "clear µs", true));
+        page.push_str(include_str!("bench_notes.md"));
         page
     }
 
@@ -62,11 +71,50 @@ impl Results {
         }
         text.push_str(&table(&self.checks, "copy µs", false));
         text.push('\n');
-        text.push_str(&step_table(&self.doubling, false));
+        text.push_str(&share_table(&self.terms, Share::Term, false));
+        text.push('\n');
+        text.push_str(&share_table(&self.doubling, Share::Step, false));
         text.push('\n');
         text.push_str(&table(&self.writers, "clear µs", false));
+        for line in self.findings() {
+            let _ = writeln!(text, "{line}");
+        }
         text
     }
+
+    /// What the run shows, where the proved library was there.
+    fn findings(&self) -> Vec<String> {
+        let mut lines = Vec::new();
+        let writers: Vec<f64> = self.writers.iter().filter_map(Row::ratio).collect();
+        if let Some((least, most)) = range(&writers) {
+            lines.push(format!(
+                "The proved writer takes {least:.2} to {most:.2} times as long as the Rust writer."
+            ));
+        }
+        for (share, rows, unit) in
+            [(Share::Term, &self.terms, "term"), (Share::Step, &self.doubling, "step")]
+        {
+            let times: Vec<f64> =
+                rows.iter().filter_map(|row| Some(share.of(row, row.proved?))).collect();
+            if let Some((least, most)) = range(&times) {
+                lines.push(format!(
+                    "The time a {unit} stays within {:.2} times from 64 to 1,024 {unit}s.",
+                    most / least
+                ));
+            }
+        }
+        let full = self.checks.iter().find(|row| row.name == FULL);
+        if let Some(copies) = full.and_then(Row::copies) {
+            lines.push(format!("A full file is checked in the time of {copies:.0} copies of it."));
+        }
+        lines
+    }
+}
+
+fn range(values: &[f64]) -> Option<(f64, f64)> {
+    let least = values.iter().copied().reduce(f64::min)?;
+    let most = values.iter().copied().reduce(f64::max)?;
+    Some((least, most))
 }
 
 fn table(rows: &[Row], floor: &str, markdown: bool) -> String {
@@ -90,20 +138,22 @@ fn table(rows: &[Row], floor: &str, markdown: bool) -> String {
     layout(&head, body.collect(), markdown)
 }
 
-fn step_table(rows: &[Row], markdown: bool) -> String {
+fn share_table(rows: &[Row], share: Share, markdown: bool) -> String {
     let proved = rows.iter().any(|row| row.proved.is_some());
-    let mut head = vec!["up to", "steps", "bytes"];
+    let unit = if share == Share::Term { "terms" } else { "steps" };
+    let mut head = vec!["up to", unit, "bytes"];
     head.extend(if proved { vec!["proved ns", "Rust ns", "ratio"] } else { vec!["Rust ns"] });
     let body = rows.iter().map(|row| {
-        let mut cells = vec![row.name.clone(), thousands(row.steps as usize), thousands(row.bytes)];
+        let count = share.count(row) as usize;
+        let mut cells = vec![row.name.clone(), thousands(count), thousands(row.bytes)];
         if let (Some(time), Some(ratio)) = (row.proved, row.ratio()) {
             cells.extend([
-                number(row.per_step(time)),
-                number(row.per_step(row.rust)),
+                number(share.of(row, time)),
+                number(share.of(row, row.rust)),
                 format!("{ratio:.2}"),
             ]);
         } else {
-            cells.push(number(row.per_step(row.rust)));
+            cells.push(number(share.of(row, row.rust)));
         }
         cells
     });
@@ -225,8 +275,15 @@ mod tests {
 
     #[test]
     fn tables_with_and_without_the_library() {
-        let row =
-            |proved| Row { name: "a".into(), bytes: 1024, steps: 4, copy: 0.05, proved, rust: 2.0 };
+        let row = |proved| Row {
+            name: "a".into(),
+            bytes: 1024,
+            terms: 2,
+            steps: 4,
+            copy: 0.05,
+            proved,
+            rust: 2.0,
+        };
         let alone = table(&[row(None)], "copy µs", true);
         assert!(alone.starts_with("| file | bytes | steps | copy µs | Rust µs |\n"));
         let both = table(&[row(Some(3.0))], "copy µs", true);

@@ -70,6 +70,24 @@ pub fn long_lists(rng: Rng, arguments: usize, steps: u32) -> Vec<u32> {
     b.claim_last()
 }
 
+/// `count` terms, each a symbol of one argument on one before it, and a CONG step
+/// for each.
+pub fn many_terms(rng: Rng, count: u32) -> Vec<u32> {
+    let mut b = Builder::new(rng, 100);
+    let a = b.symbol(ITEM, &[]);
+    let symbols: [u32; 8] = std::array::from_fn(|_| b.symbol(ITEM, &[ITEM]));
+    let mut terms = vec![b.apply(a, &[])];
+    let mut last = b.add_step(CONG, 0, terms[0], terms[0], &[]);
+    while (terms.len() as u32) < count {
+        let symbol = b.rng.one_of(symbols);
+        let argument = terms[terms.len() - 1];
+        let term = b.apply(symbol, &[argument]);
+        last = b.add_step(CONG, 0, term, term, &[last]);
+        terms.push(term);
+    }
+    b.claim_last()
+}
+
 /// One CONG step whose lists together take every link: sorts, arguments and
 /// premises, none shared.
 pub fn full_lists(rng: Rng) -> Vec<u32> {

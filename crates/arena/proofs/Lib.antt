@@ -8,6 +8,7 @@
 --     Copied          words copied from a file
 --     Encoded         words stored as bytes
 --     Seeks           terms looked up, for loops that count up
+--     Filed           terms filed by their digests, and the walk down the chain of a digest
 pub mod Tabs
 pub mod ScratchFields
 pub mod ScratchWalks
@@ -17,3 +18,4 @@ pub mod Pushed
 pub mod Copied
 pub mod Encoded
 pub mod Seeks
+pub mod Filed

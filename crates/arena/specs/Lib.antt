@@ -2,6 +2,8 @@
 --     Scratch    THE TIE: the bundle that the words stand for, each section at the place that the limits give
 --     Copies     words of a file, one after another
 --     Stack      pairs of a result and a step on a lent stack
+--     Filing     terms filed by digests, and the index that holds them
 pub mod Scratch
 pub mod Copies
 pub mod Stack
+pub mod Filing

@@ -24,7 +24,7 @@ use Rattle.logic.specs.Free.{freeAt, freeArea}
 use Rattle.logic.specs.Checks.{tablesFault}
 use Rattle.logic.proofs.Tests.{numbers-of}
 use Rattle.logic.proofs.Trees.{free-known}
-use Rattle.tables.proofs.SetWords.{area-member}
+use Rattle.free_variables.proofs.SetWords.{area-member}
 use Rattle.steps.specs.Given.{FreeSets}
 use Rattle.checker.specs.Judge.{required, lentFor}
 

@@ -1,11 +1,13 @@
 // THE PUBLIC CHECK: is a bundle accepted, and if not, which check fails first.
 ghost use mathlib.Core.Path.{_≡_};
+ghost use Prim.Native.Nat.{_+_, _*_, _≤_};
 ghost use lib.ListN.{length};
 ghost use Rattle.bundle.specs.Limits.{setWords};
 ghost use Rattle.bundle.specs.File.{Whole, bundleAt, bundleOf};
 ghost use Rattle.logic.specs.Tests.{firstFailing};
 ghost use Rattle.logic.specs.Free.{freeArea};
 ghost use Rattle.steps.specs.Given.{FreeSets};
+ghost use Rattle.steps.specs.Known.{Images, MovedSets};
 ghost use Rattle.checker.specs.Judge.{claimTests, lentFor, lateFault, faultOf, judge, areaAfter};
 use bundle::Bundle;
 use bundle::records::step_field;
@@ -49,16 +51,29 @@ fn claim_fault(file: &[u8], b: Bundle) -> usize
     }
 }
 
-// The first of the checks 10 to 15 that fails, where the area holds the free sets.
-fn late_fault(file: &[u8], b: Bundle, free: &[u64]) -> Fault
-    requires { ⌜ Whole (now file) b × FreeSets (now free) setWords (bundleAt (now file) b) ⌝ }
+// The first of the checks 10 to 15 that fails, where the area holds the free sets, and there is room for what is known of contexts.
+fn late_fault_in(
+    file: &[u8],
+    b: Bundle,
+    free: &[u64],
+    images: &mut [u16],
+    moved: &mut [u64],
+) -> Fault
+    requires { ⌜ Whole (now file) b × FreeSets (now free) setWords (bundleAt (now file) b) × (64 * (b .contexts + 1) ≤ length (now images)) × (setWords * (b .contexts + 1) ≤ length (now moved)) × Images (bundleAt (now file) b) (now images) 1 × MovedSets (bundleAt (now file) b) (now moved) setWords 1 ⌝ }
     ensures { λ r. ⌜ r ≡ lateFault (bundleAt (now (file .entry)) b) ⌝ }
 {
-    let in_contexts = steps::contexts::contexts_fault(file, b, free, Bundle::SET_WORDS);
+    let in_contexts = steps::contexts::contexts_fault(
+        file,
+        b,
+        free,
+        Bundle::SET_WORDS,
+        images,
+        moved,
+    );
     if in_contexts.number != 0 {
         return in_contexts;
     }
-    let in_steps = steps::steps::steps_fault(file, b, free, Bundle::SET_WORDS);
+    let in_steps = steps::steps::steps_fault(file, b, free, Bundle::SET_WORDS, images, moved);
     if in_steps.number != 0 {
         return in_steps;
     }
@@ -66,6 +81,21 @@ fn late_fault(file: &[u8], b: Bundle, free: &[u64]) -> Fault
         number: claim_fault(file, b),
         record: 0,
     }
+}
+
+// The same with room of its own. The room is cleared first, so a file with few contexts gets little.
+fn late_fault(file: &[u8], b: Bundle, free: &[u64]) -> Fault
+    requires { ⌜ Whole (now file) b × FreeSets (now free) setWords (bundleAt (now file) b) ⌝ }
+    ensures { λ r. ⌜ r ≡ lateFault (bundleAt (now (file .entry)) b) ⌝ }
+{
+    if b.contexts <= 31 {
+        let mut few_images = [0u16; Bundle::VARIABLES * 32];
+        let mut few_moved = [0u64; Bundle::SET_WORDS * 32];
+        return late_fault_in(file, b, free, &mut few_images, &mut few_moved);
+    }
+    let mut images = [0u16; Bundle::VARIABLES * (Bundle::CONTEXTS + 1)];
+    let mut moved = [0u64; Bundle::SET_WORDS * (Bundle::CONTEXTS + 1)];
+    late_fault_in(file, b, free, &mut images, &mut moved)
 }
 
 // The first check that fails, number 0 where none does; the area then holds the free sets.
@@ -80,7 +110,7 @@ fn fault_of(file: &[u8], free: &mut [u64]) -> Fault
         return early;
     }
     let b = counts(file);
-    tables::free::free_sets(file, b, free, Bundle::SET_WORDS);
+    free_variables::free_sets(file, b, free, Bundle::SET_WORDS);
     late_fault(file, b, free)
 }
 

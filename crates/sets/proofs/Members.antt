@@ -193,41 +193,41 @@ member-bit w at n k j small low =
     let has : holds n (64 * k + 1 + j) ≡ true = holds-word n (64 * k + 1 + j) (λ z. omega arith) (omega arith) in
     rw (has, word, bit)
 
-module _ (w : List ℕ) (first second : ℕ) where
+module _ (w : List ℕ) (first : ℕ) (v : List ℕ) (second : ℕ) where
   -- the bits that words k have in common
   abbrev common : ℕ → ℕ
-  common k = bitAnd (getD w (first + k) 0) (getD w (second + k) 0)
+  common k = bitAnd (getD w (first + k) 0) (getD v (second + k) 0)
 
   -- a turn of a loop that counts k down: words k - 1 have no bit in common, or have one
-  pub disjoint-on : (k : ℕ) → (k ≡ 0 → ⊥) → common (k - 1) ≡ 0 → disjointOf w first second k ≡ disjointOf w first second (k - 1)
+  pub disjoint-on : (k : ℕ) → (k ≡ 0 → ⊥) → common (k - 1) ≡ 0 → disjointOf w first v second k ≡ disjointOf w first v second (k - 1)
   unfolding disjointOf
   disjoint-on zero ne e = absurd (ne refl)
   disjoint-on (suc k) ne e = let p : suc k - 1 ≡ k = omega arith in rw p (rw (rw p at e))
 
-  pub disjoint-here : (k : ℕ) → (k ≡ 0 → ⊥) → (common (k - 1) ≡ 0 → ⊥) → disjointOf w first second k ≡ false
+  pub disjoint-here : (k : ℕ) → (k ≡ 0 → ⊥) → (common (k - 1) ≡ 0 → ⊥) → disjointOf w first v second k ≡ false
   unfolding disjointOf
   disjoint-here zero ne some = absurd (ne refl)
   disjoint-here (suc k) ne some =
       let p : suc k - 1 ≡ k = omega arith in
       rw (ne-eqb (common k) 0 (λ e. some (rw p e)))
 
-  disjoint-word : (n k : ℕ) → disjointOf w first second n ≡ true → k < n → common k ≡ 0
+  disjoint-word : (n k : ℕ) → disjointOf w first v second n ≡ true → k < n → common k ≡ 0
   unfolding disjointOf
   disjoint-word zero k e h = absurd (omega arith)
   disjoint-word (suc m) k e h = go (eqb (common m) 0) refl e (ℕ-discrete k m) (λ r. disjoint-word m k r)
     where
-      go : (p : Bool) → eqb (common m) 0 ≡ p → (p && disjointOf w first second m) ≡ true → Dec (k ≡ m)
-          → (disjointOf w first second m ≡ true → k < m → common k ≡ 0) → common k ≡ 0
+      go : (p : Bool) → eqb (common m) 0 ≡ p → (p && disjointOf w first v second m) ≡ true → Dec (k ≡ m)
+          → (disjointOf w first v second m ≡ true → k < m → common k ≡ 0) → common k ≡ 0
       go true d r (yes q) ih = rw q (eqb-true (common m) 0 d)
       go true d r (no ne) ih = ih r (omega arith)
       go false d r q ih = absurd (false≢true r)
 
-  word-disjoint : (n : ℕ) → ((k : ℕ) → k < n → common k ≡ 0) → disjointOf w first second n ≡ true
+  word-disjoint : (n : ℕ) → ((k : ℕ) → k < n → common k ≡ 0) → disjointOf w first v second n ≡ true
   unfolding disjointOf
   word-disjoint zero h = refl
   word-disjoint (suc m) h = rw (h m (omega arith)) (word-disjoint m (λ k l. h k (omega arith)))
 
-  pub disjoint-none : (n : ℕ) → disjointOf w first second n ≡ true → (u : ℕ) → (member w first n u && member w second n u) ≡ false
+  pub disjoint-none : (n : ℕ) → disjointOf w first v second n ≡ true → (u : ℕ) → (member w first n u && member v second n u) ≡ false
   unfolding member
   disjoint-none n e u = go (holds n u) refl
     where
@@ -235,7 +235,7 @@ module _ (w : List ℕ) (first second : ℕ) where
       x = getD w (first + (u - 1) / 64) 0
 
       y : ℕ
-      y = getD w (second + (u - 1) / 64) 0
+      y = getD v (second + (u - 1) / 64) 0
 
       go : (p : Bool) → holds n u ≡ p → (cond p (bitAt x ((u - 1) % 64)) false && cond p (bitAt y ((u - 1) % 64)) false) ≡ false
       go true d =
@@ -245,13 +245,13 @@ module _ (w : List ℕ) (first second : ℕ) where
       go false d = refl
 
   -- words are below 2 ^ 64: a higher bit is no member's
-  pub none-disjoint : (n : ℕ) → ((k : ℕ) → getD w (first + k) 0 < 2 ^ 64) → ((u : ℕ) → (member w first n u && member w second n u) ≡ false)
-      → disjointOf w first second n ≡ true
+  pub none-disjoint : (n : ℕ) → ((k : ℕ) → getD w (first + k) 0 < 2 ^ 64) → ((u : ℕ) → (member w first n u && member v second n u) ≡ false)
+      → disjointOf w first v second n ≡ true
   none-disjoint n words none =
       word-disjoint n (λ k h. bits-same 64 (common k) 0
-      (let l : common k ≤ getD w (first + k) 0 = and-le-l (getD w (first + k) 0) (getD w (second + k) 0) in omega (arith, words k))
+      (let l : common k ≤ getD w (first + k) 0 = and-le-l (getD w (first + k) 0) (getD v (second + k) 0) in omega (arith, words k))
       (omega arith)
       (λ j l.
-      bit-and (getD w (first + k) 0) (getD w (second + k) 0) j
-      ∙ rw (← member-bit w first n k j h l, ← member-bit w second n k j h l) (none (64 * k + 1 + j))
+      bit-and (getD w (first + k) 0) (getD v (second + k) 0) j
+      ∙ rw (← member-bit w first n k j h l, ← member-bit v second n k j h l) (none (64 * k + 1 + j))
       ∙ sym (bit-none j)))

@@ -99,16 +99,16 @@ pub fn unite(area: &mut [u64], to: usize, from: usize, n: usize)
     }
 }
 
-// Whether no number is a member of both the set at `first` and the set at `second`.
-pub fn disjoint(area: &[u64], first: usize, second: usize, n: usize) -> bool
-    requires { ⌜ (first + n ≤ length (now area)) × (second + n ≤ length (now area)) ⌝ }
-    ensures { λ r. ⌜ r ≡ disjointOf (now (area .entry)) first second n ⌝ }
+// Whether no number is a member of both the set at `first` of one area and the set at `second` of another.
+pub fn disjoint(area: &[u64], first: usize, other: &[u64], second: usize, n: usize) -> bool
+    requires { ⌜ (first + n ≤ length (now area)) × (second + n ≤ length (now other)) ⌝ }
+    ensures { λ r. ⌜ r ≡ disjointOf (now (area .entry)) first (now (other .entry)) second n ⌝ }
 {
     let mut k = n;
     while k != 0 {
         k -= 1;
         let x = area[first + k];
-        let y = area[second + k];
+        let y = other[second + k];
         if (x & y) != 0 {
             return false;
         }

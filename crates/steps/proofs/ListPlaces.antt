@@ -1,6 +1,7 @@
 -- Places of a list, by links. A number that is no link's reads zeros, and starts the empty list.
 --     first-is                 the first item is the value of the link where the list starts
 --     second-is, single-is     the second item, and a list of one item, by the link that follows the first
+--     none-is, pair-is         no item, and two items, by the first links; single-length: one item, by the length
 --     last-start               a 0 in front of a list does not change its last item: so a walk may start from 0
 use mathlib.Core.Path.{_≡_, refl, sym, ap, _∙_}
 use mathlib.Core.Bool.{not, _&&_}
@@ -9,7 +10,7 @@ use Prim.Native.Nat.{ℕ, zero, suc, _≤_, _<_}
 use native.Mathlib.Omega.{arith}
 use native.Mathlib.Decide.{decLt}
 use lib.ListN.{length}
-use lib.Dec.{eqb, eqb·suc-zero}
+use lib.Dec.{eqb, eqb·suc-zero, eqb·suc-suc}
 use Rattle.bundle.specs.declared.Bundle.{Bundle as Counts}
 use Rattle.bundle.specs.Bundle.{Link, noLink, linkOf}
 use Rattle.bundle.specs.Links.{items, follows, nextOf}
@@ -23,6 +24,12 @@ pub last-start : (xs : List ℕ) → lastOf (0 ∷ xs) ≡ lastOf xs
 unfolding lastOf
 last-start [] = refl
 last-start (x ∷ xs) = refl
+
+pub single-length : (xs : List ℕ) → single xs ≡ eqb (length xs) 1
+unfolding single
+single-length [] = refl
+single-length (x ∷ []) = refl
+single-length (x ∷ y ∷ ys) = sym (eqb·suc-suc (suc (length ys)) 0 ∙ eqb·suc-zero (length ys))
 
 module _ (f : List ℕ) (c : Counts) where
   pub first-is : (s : ℕ) → linkOf (bundleAt f c) s .value ≡ firstOf (items (bundleAt f c) s)
@@ -53,3 +60,20 @@ module _ (f : List ℕ) (c : Counts) where
   single-is (suc i) h =
       let r = nextOf (bundleAt f c .links) (suc i) in
       rw (eqb·suc-zero i, walk-some f c (suc i) (λ z. omega arith) h) (sym (single-cons (linkOf (bundleAt f c) (suc i) .value) r (walk-le f c (suc i) r refl)))
+
+  pub none-is : (i : ℕ) → i ≤ c .links → eqb i 0 ≡ eqb (length (items (bundleAt f c) i)) 0
+  none-is zero h = rw (walk-nil f c 0 refl)
+  none-is (suc i) h =
+      rw (walk-some f c (suc i) (λ z. omega arith) h, eqb·suc-zero i, eqb·suc-zero (length (items (bundleAt f c) (nextOf (bundleAt f c .links) (suc i)))))
+
+  pub pair-is : (i : ℕ) → i ≤ c .links
+      → (not (eqb (nextOf (bundleAt f c .links) i) 0) && eqb (nextOf (bundleAt f c .links) (nextOf (bundleAt f c .links) i)) 0) ≡ eqb (length (items (bundleAt f c) i)) 2
+  unfolding follows
+  pair-is zero h = rw (walk-nil f c 0 refl)
+  pair-is (suc i) h =
+      let r = nextOf (bundleAt f c .links) (suc i) in
+      let n = length (items (bundleAt f c) r) in
+      single-is r (walk-le f c (suc i) r refl)
+      ∙ single-length (items (bundleAt f c) r)
+      ∙ sym (eqb·suc-suc n 1)
+      ∙ sym (ap (λ (xs : List ℕ). eqb (length xs) 2) (walk-some f c (suc i) (λ z. omega arith) h))

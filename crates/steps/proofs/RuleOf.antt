@@ -2,14 +2,23 @@
 --     rule-none                a number that is none of 1 to 5 is no rule
 --     no-sides                 a rule that is neither TRANS nor BIND has no sides
 --     step-is                  a step is its five fields
+--     refers-earlier           what check 12 has found: the premises are earlier steps
+--     context-is               and the context is one of n, by the step's words
 --     matches-is, sides-is     checks 13 and 14 of a step, by its words
 use mathlib.Core.Path.{_≡_, refl, ap, _∙_}
 use mathlib.Core.Bool.{Bool, true, false, cond}
-use Prim.Native.Nat.{ℕ}
-use lib.Dec.{eqb}
-use borrow.Author.Tests.{ne-eqb}
+use mathlib.Core.List.{List, [], _∷_}
+use Prim.Native.Nat.{ℕ, _-_, _≤_}
+use native.Mathlib.Omega.{arith}
+use lib.ListN.{length}
+use lib.Dec.{eqb, leb}
+use borrow.Author.Tests.{ne-eqb, leb-true}
 use Rattle.bundle.specs.Bundle.{Bundle, Step, stepOf}
-use Rattle.logic.specs.Rules.{ruleOf, REFL, CONG, LET, noRule, matchesAs, matches, sidesAs, sides}
+use Rattle.bundle.specs.Links.{items}
+use Rattle.bundle.specs.Lists.{numbers, each}
+use Rattle.logic.specs.Checks.{startsList}
+use Rattle.logic.specs.Rules.{ruleOf, REFL, CONG, LET, noRule, countFits, stepRefers, matchesAs, matches, sidesAs, sides}
+use Rattle.logic.proofs.Tests.{tested}
 use Rattle.steps.specs.declared.StepWords.{StepWords}
 use Rattle.steps.specs.Given.{asStep}
 
@@ -31,7 +40,32 @@ pub step-is : (s : Step) {r c x y p : ℕ} → r ≡ s .rule → c ≡ s .contex
     → _≡_ {A = Step} (record { rule = r; context = c; left = x; right = y; premises = p }) s
 step-is s e f g h k = λ i. record { rule = e i; context = f i; left = g i; right = h i; premises = k i }
 
+-- the tests of check 12
+abbrev refersTests : Bundle → ℕ → List Bool
+refersTests b k =
+    leb (stepOf b k .context) (length (b .contexts))
+    ∷ numbers (length (b .terms)) (stepOf b k .left)
+    ∷ numbers (length (b .terms)) (stepOf b k .right)
+    ∷ startsList b (stepOf b k .premises)
+    ∷ each (numbers (k - 1)) (items b (stepOf b k .premises))
+    ∷ countFits (ruleOf (stepOf b k .rule)) (length (items b (stepOf b k .premises)))
+    ∷ []
+
+module _ (b : Bundle) (k : ℕ) (refers : stepRefers b k ≡ true) where
+  refers-context : stepOf b k .context ≤ length (b .contexts)
+  unfolding stepRefers
+  refers-context = leb-true _ _ (tested (refersTests b k) refers 0)
+
+  pub refers-earlier : each (numbers (k - 1)) (items b (stepOf b k .premises)) ≡ true
+  unfolding stepRefers
+  refers-earlier = tested (refersTests b k) refers 4
+
 module _ (b : Bundle) (k : ℕ) (w : StepWords) (same : asStep w ≡ stepOf b k) where
+  pub context-is : (n : ℕ) → length (b .contexts) ≡ n → stepRefers b k ≡ true → w .context ≤ n
+  context-is n e refers =
+      let own : w .context ≡ stepOf b k .context = ap (λ (s : Step). s .context) same in
+      omega (arith, refers-context b k refers)
+
   pub matches-is : {r : Bool} → r ≡ matchesAs b (ruleOf (w .rule)) (asStep w) → r ≡ matches b k
   unfolding matches
   matches-is e = e ∙ ap (λ (s : Step). matchesAs b (ruleOf (s .rule)) s) same

@@ -1,6 +1,7 @@
 // The checks 10 to 14, on the lent file in place and on the free sets in lent words.
-pub mod lists; // lists.rt: first, second and last items, lengths
-pub mod images; // images.rt: images, moved variables, settled terms
+pub mod lists; // lists.rt: first, second and last items
+pub mod images; // images.rt: images, settled terms
+pub mod known; // known.rt: the tables of images and of moved variables
 pub mod contexts; // contexts.rt: 10 and 11
 pub mod rules; // rules.rt: REFL, CONG, TRANS, BIND, LET
 pub mod steps; // steps.rt: 12, 13 and 14

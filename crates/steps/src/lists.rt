@@ -1,6 +1,7 @@
 // Items of lists by their place.
 ghost use mathlib.Core.Path.{_≡_};
 ghost use lib.ListN.{length};
+ghost use lib.Dec.{eqb};
 ghost use Rattle.bundle.specs.Links.{items};
 ghost use Rattle.bundle.specs.File.{Whole, bundleAt};
 ghost use Rattle.logic.specs.Rules.{firstOf, secondOf, single, lastOf};
@@ -51,16 +52,13 @@ pub fn is_single(file: &[u8], b: Bundle, list: usize) -> bool
     (first != 0) & (next == 0)
 }
 
-// The length of a list.
-pub fn list_length(file: &[u8], b: Bundle, list: usize) -> usize
+// Whether a list has two items.
+pub fn is_pair(file: &[u8], b: Bundle, list: usize) -> bool
     requires { ⌜ Whole (now file) b ⌝ }
-    ensures { λ r. ⌜ r ≡ length (items (bundleAt (now (file .entry)) b) list) ⌝ }
+    ensures { λ r. ⌜ r ≡ eqb (length (items (bundleAt (now (file .entry)) b) list)) 2 ⌝ }
 {
-    let mut n = 0;
-    let mut i = first_link(b, list);
-    while i != 0 {
-        n += 1;
-        i = next_link(file, b, i);
-    }
-    n
+    let first = first_link(b, list);
+    let second = next_link(file, b, first);
+    let third = next_link(file, b, second);
+    (second != 0) & (third == 0)
 }

@@ -1,12 +1,15 @@
 // The five rules, one function each.
 ghost use mathlib.Core.Path.{_≡_};
-ghost use Prim.Native.Nat.{_≤_};
+ghost use mathlib.Core.Bool.{true, false};
+ghost use Prim.Native.Nat.{_+_, _≤_};
 ghost use Rattle.bundle.specs.Bundle.{stepOf};
 ghost use Rattle.bundle.specs.Links.{items};
 ghost use Rattle.bundle.specs.File.{Whole, bundleAt};
 ghost use Rattle.logic.specs.Tests.{passed};
-ghost use Rattle.logic.specs.Rules.{carries, leftOver, allProve, isImage, reflHolds, congTests, transTests, transSide, bindTerms, bindContexts, freeInImage, bindSides, letTests};
+ghost use Rattle.logic.specs.Rules.{carries, allProve, isImage, reflHolds, congTests, transTests, transSide, bindTerms, bindContexts, freeInImage, bindSides, letTests};
 ghost use Rattle.steps.specs.Given.{asStep, FreeSets};
+ghost use Rattle.steps.specs.Known.{Images, MovedSets};
+ghost use Rattle.steps.specs.Marks.{keyOf, Carried};
 use super::StepWords;
 use super::images::image_of;
 use super::images::is_free;
@@ -39,31 +42,17 @@ fn step_carries(file: &[u8], b: Bundle, p: usize, context: usize, l: usize, r: u
     (in_context == context) & (left == l) & (right == r)
 }
 
-// Whether nothing is left of the premises from link k on, or one premise where `body` says so.
-fn left_over(file: &[u8], b: Bundle, body: bool, k: usize) -> bool
-    requires { ⌜ Whole (now file) b × (k ≤ b .links) ⌝ }
-    ensures { λ x. ⌜ x ≡ leftOver body (items (bundleAt (now (file .entry)) b) k) ⌝ }
-{
-    if body {
-        let next = next_link(file, b, k);
-        return (k != 0) & (next == 0);
-    }
-    k == 0
-}
-
-// Whether the premises carry the terms of one list to those of another in the context, one for each, in order; with one premise more where
-// `body` says so.
+// Whether the premises carry the terms of one list to those of another in the context, one for each, in order, and there is one premise more.
 fn all_prove(
     file: &[u8],
     b: Bundle,
-    body: bool,
     context: usize,
     lefts: usize,
     rights: usize,
     premises: usize,
 ) -> bool
     requires { ⌜ Whole (now file) b ⌝ }
-    ensures { λ x. ⌜ x ≡ allProve (bundleAt (now (file .entry)) b) body context (items (bundleAt (now (file .entry)) b) lefts) (items (bundleAt (now (file .entry)) b) rights) (items (bundleAt (now (file .entry)) b) premises) ⌝ }
+    ensures { λ x. ⌜ x ≡ allProve (bundleAt (now (file .entry)) b) true context (items (bundleAt (now (file .entry)) b) lefts) (items (bundleAt (now (file .entry)) b) rights) (items (bundleAt (now (file .entry)) b) premises) ⌝ }
 {
     let mut i = first_link(b, lefts);
     let mut j = first_link(b, rights);
@@ -82,8 +71,56 @@ fn all_prove(
         j = next_link(file, b, j);
         k = next_link(file, b, k);
     }
-    let left = left_over(file, b, body, k);
-    (j == 0) & left
+    let more = next_link(file, b, k);
+    (j == 0) & ((k != 0) & (more == 0))
+}
+
+// A context and two links as one number, another for each context and each two links from 1.
+fn key(context: usize, i: usize, j: usize) -> u32
+    requires { ⌜ (context ≤ 256) × (i ≤ 2048) × (j ≤ 2048) ⌝ }
+    ensures { λ r. ⌜ r ≡ keyOf context i j ⌝ }
+{
+    ((context * 2048 + i) * 2048 + j) as u32
+}
+
+// The same with no premise more. `carried` has at a premise's link the key at which the premises from there on were last found to carry the
+// terms: there the walk ends. A key is written before the rest is known; where the rest fails, so does the step, and no key is read again.
+fn all_carried(
+    file: &[u8],
+    b: Bundle,
+    carried: &mut [u32; 2049],
+    context: usize,
+    lefts: usize,
+    rights: usize,
+    premises: usize,
+) -> bool
+    requires { ⌜ Whole (now file) b × Carried (bundleAt (now file) b) (now carried) × (context ≤ 256) ⌝ }
+    ensures { λ x. ⌜ x ≡ allProve (bundleAt (now (file .entry)) b) false context (items (bundleAt (now (file .entry)) b) lefts) (items (bundleAt (now (file .entry)) b) rights) (items (bundleAt (now (file .entry)) b) premises) ⌝ }
+    ensures { λ x. ⌜ (x ≡ true → Carried (bundleAt (now (file .entry)) b) (now (carried .exit))) ⌝ }
+{
+    let mut i = first_link(b, lefts);
+    let mut j = first_link(b, rights);
+    let mut k = first_link(b, premises);
+    while i != 0 {
+        if (j == 0) | (k == 0) {
+            return false;
+        }
+        let own = key(context, i, j);
+        if carried[k] == own {
+            return true;
+        }
+        let l = link_field(file, b, i, 0);
+        let r = link_field(file, b, j, 0);
+        let p = link_field(file, b, k, 0);
+        if !step_carries(file, b, p, context, l, r) {
+            return false;
+        }
+        carried[k] = own;
+        i = next_link(file, b, i);
+        j = next_link(file, b, j);
+        k = next_link(file, b, k);
+    }
+    (j == 0) & (k == 0)
 }
 
 // ---- REFL
@@ -98,25 +135,40 @@ fn is_image(image: Image, l: usize, r: usize) -> bool
     }
 }
 
-pub fn refl_holds(file: &[u8], b: Bundle, area: &[u64], n: usize, s: StepWords) -> bool
-    requires { ⌜ Whole (now file) b × FreeSets (now area) n (bundleAt (now file) b) ⌝ }
+pub fn refl_holds(
+    file: &[u8],
+    b: Bundle,
+    area: &[u64],
+    n: usize,
+    images: &[u16],
+    moved: &[u64],
+    s: StepWords,
+) -> bool
+    requires { ⌜ Whole (now file) b × FreeSets (now area) n (bundleAt (now file) b) × Images (bundleAt (now file) b) (now images) (s .context + 1) × MovedSets (bundleAt (now file) b) (now moved) n (s .context + 1) ⌝ }
     ensures { λ r. ⌜ r ≡ reflHolds (bundleAt (now (file .entry)) b) (asStep s) ⌝ }
 {
     let context = s.context;
     let left = s.left;
     let right = s.right;
-    let kind = term_field(file, b, left, 0);
+    if left == right {
+        if is_settled(file, b, area, n, moved, context, left) {
+            return true;
+        }
+    }
+    if term_field(file, b, left, 0) != 1 {
+        return false;
+    }
     let variable = term_field(file, b, left, 1);
-    let image = image_of(file, b, context, variable);
-    let settled = is_settled(file, b, area, n, context, left);
-    ((left == right) & settled) | ((kind == 1) & is_image(image, left, right))
+    let image = image_of(file, b, images, context, variable);
+    is_image(image, left, right)
 }
 
 // ---- CONG
 
-pub fn cong_holds(file: &[u8], b: Bundle, s: StepWords) -> bool
-    requires { ⌜ Whole (now file) b ⌝ }
+pub fn cong_holds(file: &[u8], b: Bundle, carried: &mut [u32; 2049], s: StepWords) -> bool
+    requires { ⌜ Whole (now file) b × Carried (bundleAt (now file) b) (now carried) × (s .context ≤ b .contexts) ⌝ }
     ensures { λ r. ⌜ r ≡ passed (congTests (bundleAt (now (file .entry)) b) (asStep s)) ⌝ }
+    ensures { λ r. ⌜ (r ≡ true → Carried (bundleAt (now (file .entry)) b) (now (carried .exit))) ⌝ }
 {
     let context = s.context;
     let left = s.left;
@@ -128,7 +180,7 @@ pub fn cong_holds(file: &[u8], b: Bundle, s: StepWords) -> bool
     let right_symbol = term_field(file, b, right, 1);
     let lefts = term_field(file, b, left, 2);
     let rights = term_field(file, b, right, 2);
-    let arguments = all_prove(file, b, false, context, lefts, rights, premises);
+    let arguments = all_carried(file, b, carried, context, lefts, rights, premises);
     (left_kind == 2) & (right_kind == 2) & (left_symbol == right_symbol) & arguments
 }
 
@@ -150,15 +202,22 @@ pub fn trans_holds(file: &[u8], b: Bundle, s: StepWords) -> bool
     to_middle & from_middle
 }
 
-pub fn trans_side(file: &[u8], b: Bundle, area: &[u64], n: usize, s: StepWords) -> bool
-    requires { ⌜ Whole (now file) b × FreeSets (now area) n (bundleAt (now file) b) ⌝ }
+pub fn trans_side(
+    file: &[u8],
+    b: Bundle,
+    area: &[u64],
+    n: usize,
+    moved: &[u64],
+    s: StepWords,
+) -> bool
+    requires { ⌜ Whole (now file) b × FreeSets (now area) n (bundleAt (now file) b) × MovedSets (bundleAt (now file) b) (now moved) n (s .context + 1) ⌝ }
     ensures { λ r. ⌜ r ≡ transSide (bundleAt (now (file .entry)) b) (asStep s) ⌝ }
 {
     let context = s.context;
     let premises = s.premises;
     let first = first_item(file, b, premises);
     let middle = step_field(file, b, first, 3);
-    is_settled(file, b, area, n, context, middle)
+    is_settled(file, b, area, n, moved, context, middle)
 }
 
 // ---- BIND
@@ -239,8 +298,15 @@ fn free_in_image(
 }
 
 // The sides: y is free neither in the left side nor in the image of a free variable of it.
-pub fn bind_sides(file: &[u8], b: Bundle, area: &[u64], n: usize, s: StepWords) -> bool
-    requires { ⌜ Whole (now file) b × FreeSets (now area) n (bundleAt (now file) b) ⌝ }
+pub fn bind_sides(
+    file: &[u8],
+    b: Bundle,
+    area: &[u64],
+    n: usize,
+    images: &[u16],
+    s: StepWords,
+) -> bool
+    requires { ⌜ Whole (now file) b × FreeSets (now area) n (bundleAt (now file) b) × Images (bundleAt (now file) b) (now images) (s .context + 1) ⌝ }
     ensures { λ r. ⌜ r ≡ bindSides (bundleAt (now (file .entry)) b) (asStep s) ⌝ }
 {
     let context = s.context;
@@ -253,7 +319,7 @@ pub fn bind_sides(file: &[u8], b: Bundle, area: &[u64], n: usize, s: StepWords) 
     let mut z = b.variables;
     while z != 0 {
         if is_free(file, b, area, n, left, z) {
-            let image = image_of(file, b, context, z);
+            let image = image_of(file, b, images, context, z);
             if free_in_image(file, b, area, n, image, z, y) {
                 return false;
             }
@@ -286,7 +352,7 @@ pub fn let_holds(file: &[u8], b: Bundle, s: StepWords) -> bool
     let terms = context_field(file, b, inner, 2);
     let parent = context_field(file, b, inner, 3);
     let same = same_list(file, b, replaced, variables);
-    let proved = all_prove(file, b, true, context, bound, terms, premises);
+    let proved = all_prove(file, b, context, bound, terms, premises);
     (kind == 5)
         & (from == body)
         & (to == right)

@@ -1,5 +1,6 @@
 -- Terms filed by their digests, and the walk down the chain of a digest.
---     mix-small, same-digest           digests are small; terms with the same record have the same
+--     mix-small, same-digest                digests are small; terms with the same record have the same
+--     mix-none, mix-on, mix-full       the first items of a list, along a walk
 --     filed-none, filed-on             nothing is filed at first; once term i is, those below i + 1 are
 --     Sought, sought-start, sought-on  whatever has the record of term i is on the chain where the walk stands
 --     sought-end, sought-found         so at the chain's end there is none, and a term that has it is one
@@ -18,16 +19,33 @@ use Rattle.logic.specs.Checks.{firstIsList, secondIsList, sameField, sameTerm, 
 use Rattle.logic.proofs.Tests.{passed-each, same-list, not-in, up-to-all}
 use Rattle.logic.proofs.Passes.{new-before}
 use Rattle.tables.specs.Digests.{mix, mixItems, mixField, digestOf, Reach, here, later, Filed}
+use Rattle.tables.specs.Notes.{Zeros}
 
-pub mix-small : (d x : ℕ) → mix d x < 1024
+pub mix-small : (d x : ℕ) → mix d x < 2048
 unfolding mix
 mix-small d x = omega arith
+
+-- ---- the first items of a list, along a walk
+
+pub mix-none : (n d : ℕ) → mixItems n d [] ≡ d
+unfolding mixItems
+mix-none zero d = refl
+mix-none (suc n) d = refl
+
+pub mix-on : (n d x : ℕ) (xs : List ℕ) → (n ≡ 0 → ⊥) → mixItems n d (x ∷ xs) ≡ mixItems (n - 1) (mix d x) xs
+unfolding mixItems
+mix-on zero d x xs ne = absurd (ne refl)
+mix-on (suc n) d x xs ne = let e : suc n - 1 ≡ n = omega arith in rw e
+
+pub mix-full : (n d : ℕ) (xs : List ℕ) → n ≡ 0 → mixItems n d xs ≡ d
+unfolding mixItems
+mix-full n d xs e = rw e
 
 -- ---- the same record, the same digest
 
 field-digest : (b : Bundle) (q : Bool) (d x y : ℕ) → sameField b q x y ≡ true → mixField b q d x ≡ mixField b q d y
 unfolding sameField mixField
-field-digest b true d x y e = ap (mixItems d) (same-list _ _ e)
+field-digest b true d x y e = ap (mixItems 8 d) (same-list _ _ e)
 field-digest b false d x y e = ap (mix d) (eqb-true x y e)
 
 pub same-digest : (b : Bundle) (r s : TermRecord) → sameTerm b r s ≡ true → digestOf b r ≡ digestOf b s
@@ -64,17 +82,12 @@ reach-kept next i v falls {h} {j} l (later ne r) =
 
 -- ---- filing
 
-pub filed-none : (b : Bundle) (n m : ℕ) → Filed b (replicate n 0) (replicate m 0) 1
-filed-none b n m = record {
-  low = λ d. omega (arith, zero-at n d);
-  falls = λ j one. omega (arith, zero-at m j);
+pub filed-none : (b : Bundle) (heads next : List ℕ) → Zeros heads → Zeros next → Filed b heads next 1
+filed-none b heads next none none-next = record {
+  low = λ d. omega (arith, none .zero d);
+  falls = λ j one. omega (arith, none-next .zero j);
   reached = λ j one l. absurd (omega arith);
 }
-  where
-    zero-at : (n d : ℕ) → _≡_ {A = ℕ} (getD (replicate n 0) d 0) 0
-    zero-at zero d = refl
-    zero-at (suc n) zero = refl
-    zero-at (suc n) (suc d) = zero-at n d
 
 module _ (b : Bundle) (heads next : List ℕ) (i d : ℕ) (filed : Filed b heads next i) (own : d ≡ digestOf b (termOf b i))
     (heads-room : d < length heads) (next-room : i < length next) where

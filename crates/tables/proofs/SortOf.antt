@@ -2,7 +2,7 @@
 --     sort-below                         a sort is what the record builds from the sorts below it
 --     sort-variable, sort-application    kinds 1 and 2
 --     sort-on, sort-not-lower            kind 5, a let: the sort of its body, if that is lower; else truth
---     sort-zero, sort-other              0 is no term's number; all other kinds: truth
+--     sort-zero, sort-other              0 is no term's number; all other kinds: truth (`sort-by-other`: of a record)
 --     signature-is                       a symbol's signature, by the count of symbols and in the file's bundle
 use mathlib.Core.Path.{_≡_, refl, _∙_}
 use mathlib.Core.List.{List}
@@ -13,7 +13,7 @@ use borrow.Author.Tests.{lt-ltb, le-ltb, ne-eqb}
 use Rattle.bundle.specs.declared.Bundle.{Bundle as Counts}
 use Rattle.bundle.specs.File.{bundleAt}
 use Rattle.bundle.proofs.Fields.{symbols-length}
-use Rattle.bundle.specs.Bundle.{Bundle, noTerm, termOf, sortOfVariable}
+use Rattle.bundle.specs.Bundle.{Bundle, TermRecord, noTerm, termOf, sortOfVariable}
 use Rattle.logic.specs.Table.{below}
 use Rattle.logic.specs.Symbols.{truthSort, kindOfSymbol, signature, signatureOf, resultSort}
 use Rattle.logic.specs.Terms.{Kind, kindOf, variable, application, binder, letting, other, forAll, exists}
@@ -23,6 +23,17 @@ use Rattle.logic.proofs.Tables.{table-below}
 pub signature-is : (f : List ℕ) (c : Counts) (x : ℕ) → signature (kindOfSymbol (c .symbols) x) ≡ signatureOf (bundleAt f c) x
 unfolding signatureOf
 signature-is f c x = rw (symbols-length f c)
+
+-- by a record whose kind is none of these
+pub sort-by-other : (b : Bundle) (f : ℕ → ℕ) (r : TermRecord) → (r .kind ≡ 1 → ⊥) → (r .kind ≡ 2 → ⊥) → (r .kind ≡ 5 → ⊥) → sortBy b f r ≡ truthSort
+unfolding sortBy kindOf sortAs
+sort-by-other b f r n₁ n₂ n₅ =
+    rw (ne-eqb (r .kind) 1 n₁, ne-eqb (r .kind) 2 n₂, ne-eqb (r .kind) 5 n₅) (go (eqb (r .kind) 3) (eqb (r .kind) 4))
+  where
+    go : (p q : Bool) → sortAs b (cond p (binder forAll) (cond q (binder exists) other)) f r ≡ truthSort
+    go true q = refl
+    go false true = refl
+    go false false = refl
 
 module _ (b : Bundle) (t : ℕ) where
   pub sort-below : sortAt b t ≡ sortBy b (below truthSort t (sortAt b)) (termOf b t)
@@ -58,11 +69,4 @@ module _ (b : Bundle) (t : ℕ) where
   sort-not-lower e high = sort-as letting (rw e) ∙ rw (le-ltb (termOf b t .c) t high)
 
   pub sort-other : (termOf b t .kind ≡ 1 → ⊥) → (termOf b t .kind ≡ 2 → ⊥) → (termOf b t .kind ≡ 5 → ⊥) → sortAt b t ≡ truthSort
-  unfolding sortBy kindOf sortAs
-  sort-other n₁ n₂ n₅ =
-      sort-below ∙ rw (ne-eqb (termOf b t .kind) 1 n₁, ne-eqb (termOf b t .kind) 2 n₂, ne-eqb (termOf b t .kind) 5 n₅) (go (eqb (termOf b t .kind) 3) (eqb (termOf b t .kind) 4))
-    where
-      go : (p q : Bool) → sortAs b (cond p (binder forAll) (cond q (binder exists) other)) (below truthSort t (sortAt b)) (termOf b t) ≡ truthSort
-      go true q = refl
-      go false true = refl
-      go false false = refl
+  sort-other n₁ n₂ n₅ = sort-below ∙ sort-by-other b (below truthSort t (sortAt b)) (termOf b t) n₁ n₂ n₅

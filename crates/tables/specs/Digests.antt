@@ -1,6 +1,6 @@
 -- Digests of term records, and terms filed by them. Terms with the same record have the same digest, so a term that repeats an earlier one is
 -- found among those with its digest. Which digest is taken is of no account to what is checked, only to how long it takes.
-use Prim.Native.Nat.{ℕ, _+_, _*_, _%_, _≤_, _<_}
+use Prim.Native.Nat.{ℕ, zero, suc, _+_, _*_, _%_, _≤_, _<_}
 use mathlib.Core.Path.{_≡_}
 use mathlib.Core.Bool.{Bool, true, false}
 use mathlib.Core.List.{List, [], _∷_}
@@ -9,18 +9,19 @@ use Rattle.bundle.specs.Bundle.{Bundle, TermRecord, termOf}
 use Rattle.bundle.specs.Links.{items}
 use Rattle.logic.specs.Checks.{firstIsList, secondIsList}
 
--- a digest d and one number more
+-- A digest d and one number more. With a factor that is near 2048 divided by the golden ratio, the digests of neighbours lie far apart.
 unfoldable pub mix : ℕ → ℕ → ℕ
-mix d x = (d * 31 + x % 1024) % 1024
+mix d x = (d * 1267 + x % 2048) % 2048
 
--- and the numbers of a list
-unfoldable pub mixItems : ℕ → List ℕ → ℕ
-mixItems d [] = d
-mixItems d (x ∷ xs) = mixItems (mix d x) xs
+-- a digest and the numbers of a list, n of them at most: a few tell lists apart, and a long list that many terms share is not walked for each
+unfoldable pub mixItems : ℕ → ℕ → List ℕ → ℕ
+mixItems zero d xs = d
+mixItems (suc n) d [] = d
+mixItems (suc n) d (x ∷ xs) = mixItems n (mix d x) xs
 
--- and a field: the items of its list, or its number
+-- and a field: the first items of its list, or its number
 unfoldable pub mixField : Bundle → Bool → ℕ → ℕ → ℕ
-mixField b true d x = mixItems d (items b x)
+mixField b true d x = mixItems 8 d (items b x)
 mixField b false d x = mix d x
 
 -- the digest of a term's record: its kind, then its fields as they are compared

@@ -1,5 +1,5 @@
 -- What the contracts of inner functions cite.
---     Put        what the inner functions of free.rt leave
 --     Digests    digests of term records, and terms filed by them
-pub mod Put
+--     Notes      what is noted of terms and of long lists
 pub mod Digests
+pub mod Notes

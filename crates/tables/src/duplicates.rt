@@ -2,6 +2,7 @@
 // digest, `next` the one before each term among those with its digest, 0 for none. So a term is compared with those of its digest alone.
 ghost use mathlib.Core.Path.{_≡_};
 ghost use Prim.Native.Nat.{_≤_, _<_};
+ghost use lib.ListN.{length};
 ghost use Rattle.bundle.specs.Bundle.{termOf};
 ghost use Rattle.bundle.specs.Links.{items};
 ghost use Rattle.bundle.specs.File.{Whole, bundleAt};
@@ -16,31 +17,43 @@ use bundle::records::term_field;
 
 // A digest and one number more.
 fn mixed(d: usize, x: usize) -> usize
-    requires { ⌜ d < 1024 ⌝ }
-    ensures { λ r. ⌜ (r ≡ mix d x) × (r < 1024) ⌝ }
+    requires { ⌜ d < 2048 ⌝ }
+    ensures { λ r. ⌜ (r ≡ mix d x) × (r < 2048) ⌝ }
 {
-    (d * 31 + x % 1024) % 1024
+    (d * 1267 + x % 2048) % 2048
 }
 
-// A digest and the items of a list.
+// A number that an array holds, as one that can be an index.
+pub fn wide(x: u16) -> usize
+    ensures { λ r. ⌜ r ≡ x ⌝ }
+{
+    x as usize
+}
+
+// A digest and the first items of a list.
 fn mixed_items(file: &[u8], b: Bundle, d: usize, list: usize) -> usize
-    requires { ⌜ Whole (now file) b × (d < 1024) ⌝ }
-    ensures { λ r. ⌜ (r ≡ mixItems d (items (bundleAt (now (file .entry)) b) list)) × (r < 1024) ⌝ }
+    requires { ⌜ Whole (now file) b × (d < 2048) ⌝ }
+    ensures { λ r. ⌜ (r ≡ mixItems 8 d (items (bundleAt (now (file .entry)) b) list)) × (r < 2048) ⌝ }
 {
     let mut sum = d;
     let mut i = first_link(b, list);
-    while i != 0 {
+    let mut left = 8usize;
+    while left != 0 {
+        if i == 0 {
+            return sum;
+        }
         let x = link_field(file, b, i, 0);
         sum = mixed(sum, x);
         i = next_link(file, b, i);
+        left -= 1;
     }
     sum
 }
 
 // A digest and a field.
 fn mixed_field(file: &[u8], b: Bundle, list: bool, d: usize, x: usize) -> usize
-    requires { ⌜ Whole (now file) b × (d < 1024) ⌝ }
-    ensures { λ r. ⌜ (r ≡ mixField (bundleAt (now (file .entry)) b) list d x) × (r < 1024) ⌝ }
+    requires { ⌜ Whole (now file) b × (d < 2048) ⌝ }
+    ensures { λ r. ⌜ (r ≡ mixField (bundleAt (now (file .entry)) b) list d x) × (r < 2048) ⌝ }
 {
     if list {
         mixed_items(file, b, d, x)
@@ -52,7 +65,7 @@ fn mixed_field(file: &[u8], b: Bundle, list: bool, d: usize, x: usize) -> usize
 // The digest of the record of term i.
 pub fn digest(file: &[u8], b: Bundle, i: usize) -> usize
     requires { ⌜ Whole (now file) b ⌝ }
-    ensures { λ r. ⌜ (r ≡ digestOf (bundleAt (now (file .entry)) b) (termOf (bundleAt (now (file .entry)) b) i)) × (r < 1024) ⌝ }
+    ensures { λ r. ⌜ (r ≡ digestOf (bundleAt (now (file .entry)) b) (termOf (bundleAt (now (file .entry)) b) i)) × (r < 2048) ⌝ }
 {
     let kind = term_field(file, b, i, 0);
     let first = term_field(file, b, i, 1);
@@ -102,23 +115,9 @@ fn same_term(file: &[u8], b: Bundle, i: usize, j: usize) -> bool
     first & second & (term_field(file, b, i, 3) == term_field(file, b, j, 3))
 }
 
-// A filed term's number as a number that can be an index.
-fn wide(x: u16) -> usize
-    ensures { λ r. ⌜ r ≡ x ⌝ }
-{
-    x as usize
-}
-
 // 9: whether no earlier term has the same record, where the terms below i are filed, and d is its digest.
-pub fn is_new(
-    file: &[u8],
-    b: Bundle,
-    heads: &[u16; 1024],
-    next: &[u16; 1025],
-    i: usize,
-    d: usize,
-) -> bool
-    requires { ⌜ Whole (now file) b × Filed (bundleAt (now file) b) (now heads) (now next) i × (i ≤ 1024) × (d < 1024) × (d ≡ digestOf (bundleAt (now file) b) (termOf (bundleAt (now file) b) i)) ⌝ }
+pub fn is_new(file: &[u8], b: Bundle, heads: &[u16; 2048], next: &[u16], i: usize, d: usize) -> bool
+    requires { ⌜ Whole (now file) b × Filed (bundleAt (now file) b) (now heads) (now next) i × (i < length (now next)) × (d < 2048) × (d ≡ digestOf (bundleAt (now file) b) (termOf (bundleAt (now file) b) i)) ⌝ }
     ensures { λ r. ⌜ r ≡ isNew (bundleAt (now (file .entry)) b) i ⌝ }
 {
     let mut j = wide(heads[d]);

@@ -9,8 +9,8 @@ pub mod links; // links.rt: 5
 pub mod symbols; // symbols.rt: 6, in symbols and variables
 pub mod sorts; // sorts.rt: signatures and sorts
 pub mod duplicates; // duplicates.rt: 9
+pub mod notes; // notes.rt: what is noted of every list and term, for 7 to 9
 pub mod terms; // terms.rt: 7, 8, and all of a term
-pub mod free; // free.rt: free sets
 
 use bundle::Bundle;
 use logic::Fault;

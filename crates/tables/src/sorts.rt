@@ -1,7 +1,8 @@
 // Signatures of symbols, sorts of terms, and lists of sorts compared.
 ghost use mathlib.Core.Path.{_≡_};
+ghost use mathlib.Core.Bool.{true};
 ghost use mathlib.Core.List.{map};
-ghost use lib.ListN.{replicate};
+ghost use lib.ListN.{replicate, length, getD};
 ghost use Prim.Native.Nat.{_≤_};
 ghost use Rattle.bundle.specs.Bundle.{sortOfVariable, termOf};
 ghost use Rattle.bundle.specs.Links.{items};
@@ -11,6 +12,8 @@ ghost use Rattle.logic.specs.declared.Signature.the-variants.{BuiltIn};
 ghost use Rattle.logic.specs.Symbols.{truthSort, kindOfSymbol, signature, signatureOf, known, argumentSorts, resultSort};
 ghost use Rattle.logic.specs.Sorts.{sortAt};
 ghost use Rattle.logic.specs.Checks.{listsAgree};
+ghost use Rattle.tables.specs.Notes.{Sorted, Fitting};
+use super::duplicates::wide;
 use bundle::Bundle;
 use bundle::lists::all_different;
 use bundle::lists::first_link;
@@ -77,7 +80,7 @@ pub fn is_known(s: Signature) -> bool
 }
 
 // The result sort.
-fn result_sort(file: &[u8], b: Bundle, s: Signature) -> usize
+pub fn result_sort(file: &[u8], b: Bundle, s: Signature) -> usize
     requires { ⌜ Whole (now file) b ⌝ }
     ensures { λ r. ⌜ r ≡ resultSort (bundleAt (now (file .entry)) b) s ⌝ }
 {
@@ -126,9 +129,23 @@ pub fn term_sort(file: &[u8], b: Bundle, term: usize) -> usize
     0
 }
 
+// The sort of a term from `sorts`, where those of all terms are noted; 0 for a number past them.
+pub fn sort_in(sorts: &[usize], t: usize) -> usize
+    ensures { λ r. ⌜ r ≡ getD (now (sorts .entry)) t 0 ⌝ }
+{
+    if t < sorts.len() { sorts[t] } else { 0 }
+}
+
 // Whether the terms of a list are so many, each of the same sort.
-fn all_of_sort(file: &[u8], b: Bundle, count: usize, sort: usize, terms: usize) -> bool
-    requires { ⌜ Whole (now file) b ⌝ }
+fn all_of_sort(
+    file: &[u8],
+    b: Bundle,
+    sorts: &[usize],
+    count: usize,
+    sort: usize,
+    terms: usize,
+) -> bool
+    requires { ⌜ Whole (now file) b × Sorted (now file) b (now sorts) ⌝ }
     ensures { λ r. ⌜ r ≡ sameList (replicate count sort) (map (sortAt (bundleAt (now (file .entry)) b)) (items (bundleAt (now (file .entry)) b) terms)) ⌝ }
 {
     let mut left = count;
@@ -138,7 +155,7 @@ fn all_of_sort(file: &[u8], b: Bundle, count: usize, sort: usize, terms: usize) 
             return false;
         }
         let t = link_field(file, b, i, 0);
-        let s = term_sort(file, b, t);
+        let s = sort_in(sorts, t);
         if sort != s {
             return false;
         }
@@ -148,20 +165,32 @@ fn all_of_sort(file: &[u8], b: Bundle, count: usize, sort: usize, terms: usize) 
     i == 0
 }
 
-// Whether the terms of a list have the sorts of a list of sorts, one each.
-fn same_sorts(file: &[u8], b: Bundle, sorts: usize, terms: usize) -> bool
-    requires { ⌜ Whole (now file) b ⌝ }
-    ensures { λ r. ⌜ r ≡ sameList (items (bundleAt (now (file .entry)) b) sorts) (map (sortAt (bundleAt (now (file .entry)) b)) (items (bundleAt (now (file .entry)) b) terms)) ⌝ }
+// Whether the terms from link `terms` on have the sorts from link `list` on, one each: up to a link from which that is noted. Each link on the
+// way is noted before the rest of its list is known, so what is noted holds only where the answer is yes.
+fn far_sorts(
+    file: &[u8],
+    b: Bundle,
+    sorts: &[usize],
+    fitting: &mut [u16],
+    list: usize,
+    terms: usize,
+) -> bool
+    requires { ⌜ Whole (now file) b × Sorted (now file) b (now sorts) × Fitting (now file) b (now fitting) × (list ≤ b .links) × (terms ≤ b .links) ⌝ }
+    ensures { λ r. ⌜ (r ≡ sameList (items (bundleAt (now (file .entry)) b) list) (map (sortAt (bundleAt (now (file .entry)) b)) (items (bundleAt (now (file .entry)) b) terms))) × (r ≡ true → Fitting (now (file .entry)) b (now (fitting .exit))) ⌝ }
 {
-    let mut i = first_link(b, sorts);
-    let mut j = first_link(b, terms);
+    let mut i = list;
+    let mut j = terms;
     while i != 0 {
         if j == 0 {
             return false;
         }
+        if wide(fitting[j]) == i {
+            return true;
+        }
+        fitting[j] = i as u16;
         let sort = link_field(file, b, i, 0);
         let t = link_field(file, b, j, 0);
-        let s = term_sort(file, b, t);
+        let s = sort_in(sorts, t);
         if sort != s {
             return false;
         }
@@ -171,20 +200,62 @@ fn same_sorts(file: &[u8], b: Bundle, sorts: usize, terms: usize) -> bool
     j == 0
 }
 
+// Whether the terms of a list have the sorts of a list of sorts, one each. Most lists end before anything is noted.
+fn same_sorts(
+    file: &[u8],
+    b: Bundle,
+    sorts: &[usize],
+    fitting: &mut [u16],
+    list: usize,
+    terms: usize,
+) -> bool
+    requires { ⌜ Whole (now file) b × Sorted (now file) b (now sorts) × Fitting (now file) b (now fitting) ⌝ }
+    ensures { λ r. ⌜ (r ≡ sameList (items (bundleAt (now (file .entry)) b) list) (map (sortAt (bundleAt (now (file .entry)) b)) (items (bundleAt (now (file .entry)) b) terms))) × (r ≡ true → Fitting (now (file .entry)) b (now (fitting .exit))) ⌝ }
+{
+    let mut i = first_link(b, list);
+    let mut j = first_link(b, terms);
+    let mut left = 8usize;
+    while left != 0 {
+        if i == 0 {
+            return j == 0;
+        }
+        if j == 0 {
+            return false;
+        }
+        let sort = link_field(file, b, i, 0);
+        let t = link_field(file, b, j, 0);
+        let s = sort_in(sorts, t);
+        if sort != s {
+            return false;
+        }
+        i = next_link(file, b, i);
+        j = next_link(file, b, j);
+        left -= 1;
+    }
+    far_sorts(file, b, sorts, fitting, i, j)
+}
+
 // Whether the terms of a list have the sorts of a symbol's arguments.
-pub fn arguments_fit(file: &[u8], b: Bundle, s: Signature, terms: usize) -> bool
-    requires { ⌜ Whole (now file) b ⌝ }
-    ensures { λ r. ⌜ r ≡ sameList (argumentSorts (bundleAt (now (file .entry)) b) s) (map (sortAt (bundleAt (now (file .entry)) b)) (items (bundleAt (now (file .entry)) b) terms)) ⌝ }
+pub fn arguments_fit(
+    file: &[u8],
+    b: Bundle,
+    sorts: &[usize],
+    fitting: &mut [u16],
+    s: Signature,
+    terms: usize,
+) -> bool
+    requires { ⌜ Whole (now file) b × Sorted (now file) b (now sorts) × Fitting (now file) b (now fitting) ⌝ }
+    ensures { λ r. ⌜ (r ≡ sameList (argumentSorts (bundleAt (now (file .entry)) b) s) (map (sortAt (bundleAt (now (file .entry)) b)) (items (bundleAt (now (file .entry)) b) terms))) × (r ≡ true → Fitting (now (file .entry)) b (now (fitting .exit))) ⌝ }
 {
     match s {
         Signature::BuiltIn {
             count,
             sort,
             result: _,
-        } => all_of_sort(file, b, count, sort, terms),
+        } => all_of_sort(file, b, sorts, count, sort, terms),
         Signature::Declared(i) => {
-            let sorts = symbol_field(file, b, i, 1);
-            same_sorts(file, b, sorts, terms)
+            let list = symbol_field(file, b, i, 1);
+            same_sorts(file, b, sorts, fitting, list, terms)
         }
         Signature::Unknown => first_link(b, terms) == 0,
     }
@@ -214,7 +285,7 @@ fn variables_fit(file: &[u8], b: Bundle, variables: usize, terms: usize) -> bool
     j == 0
 }
 
-// Whether the lists of a let, or of a replacing context, agree: at least one variable, all different, as many terms, of the same sorts.
+// Whether the lists of a replacing context agree: at least one variable, all different, as many terms, of the same sorts.
 pub fn lists_agree(file: &[u8], b: Bundle, variables: usize, terms: usize) -> bool
     requires { ⌜ Whole (now file) b ⌝ }
     ensures { λ r. ⌜ r ≡ listsAgree (bundleAt (now (file .entry)) b) (items (bundleAt (now (file .entry)) b) variables) (items (bundleAt (now (file .entry)) b) terms) ⌝ }
@@ -223,4 +294,39 @@ pub fn lists_agree(file: &[u8], b: Bundle, variables: usize, terms: usize) -> bo
     let different = all_different(file, b, variables);
     let fit = variables_fit(file, b, variables, terms);
     some & different & fit
+}
+
+// The same, where the sorts of all terms are noted.
+fn variables_sorted(file: &[u8], b: Bundle, sorts: &[usize], variables: usize, terms: usize) -> bool
+    requires { ⌜ Whole (now file) b × Sorted (now file) b (now sorts) ⌝ }
+    ensures { λ r. ⌜ r ≡ sameList (map (sortOfVariable (bundleAt (now (file .entry)) b)) (items (bundleAt (now (file .entry)) b) variables)) (map (sortAt (bundleAt (now (file .entry)) b)) (items (bundleAt (now (file .entry)) b) terms)) ⌝ }
+{
+    let mut i = first_link(b, variables);
+    let mut j = first_link(b, terms);
+    while i != 0 {
+        if j == 0 {
+            return false;
+        }
+        let v = link_field(file, b, i, 0);
+        let sort = variable_sort(file, b, v);
+        let t = link_field(file, b, j, 0);
+        let s = sort_in(sorts, t);
+        if sort != s {
+            return false;
+        }
+        i = next_link(file, b, i);
+        j = next_link(file, b, j);
+    }
+    j == 0
+}
+
+// Whether the lists of a let agree, as those of a replacing context.
+pub fn let_agrees(file: &[u8], b: Bundle, sorts: &[usize], variables: usize, terms: usize) -> bool
+    requires { ⌜ Whole (now file) b × Sorted (now file) b (now sorts) ⌝ }
+    ensures { λ r. ⌜ r ≡ listsAgree (bundleAt (now (file .entry)) b) (items (bundleAt (now (file .entry)) b) variables) (items (bundleAt (now (file .entry)) b) terms) ⌝ }
+{
+    let some = first_link(b, variables) != 0;
+    let distinct = all_different(file, b, variables);
+    let fit = variables_sorted(file, b, sorts, variables, terms);
+    some & distinct & fit
 }

@@ -10,6 +10,7 @@
 --     fresh-on, variable-full                    the term of a new variable; where there was no room for the variable
 --     fixed-full, listed-full, opened-on         the contexts of a quantifier, by its calls
 --     binder-of                                  the binder of a kind
+--     renaming-longer                            the contexts of a quantifier only append
 use mathlib.Core.Path.{_≡_, refl, sym, ap, subst, _∙_}
 use mathlib.Core.List.{List, [], _∷_}
 use Prim.Native.Nat.{ℕ, zero, suc, _≤_}
@@ -64,7 +65,7 @@ listed-longer b x y t v =
 fixed-longer : (b : Bundle) (x y t v : ℕ) → Longer (fixing b y v .bundle) (renaming b x y t v .bundle)
 fixed-longer b x y t v = longer-trans (list-longer (fixing b y v .bundle) (x ∷ [])) (listed-longer b x y t v)
 
-renaming-longer : (b : Bundle) (x y t v : ℕ) → Longer b (renaming b x y t v .bundle)
+pub renaming-longer : (b : Bundle) (x y t v : ℕ) → Longer b (renaming b x y t v .bundle)
 renaming-longer b x y t v = longer-trans (contexts-longer b _) (fixed-longer b x y t v)
 
 -- ---- after a list of values

@@ -1,7 +1,7 @@
 -- The answer of the expansion, as the code comes to it.
 --     long-areas                              the three areas are long enough
 --     refused-early, refused-late             a check of 1 to 9 fails; 18, 15 or 17 does
---     visit-asks, visit-is                    what the visit to the rule asks for, and what it gives, where none of those fails
+--     job-formed, visit-asks, visit-is        what the visit to the rule asks for, and what it gives, where none of those fails
 --     Told, told-done, told-full              what the visit's answer says
 --     refused-full, written                   16 fails; no check does
 --     bytes-of, right-small                   the result's term is a word of 32 bits
@@ -196,6 +196,9 @@ module _ (f : List ℕ) (out words sets : ℕ) where
 
         visit-stands : Stands (bundleIn w c) left (nodeAt (bundleIn w c) left)
         visit-stands = rw (bundle-is, left-is) (stands-at (bundleOf f) tables-formed (bundleOf f .left) left-known)
+
+        pub job-formed : TablesFormed (bundleIn w c)
+        job-formed = rw bundle-is tables-formed
 
         pub visit-asks : wordsOf limits ≤ length w → 1024 ≤ length s → TermAsks w s c 0 0 left
         visit-asks long places = record {

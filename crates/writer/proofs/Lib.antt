@@ -15,6 +15,7 @@
 --     Carried          what stands for a node stands in every longer bundle; what a visit ends in
 --     Pairs            the stack of pairs
 --     Told             what an outcome tells
+--     Indexes          the index after each opener and closer
 --     ListTurns        the visit to a list, turn by turn
 --     TermTurns        the visit to a term, kind by kind
 --     Rooted           a term of well-formed tables stands for its node
@@ -45,6 +46,7 @@ pub mod Calls
 pub mod Carried
 pub mod Pairs
 pub mod Told
+pub mod Indexes
 pub mod ListTurns
 pub mod TermTurns
 pub mod Rooted

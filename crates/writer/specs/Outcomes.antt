@@ -13,6 +13,7 @@ use Rattle.bundle.specs.Limits.{Within}
 use Rattle.logic.specs.Lists.{Number}
 use Rattle.arena.specs.Scratch.{bundleIn, Roomy}
 use Rattle.arena.specs.Stack.{halves}
+use Rattle.arena.specs.Filing.{Indexed}
 use Rattle.logic.specs.Longer.{addList, listStart}
 use Rattle.writer.specs.declared.Visited.{Visited}
 use Rattle.writer.specs.declared.Listed.{Listed}
@@ -63,6 +64,19 @@ pub data ListOutcome (v : Visits) (h : ℕ) (w s : List ℕ) (r : Listed) : Type
   done : Holds w (v .bundle) → r ≡ Listed.Done (countsIn (v .bundle)) (h + length (v .results))
       → halves true s h (h + length (v .results)) ≡ v .results → halves false s h (h + length (v .results)) ≡ v .steps → ListOutcome v h w s r
   full : TooMuch (v .bundle) → r ≡ Listed.Full → ListOutcome v h w s r
+
+-- where a call was done, the index ix holds all terms that the words w stand for
+pub record VisitIndexed (w ix : List ℕ) (r : Visited) : Type 0 where
+  pub held : (c : Counts) (t s : ℕ) → r ≡ Visited.Done c t s → Indexed (bundleIn w c) ix
+
+pub record OpenIndexed (w ix : List ℕ) (r : Opened) : Type 0 where
+  pub held : (c : Counts) (n : ℕ) → r ≡ Opened.Done c n → Indexed (bundleIn w c) ix
+
+pub record PlaceIndexed (w ix : List ℕ) (r : Placed) : Type 0 where
+  pub held : (c : Counts) (t : ℕ) → r ≡ Placed.Done c t → Indexed (bundleIn w c) ix
+
+pub record ListIndexed (w ix : List ℕ) (r : Listed) : Type 0 where
+  pub held : (c : Counts) (h : ℕ) → r ≡ Listed.Done c h → Indexed (bundleIn w c) ix
 
 -- the words v are w with the header of these counts and this claim
 pub record HeaderWritten (w : List ℕ) (c : Counts) (left right : ℕ) (v : List ℕ) : Type 0 where

@@ -1,17 +1,19 @@
 // What a visit opens and closes with, each against its definition without limits. `Full` as soon as a section would pass its limit.
+// The index holds all terms; a term that is appended is filed in it.
 ghost use mathlib.Core.Path.{_≡_};
 ghost use mathlib.Core.Bool.{true, false};
 ghost use mathlib.Core.List.{[], _∷_};
-ghost use Prim.Native.Nat.{ℕ, suc, _≤_};
+ghost use Prim.Native.Nat.{ℕ, suc, _≤_, _<_};
 ghost use lib.ListN.{length};
 ghost use Rattle.logic.specs.Terms.{Binder};
 ghost use Rattle.logic.specs.Lookup.{binderKind};
 ghost use Rattle.logic.specs.Longer.{addList, listStart, withTerms, withContexts, withSteps};
 ghost use Rattle.arena.specs.Scratch.{bundleIn};
 ghost use Rattle.arena.specs.Stack.{halves};
+ghost use Rattle.arena.specs.Filing.{Digested, Indexed};
 ghost use Rattle.writer.specs.Nodes.{leaf};
 ghost use Rattle.writer.specs.Visit.{visit, concluded, replacing, placeApplication, placeBinder, fresh, renaming, openBinder, closeApplication, closeBinder};
-ghost use Rattle.writer.specs.Outcomes.{Ready, VisitOutcome, OpenOutcome, PlaceOutcome, AddOutcome};
+ghost use Rattle.writer.specs.Outcomes.{Ready, VisitOutcome, OpenOutcome, PlaceOutcome, AddOutcome, VisitIndexed, OpenIndexed, PlaceIndexed};
 use super::Opened;
 use super::Placed;
 use super::Visited;
@@ -19,6 +21,9 @@ use arena::appends::append_context;
 use arena::appends::append_step;
 use arena::appends::append_term;
 use arena::appends::append_variable;
+use arena::filing::file_term;
+use arena::filing::mixed_results;
+use arena::filing::root_digest;
 use arena::images::image_in;
 use arena::lists::push_halves;
 use arena::lists::push_one;
@@ -75,15 +80,25 @@ fn add_value(words: &mut [u32], c: Bundle, value: usize) -> Added
     }
 }
 
-fn add_term(words: &mut [u32], c: Bundle, kind: usize, first: usize, second: usize) -> Placed
-    requires { ⌜ Ready (now words) c × (kind ≤ 4294967295) × (first ≤ 4294967295) × (second ≤ 4294967295) ⌝ }
-    ensures { λ r. ⌜ (length (now (words .exit)) ≡ length (now (words .entry))) × PlaceOutcome (record { bundle = withTerms (bundleIn (now (words .entry)) c) (record { kind = kind; a = first; b = second; c = 0 } ∷ []); term = suc (length (bundleIn (now (words .entry)) c .terms)) }) (now (words .exit)) r ⌝ }
+// A term, filed by its digest, which is d.
+fn add_term(
+    words: &mut [u32],
+    c: Bundle,
+    kind: usize,
+    first: usize,
+    second: usize,
+    index: &mut [u16; 2049],
+    d: usize,
+) -> Placed
+    requires { ⌜ Ready (now words) c × (kind ≤ 4294967295) × (first ≤ 4294967295) × (second ≤ 4294967295) × Indexed (bundleIn (now words) c) (now index) × (d < 1024) × Digested (bundleIn (now words) c) (record { kind = kind; a = first; b = second; c = 0 }) d ⌝ }
+    ensures { λ r. ⌜ (length (now (words .exit)) ≡ length (now (words .entry))) × PlaceOutcome (record { bundle = withTerms (bundleIn (now (words .entry)) c) (record { kind = kind; a = first; b = second; c = 0 } ∷ []); term = suc (length (bundleIn (now (words .entry)) c .terms)) }) (now (words .exit)) r × PlaceIndexed (now (words .exit)) (now (index .exit)) r ⌝ }
 {
     let terms = c.terms;
     if terms >= Bundle::TERMS {
         return Placed::Full;
     }
     let counts = append_term(words, c, kind, first, second, 0);
+    file_term(index, d, terms + 1);
     Placed::Done {
         counts,
         term: terms + 1,
@@ -261,11 +276,14 @@ fn place_application(
     stack: &[u64],
     from: usize,
     to: usize,
+    index: &mut [u16; 2049],
 ) -> Placed
-    requires { ⌜ Ready (now words) c × (symbol ≤ 4294967295) × (from ≤ to) × (to ≤ length (now stack)) ⌝ }
-    ensures { λ r. ⌜ (length (now (words .exit)) ≡ length (now (words .entry))) × PlaceOutcome (placeApplication (bundleIn (now (words .entry)) c) symbol (halves true (now (stack .entry)) from to)) (now (words .exit)) r ⌝ }
+    requires { ⌜ Ready (now words) c × (symbol ≤ 4294967295) × (from ≤ to) × (to ≤ length (now stack)) × Indexed (bundleIn (now words) c) (now index) ⌝ }
+    ensures { λ r. ⌜ (length (now (words .exit)) ≡ length (now (words .entry))) × PlaceOutcome (placeApplication (bundleIn (now (words .entry)) c) symbol (halves true (now (stack .entry)) from to)) (now (words .exit)) r × PlaceIndexed (now (words .exit)) (now (index .exit)) r ⌝ }
 {
-    let found = find_application(words, c, symbol, stack, from, to);
+    let root = root_digest(2, symbol);
+    let d = mixed_results(root, stack, from, to);
+    let found = find_application(words, c, index, d, symbol, stack, from, to);
     if found != 0 {
         return Placed::Done {
             counts: c,
@@ -275,7 +293,7 @@ fn place_application(
     let listed = add_halves(words, c, stack, true, from, to);
     match listed {
         Added::Full => Placed::Full,
-        Added::Done { counts, start } => add_term(words, counts, 2, symbol, start),
+        Added::Done { counts, start } => add_term(words, counts, 2, symbol, start, index, d),
     }
 }
 
@@ -288,11 +306,12 @@ pub fn close_application(
     stack: &[u64],
     from: usize,
     to: usize,
+    index: &mut [u16; 2049],
 ) -> Visited
-    requires { ⌜ Ready (now words) c × (context ≤ 4294967295) × (term ≤ 4294967295) × (symbol ≤ 4294967295) × (from ≤ to) × (to ≤ length (now stack)) ⌝ }
-    ensures { λ r. ⌜ (length (now (words .exit)) ≡ length (now (words .entry))) × VisitOutcome (closeApplication context term symbol (record { bundle = bundleIn (now (words .entry)) c; results = halves true (now (stack .entry)) from to; steps = halves false (now (stack .entry)) from to })) (now (words .exit)) r ⌝ }
+    requires { ⌜ Ready (now words) c × (context ≤ 4294967295) × (term ≤ 4294967295) × (symbol ≤ 4294967295) × (from ≤ to) × (to ≤ length (now stack)) × Indexed (bundleIn (now words) c) (now index) ⌝ }
+    ensures { λ r. ⌜ (length (now (words .exit)) ≡ length (now (words .entry))) × VisitOutcome (closeApplication context term symbol (record { bundle = bundleIn (now (words .entry)) c; results = halves true (now (stack .entry)) from to; steps = halves false (now (stack .entry)) from to })) (now (words .exit)) r × VisitIndexed (now (words .exit)) (now (index .exit)) r ⌝ }
 {
-    let placed = place_application(words, c, symbol, stack, from, to);
+    let placed = place_application(words, c, symbol, stack, from, to, index);
     match placed {
         Placed::Full => Visited::Full,
         Placed::Done {
@@ -305,9 +324,9 @@ pub fn close_application(
 // ---- Quantifier
 
 // A new variable of the sort of x, and its term.
-fn place_fresh(words: &mut [u32], c: Bundle, x: usize) -> Placed
-    requires { ⌜ Ready (now words) c ⌝ }
-    ensures { λ r. ⌜ (length (now (words .exit)) ≡ length (now (words .entry))) × PlaceOutcome (fresh (bundleIn (now (words .entry)) c) x) (now (words .exit)) r ⌝ }
+fn place_fresh(words: &mut [u32], c: Bundle, x: usize, index: &mut [u16; 2049]) -> Placed
+    requires { ⌜ Ready (now words) c × Indexed (bundleIn (now words) c) (now index) ⌝ }
+    ensures { λ r. ⌜ (length (now (words .exit)) ≡ length (now (words .entry))) × PlaceOutcome (fresh (bundleIn (now (words .entry)) c) x) (now (words .exit)) r × PlaceIndexed (now (words .exit)) (now (index .exit)) r ⌝ }
 {
     let sort = variable_sort(words, c, x);
     let variables = c.variables;
@@ -316,14 +335,15 @@ fn place_fresh(words: &mut [u32], c: Bundle, x: usize) -> Placed
     }
     let y = variables + 1;
     let more = append_variable(words, c, sort);
-    let found = find_variable(words, more, y);
+    let d = root_digest(1, y);
+    let found = find_variable(words, more, index, d, y);
     if found != 0 {
         return Placed::Done {
             counts: more,
             term: found,
         };
     }
-    add_term(words, more, 1, y, 0)
+    add_term(words, more, 1, y, 0, index, d)
 }
 
 // The contexts of a quantifier over x whose new variable is y, with the term t: y fixed, then x replaced by t.
@@ -355,12 +375,18 @@ fn open_renaming(
 }
 
 // The new variable, its term and the contexts of a quantifier over x.
-pub fn open_quantifier(words: &mut [u32], c: Bundle, x: usize, context: usize) -> Opened
-    requires { ⌜ Ready (now words) c × (x ≤ 4294967295) × (context ≤ 4294967295) ⌝ }
-    ensures { λ r. ⌜ (length (now (words .exit)) ≡ length (now (words .entry))) × OpenOutcome (openBinder (bundleIn (now (words .entry)) c) x context) (now (words .exit)) r ⌝ }
+pub fn open_quantifier(
+    words: &mut [u32],
+    c: Bundle,
+    x: usize,
+    context: usize,
+    index: &mut [u16; 2049],
+) -> Opened
+    requires { ⌜ Ready (now words) c × (x ≤ 4294967295) × (context ≤ 4294967295) × Indexed (bundleIn (now words) c) (now index) ⌝ }
+    ensures { λ r. ⌜ (length (now (words .exit)) ≡ length (now (words .entry))) × OpenOutcome (openBinder (bundleIn (now (words .entry)) c) x context) (now (words .exit)) r × OpenIndexed (now (words .exit)) (now (index .exit)) r ⌝ }
 {
     let y = c.variables + 1;
-    let placed = place_fresh(words, c, x);
+    let placed = place_fresh(words, c, x, index);
     match placed {
         Placed::Full => Opened::Full,
         Placed::Done { counts, term } => open_renaming(words, counts, x, y, term, context),
@@ -368,18 +394,26 @@ pub fn open_quantifier(words: &mut [u32], c: Bundle, x: usize, context: usize) -
 }
 
 // The term of a binder of y in the term `body`, looked up before it is appended.
-fn place_binder(words: &mut [u32], c: Bundle, kind: usize, y: usize, body: usize) -> Placed
-    requires { ⌜ Ready (now words) c × (3 ≤ kind) × (kind ≤ 4) × (y ≤ 4294967295) × (body ≤ 4294967295) ⌝ }
-    ensures { λ r. ⌜ (length (now (words .exit)) ≡ length (now (words .entry))) × ((q : Binder) → kind ≡ binderKind q → PlaceOutcome (placeBinder (bundleIn (now (words .entry)) c) q y body) (now (words .exit)) r) ⌝ }
+fn place_binder(
+    words: &mut [u32],
+    c: Bundle,
+    kind: usize,
+    y: usize,
+    body: usize,
+    index: &mut [u16; 2049],
+) -> Placed
+    requires { ⌜ Ready (now words) c × (3 ≤ kind) × (kind ≤ 4) × (y ≤ 4294967295) × (body ≤ 4294967295) × Indexed (bundleIn (now words) c) (now index) ⌝ }
+    ensures { λ r. ⌜ (length (now (words .exit)) ≡ length (now (words .entry))) × ((q : Binder) → kind ≡ binderKind q → PlaceOutcome (placeBinder (bundleIn (now (words .entry)) c) q y body) (now (words .exit)) r) × PlaceIndexed (now (words .exit)) (now (index .exit)) r ⌝ }
 {
-    let found = find_binder(words, c, kind, y, body);
+    let d = root_digest(kind, y);
+    let found = find_binder(words, c, index, d, kind, y, body);
     if found != 0 {
         return Placed::Done {
             counts: c,
             term: found,
         };
     }
-    add_term(words, c, kind, y, body)
+    add_term(words, c, kind, y, body, index, d)
 }
 
 // The result of a quantifier's visit, and BIND, whose premise is the step.
@@ -392,11 +426,12 @@ pub fn close_quantifier(
     y: usize,
     result: usize,
     step: usize,
+    index: &mut [u16; 2049],
 ) -> Visited
-    requires { ⌜ Ready (now words) c × (context ≤ 4294967295) × (term ≤ 4294967295) × (3 ≤ kind) × (kind ≤ 4) × (y ≤ 4294967295) × (result ≤ 4294967295) × (step ≤ 4294967295) ⌝ }
-    ensures { λ r. ⌜ (length (now (words .exit)) ≡ length (now (words .entry))) × ((q : Binder) → kind ≡ binderKind q → VisitOutcome (closeBinder context term q y (record { bundle = bundleIn (now (words .entry)) c; result = result; step = step })) (now (words .exit)) r) ⌝ }
+    requires { ⌜ Ready (now words) c × (context ≤ 4294967295) × (term ≤ 4294967295) × (3 ≤ kind) × (kind ≤ 4) × (y ≤ 4294967295) × (result ≤ 4294967295) × (step ≤ 4294967295) × Indexed (bundleIn (now words) c) (now index) ⌝ }
+    ensures { λ r. ⌜ (length (now (words .exit)) ≡ length (now (words .entry))) × ((q : Binder) → kind ≡ binderKind q → VisitOutcome (closeBinder context term q y (record { bundle = bundleIn (now (words .entry)) c; result = result; step = step })) (now (words .exit)) r) × VisitIndexed (now (words .exit)) (now (index .exit)) r ⌝ }
 {
-    let placed = place_binder(words, c, kind, y, result);
+    let placed = place_binder(words, c, kind, y, result, index);
     match placed {
         Placed::Full => Visited::Full,
         Placed::Done {

@@ -44,7 +44,7 @@ pub fn job_fault(job: &[u8], b: Bundle, sets: &mut [u64]) -> usize
     if !((0 < left) & (left <= terms)) {
         return 15;
     }
-    tables::free::free_sets(job, b, sets, Bundle::SET_WORDS);
+    free_variables::free_sets(job, b, sets, Bundle::SET_WORDS);
     if !is_closed(
         sets,
         Bundle::SET_WORDS * (left - 1),

@@ -69,7 +69,7 @@ fn store_job(job: &[u8], out: &mut [u8], words: &mut [u32], sets: &mut [u64]) ->
     }
     jobs::copy_job(job, b, words);
     let left = bundle::words::word_at(job, 7);
-    let visited = visits::visit_term(words, sets, b, 0, 0, left);
+    let visited = visits::visit_job(words, sets, b, left);
     match visited {
         Visited::Full => Answer::Refused {
             number: 16,

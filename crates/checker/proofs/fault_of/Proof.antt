@@ -55,7 +55,7 @@ room : (c : tie.After-counts) → setWords * c .counts .result .terms ≤ length
 room c = rw (c .counts .ensures) (good (c .before) .area)
 
 free-sets-requires : tie.Need-free-sets-requires
-free-sets-requires c κs = (whole (c .before), omega arith, room (c .before), whole (c .before) .within .variables)
+free-sets-requires c κs = (whole (c .before), omega arith, omega arith, room (c .before), whole (c .before) .within .variables)
 
 late-fault-requires : tie.Need-late-fault-requires
 late-fault-requires c κs =

@@ -1,52 +1,52 @@
--- `late_fault` meets its contract: a section with no fault leaves it to those after it, and the claim is the last.
+-- `late_fault` meets its contract: zeros are what is known of the empty context.
+use Prim.Native.Nat.{ℕ}
+use native.Mathlib.Omega.{arith}
+use lib.ListN.{length-replicate}
+use Rattle.bundle.specs.File.{bundleAt}
+use Rattle.steps.proofs.KnownRows.{images-none, moved-none}
 use borrow.Author.Needs.{needs}
-use Prim.Native.Nat.{ℕ, zero, suc}
-use mathlib.Core.Path.{_≡_, refl, sym}
-use Rattle.logic.specs.Tests.{fault, orElse}
-use Rattle.logic.proofs.Firsts.{orElse-on, orElse-here}
-use Rattle.checker.specs.Judge.{lateFault}
 use Rattle.checker.proofs.late_fault.Statement.{statement}
 use Rattle.checker.proofs.late_fault.Tie as tie
 
--- after the last section nothing is left that could be wrong
-orElse-last : (n : ℕ) → orElse n 0 (fault 0 0) ≡ fault n 0
-unfolding orElse
-orElse-last zero = refl
-orElse-last (suc n) = refl
+slice-aggregate-late-fault-in : tie.Need-slice-aggregate-late-fault-in
+slice-aggregate-late-fault-in c = search needs
 
-contexts-fault-requires : tie.Need-contexts-fault-requires
-contexts-fault-requires c κs = search needs
+slice-aggregate-late-fault-in-2 : tie.Need-slice-aggregate-late-fault-in-2
+slice-aggregate-late-fault-in-2 c = search needs
+
+late-fault-in-requires : tie.Need-late-fault-in-requires
+late-fault-in-requires c κs =
+    let a = c .before .before .before .before .before .before .args in
+    let b = bundleAt (a .file .now) (a .b) in
+    (c .before .before .before .before .before .before .pre .0, c .before .before .before .before .before .before .pre .1, omega (arith, c .before .before .if1 .taken, length-replicate {A = ℕ} 2048 0), omega (arith, c .before .before .if1 .taken, length-replicate {A = ℕ} 32 0), images-none b 2048 (omega arith), moved-none b 1 32 (omega arith))
 
 returns : tie.Need-returns
-unfolding lateFault
-returns c = rw (← c .before .before .contexts-fault .ensures, orElse-here _ _ _ (c .if1 .taken))
+returns c = c .before .before .late-fault-in .ensures
 
-steps-fault-requires : tie.Need-steps-fault-requires
-steps-fault-requires c κs = search needs
+slice-aggregate-late-fault-in-3 : tie.Need-slice-aggregate-late-fault-in-3
+slice-aggregate-late-fault-in-3 c = search needs
+
+slice-aggregate-late-fault-in-4 : tie.Need-slice-aggregate-late-fault-in-4
+slice-aggregate-late-fault-in-4 c = search needs
+
+late-fault-in-requires-2 : tie.Need-late-fault-in-requires-2
+late-fault-in-requires-2 c κs =
+    let a = c .before .before .before .before .before .before .args in
+    let b = bundleAt (a .file .now) (a .b) in
+    (c .before .before .before .before .before .before .pre .0, c .before .before .before .before .before .before .pre .1, omega (arith, c .before .before .before .before .before .before .pre .0 .within .contexts, length-replicate {A = ℕ} 16448 0), omega (arith, c .before .before .before .before .before .before .pre .0 .within .contexts, length-replicate {A = ℕ} 257 0), images-none b 16448 (omega arith), moved-none b 1 257 (omega arith))
 
 returns-2 : tie.Need-returns-2
-unfolding lateFault
-returns-2 c =
-    let x = c .before .before .before in
-    rw (← x .before .before .contexts-fault .ensures, orElse-on _ _ _ (x .if1 .left), ← c .before .before .steps-fault .ensures, orElse-here _ _ _ (c .if2 .taken))
-
-claim-fault-requires : tie.Need-claim-fault-requires
-claim-fault-requires c κs = search needs
-
-returns-3 : tie.Need-returns-3
-unfolding lateFault
-returns-3 c =
-    let s = c .before in
-    let x = s .before .before .before in
-    rw (← x .before .before .contexts-fault .ensures, orElse-on _ _ _ (x .if1 .left), ← s .before .before .steps-fault .ensures, orElse-on _ _ _ (s .if2 .left), ← c .claim-fault .ensures) (sym (orElse-last _))
+returns-2 c = c .before .before .late-fault-in2 .ensures
 
 pub late-fault-spec : {M : Type 1} → statement M
 late-fault-spec =
     tie.close
     (tie.spec
-    contexts-fault-requires
+    slice-aggregate-late-fault-in
+    slice-aggregate-late-fault-in-2
+    late-fault-in-requires
     returns
-    steps-fault-requires
-    returns-2
-    claim-fault-requires
-    returns-3)
+    slice-aggregate-late-fault-in-3
+    slice-aggregate-late-fault-in-4
+    late-fault-in-requires-2
+    returns-2)

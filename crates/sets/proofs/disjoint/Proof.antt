@@ -8,10 +8,10 @@ use Rattle.sets.proofs.disjoint.Statement.{statement}
 use Rattle.sets.proofs.disjoint.Tie as tie
 
 abbrev Inv-loop : tie.InvT-loop
-Inv-loop area first second n k₀ k = (k ≤ n) × (disjointOf area first second n ≡ disjointOf area first second k)
+Inv-loop area first other second n k₀ k = (k ≤ n) × (disjointOf area first other second n ≡ disjointOf area first other second k)
 
 abbrev μ-loop : tie.MeasureT-loop
-μ-loop area first second n k₀ k = k
+μ-loop area first other second n k₀ k = k
 
 loop-holds : tie.Need-loop-holds Inv-loop μ-loop
 loop-holds c = (omega arith, refl)
@@ -41,7 +41,7 @@ returns : tie.Need-returns Inv-loop μ-loop
 returns c =
     let a = c .before .before .before .before .before .args in
     let l = c .before .before .before .before .loop in
-    sym (l .inv .1 ∙ disjoint-here (a .area .now) (a .first) (a .second) (l .k) (c .before .before .before .loop-test .taken) (c .if1 .taken))
+    sym (l .inv .1 ∙ disjoint-here (a .area .now) (a .first) (a .other .now) (a .second) (l .k) (c .before .before .before .loop-test .taken) (c .if1 .taken))
 
 loop-less : tie.Need-loop-less Inv-loop μ-loop
 loop-less c = omega arith
@@ -50,7 +50,7 @@ loop-again : tie.Need-loop-again Inv-loop μ-loop
 loop-again c =
     let a = c .before .before .before .before .before .args in
     let l = c .before .before .before .before .loop in
-    (omega arith, l .inv .1 ∙ disjoint-on (a .area .now) (a .first) (a .second) (l .k) (c .before .before .before .loop-test .taken) (c .if1 .left))
+    (omega arith, l .inv .1 ∙ disjoint-on (a .area .now) (a .first) (a .other .now) (a .second) (l .k) (c .before .before .before .loop-test .taken) (c .if1 .left))
 
 returns-2 : tie.Need-returns-2 Inv-loop μ-loop
 unfolding disjointOf

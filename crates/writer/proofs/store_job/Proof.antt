@@ -6,6 +6,8 @@ use lib.ListN.{length}
 use Rattle.bundle.specs.Bundle.{Bundle}
 use Rattle.bundle.specs.File.{Whole, bundleOf}
 use Rattle.logic.specs.Tests.{firstFailing}
+use Rattle.logic.specs.WellFormed.{TablesFormed}
+use Rattle.arena.specs.Scratch.{bundleIn}
 use Rattle.logic.specs.Checks.{tablesFault}
 use Rattle.tables.proofs.Headers.{bundle-is}
 use Rattle.checker.proofs.Header.{HeaderGood}
@@ -13,7 +15,7 @@ use Rattle.writer.specs.Visit.{visited}
 use Rattle.writer.specs.Expansion.{longEnough, earlyTests}
 use Rattle.writer.specs.Demands.{LongEnough}
 use Rattle.writer.specs.Outcomes.{VisitOutcome, TermAsks}
-use Rattle.writer.proofs.Expanding.{refused-early, header-good, areas-long, refused-late, refused-full, visit-asks, visit-is, Told, told-done, told-full, right-small, bytes-of, stored-refused, stored-written}
+use Rattle.writer.proofs.Expanding.{refused-early, header-good, areas-long, refused-late, refused-full, job-formed, visit-asks, visit-is, Told, told-done, told-full, right-small, bytes-of, stored-refused, stored-written}
 use Rattle.writer.proofs.store_job.Statement.{statement}
 use Rattle.writer.proofs.store_job.Tie as tie
 
@@ -58,17 +60,24 @@ asks c =
     (c .before .before .before .before .before .before .before .before .before .before .counts .ensures) (c .word-at .ensures .0) (c .before .before .before .copy-job .ensures .1)
     (rw (c .before .before .words .given) (areas (c .before .before .before .before .before .before .before .before .before .before .before) .scratch)) (rw (c .before .before .before .before .before .before .before .sets .given) (areas (c .before .before .before .before .before .before .before .before .before .before .before) .stack))
 
-outcome : (c : tie.After-visit-term)
-    → VisitOutcome (visited (bundleOf (c .before .before .before .before .before .before .before .before .before .before .before .before .before .before .before .before .before .before .before .before .before .before .args .job .now))) (c .visit-term .last .0) (c .visit-term .result)
+formed : (c : tie.After-word-at) → TablesFormed (bundleIn (c .before .before .before .copy-job .last .1 .1 .0) (c .before .before .before .before .before .before .before .before .before .before .counts .result))
+formed c =
+    let a = c .before .before .before .before .before .before .before .before .before .before .before .before .before .before .before .before .before .before .before .args in
+    job-formed (a .job .now) (length (a .out .now)) (length (a .words .now)) (length (a .sets .now)) (none (c .before .before .before .before .before .before .before .before .before .before .before)) (early (c .before .before .before .before .before))
+    (c .before .before .before .copy-job .last .1 .1 .0) (c .before .before .before .before .before .before .before .before .job-fault .last .1 .1 .0) (c .before .before .before .before .before .before .before .before .before .before .counts .result) (c .word-at .result)
+    (c .before .before .before .before .before .before .before .before .before .before .counts .ensures) (c .word-at .ensures .0) (c .before .before .before .copy-job .ensures .1)
+
+outcome : (c : tie.After-visit-job)
+    → VisitOutcome (visited (bundleOf (c .before .before .before .before .before .before .before .before .before .before .before .before .before .before .before .before .before .before .before .before .before .before .args .job .now))) (c .visit-job .last .0) (c .visit-job .result)
 outcome c =
     let a = c .before .before .before .before .before .before .before .before .before .before .before .before .before .before .before .before .before .before .before .before .before .before .args in
     visit-is (a .job .now) (length (a .out .now)) (length (a .words .now)) (length (a .sets .now)) (none (c .before .before .before .before .before .before .before .before .before .before .before .before .before .before)) (early (c .before .before .before .before .before .before .before .before))
     (c .before .before .before .before .before .before .copy-job .last .1 .1 .0) (c .before .before .before .before .before .before .before .before .before .before .before .job-fault .last .1 .1 .0) (c .before .before .before .before .before .before .before .before .before .before .before .before .before .counts .result) (c .before .before .before .word-at .result)
     (c .before .before .before .before .before .before .before .before .before .before .before .before .before .counts .ensures) (c .before .before .before .word-at .ensures .0) (c .before .before .before .before .before .before .copy-job .ensures .1)
-    (c .visit-term .last .0) (c .visit-term .result) (c .visit-term .ensures .outcome)
+    (c .visit-job .last .0) (c .visit-job .result) (c .visit-job .ensures .outcome)
 
 told : (c : tie.After-visited)
-    → Told (visited (bundleOf (c .before .before .before .before .before .before .before .before .before .before .before .before .before .before .before .before .before .before .before .before .before .before .before .before .before .before .before .before .args .job .now))) (c .before .before .before .before .before .before .visit-term .last .0) (c .visited .given .0 .0) (c .visited .given .0 .1 .0)
+    → Told (visited (bundleOf (c .before .before .before .before .before .before .before .before .before .before .before .before .before .before .before .before .before .before .before .before .before .before .before .before .before .before .before .before .args .job .now))) (c .before .before .before .before .before .before .visit-job .last .0) (c .visited .given .0 .0) (c .visited .given .0 .1 .0)
 told c = told-done (outcome (c .before .before .before .before .before .before)) (c .visited .given .1)
 
 long-enough-requires : tie.Need-long-enough-requires
@@ -105,8 +114,8 @@ copy-job-requires c κs = (whole (c .before .before .before .before .before .bef
 word-at-requires : tie.Need-word-at-requires
 word-at-requires c κs = omega (arith, good (c .before .before .before .before .before .before .before .before .before .before) .header)
 
-visit-term-requires : tie.Need-visit-term-requires
-visit-term-requires c κs = asks (c .before .before)
+visit-job-requires : tie.Need-visit-job-requires
+visit-job-requires c κs = (asks (c .before .before), formed (c .before .before))
 
 enum-told : tie.Need-enum-told
 enum-told c = search needs
@@ -135,7 +144,7 @@ same-length-3 c = c .before .before .before .sets2 .given ∙ c .before .before 
 returns-3 : tie.Need-returns-3
 returns-3 c =
     let a = c .before .before .before .before .before .before .before .before .before .before .before .before .before .before .before .before .before .before .before .before .before .before .before .before .before .before .before .before .args in
-    stored-refused (a .job .now) (a .out .now) (a .words .now) (a .sets .now) (a .out .now) (c .before .before .before .before .before .before .visit-term .last .0) (c .before .before .before .before .before .before .visit-term .last .1 .0)
+    stored-refused (a .job .now) (a .out .now) (a .words .now) (a .sets .now) (a .out .now) (c .before .before .before .before .before .before .visit-job .last .0) (c .before .before .before .before .before .before .visit-job .last .1 .0)
     refl (c .before .before .before .before .before .words2 .given ∙ c .before .before .before .before .before .before .before .before .before .before .before .words .given) (c .before .before .before .sets2 .given ∙ c .before .before .before .before .before .before .before .before .before .before .before .before .before .before .before .before .sets .given)
     16 0 (refused-full (a .job .now) (length (a .out .now)) (length (a .words .now)) (length (a .sets .now)) (none (c .before .before .before .before .before .before .before .before .before .before .before .before .before .before .before .before .before .before .before .before)) (early (c .before .before .before .before .before .before .before .before .before .before .before .before .before .before)) (told-full (outcome (c .before .before .before .before .before .before)) (c .enum-told .given .1)))
 
@@ -153,10 +162,10 @@ returns-4 c =
     let a = c .before .before .before .before .before .before .before .before .before .before .before .before .before .before .before .before .before .before .before .before .before .before .before .before .before .before .before .before .before .before .before .before .before .before .before .before .before .args in
     let t = told (c .before .before .before .before .before .before .before .before .before) in
     stored-written (a .job .now) (a .out .now) (a .words .now) (a .sets .now)
-    (c .before .before .before .before .before .store-file .last .1 .1 .1 .1 .0) (c .before .before .before .before .before .store-file .last .0) (c .before .before .before .before .before .before .before .before .before .before .before .before .before .before .before .visit-term .last .1 .0)
+    (c .before .before .before .before .before .store-file .last .1 .1 .1 .1 .0) (c .before .before .before .before .before .store-file .last .0) (c .before .before .before .before .before .before .before .before .before .before .before .before .before .before .before .visit-job .last .1 .0)
     (c .before .before .out .given) (c .before .before .before .before .words3 .given ∙ c .before .before .before .before .before .before .before .before .before .before .before .before .before .before .words2 .given ∙ c .before .before .before .before .before .before .before .before .before .before .before .before .before .before .before .before .before .before .before .before .words .given) (c .before .before .before .before .before .before .before .before .before .before .before .before .sets2 .given ∙ c .before .before .before .before .before .before .before .before .before .before .before .before .before .before .before .before .before .before .before .before .before .before .before .before .before .sets .given)
     (none (c .before .before .before .before .before .before .before .before .before .before .before .before .before .before .before .before .before .before .before .before .before .before .before .before .before .before .before .before .before)) (early (c .before .before .before .before .before .before .before .before .before .before .before .before .before .before .before .before .before .before .before .before .before .before .before))
-    (c .before .before .before .before .before .before .before .before .before .before .before .before .before .before .before .visit-term .last .0) (c .before .before .before .before .before .before .before .before .before .visited .given .0 .0) (c .before .before .before .before .before .before .before .before .before .before .before .before .before .before .before .before .before .before .word-at .result) (c .before .before .before .before .before .before .before .before .before .visited .given .0 .1 .0) (c .bytes .result)
+    (c .before .before .before .before .before .before .before .before .before .before .before .before .before .before .before .visit-job .last .0) (c .before .before .before .before .before .before .before .before .before .visited .given .0 .0) (c .before .before .before .before .before .before .before .before .before .before .before .before .before .before .before .before .before .before .word-at .result) (c .before .before .before .before .before .before .before .before .before .visited .given .0 .1 .0) (c .bytes .result)
     (c .before .before .before .before .before .before .before .before .before .before .before .before .before .before .before .before .before .before .word-at .ensures .0) t (c .bytes .ensures) (c .before .before .before .before .before .store-file .ensures .2)
 
 pub store-job-spec : {M : Type 1} → statement M
@@ -172,7 +181,7 @@ store-job-spec =
     returns-2
     copy-job-requires
     word-at-requires
-    visit-term-requires
+    visit-job-requires
     enum-told
     enum-known-visited
     store-file-requires

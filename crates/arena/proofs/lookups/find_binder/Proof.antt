@@ -1,59 +1,83 @@
--- `lookups::find_binder` meets its contract. The invariant: the first number of all is the first from t on.
--- The measure is the number of terms from t on.
+-- `lookups::find_binder` meets its contract. The invariant: the walk stands at 0 or a term, `found` is the lowest match so far, and whatever else
+-- matches is on the chain from there. Chains fall, so the measure is where it stands.
 use borrow.Author.Needs.{needs}
+use mathlib.Core.Logic.{⊎-elim}
 use native.Mathlib.Omega.{arith}
-use mathlib.Core.Path.{_≡_, sym, _∙_}
-use Prim.Native.Nat.{_+_, _-_, _≤_}
+use Prim.Native.Nat.{ℕ, _+_, _≤_}
+use mathlib.Core.Path.{_≡_, sym, ap, _∙_}
+use lib.ListN.{getD}
 use Rattle.logic.specs.Terms.{Binder}
-use Rattle.logic.specs.Lookup.{seek, binderKind, sameBinder}
+use Rattle.logic.specs.Lookup.{binderKind, sameBinder}
+use Rattle.arena.specs.Filing.{rootDigest}
 use Rattle.arena.specs.Scratch.{bundleIn}
 use Rattle.arena.proofs.ScratchFields.{terms-length}
-use Rattle.arena.proofs.Seeks.{seekFrom, seek-start, seek-here, seek-on, seek-end}
+use Rattle.arena.proofs.Filed.{binder-digest, Sought, sought-start, sought-hit, sought-miss, sought-end}
 use Rattle.arena.proofs.lookups.find_binder.Statement.{statement}
 use Rattle.arena.proofs.lookups.find_binder.Tie as tie
 
 abbrev Inv-loop : tie.InvT-loop
-Inv-loop words c kind y body terms t₀ t = (1 ≤ t) × (t ≤ terms + 1)
-    × ((q : Binder) → kind ≡ binderKind q
-    → seek (sameBinder q y body) (bundleIn words c .terms) ≡ seekFrom (sameBinder q y body) (bundleIn words c .terms) t)
+Inv-loop words c index d kind y body found₀ t₀ found t = (t ≤ c .terms) × ((q : Binder) → kind ≡ binderKind q → Sought (bundleIn words c) index (sameBinder q y body) t found)
 
 abbrev μ-loop : tie.MeasureT-loop
-μ-loop words c kind y body terms t₀ t = terms + 1 - t
+μ-loop words c index d kind y body found₀ t₀ found t = t
+
+mul-wide : tie.Need-mul-wide Inv-loop μ-loop
+mul-wide c = search needs
+
+element-copy-out-wide : tie.Need-element-copy-out-wide Inv-loop μ-loop
+element-copy-out-wide c = search needs
+
+wide-requires : tie.Need-wide-requires Inv-loop μ-loop
+wide-requires c κs = search needs
 
 loop-holds : tie.Need-loop-holds Inv-loop μ-loop
 loop-holds c =
-    let a = c .before .args in
-    (omega arith, omega arith, (λ q e. seek-start (sameBinder q (a .y) (a .body)) (bundleIn (a .words .now) (a .c) .terms)))
+    let a = c .before .before .before .args in
+    let e : c .wide .result ≡ getD (a .index .now) (a .d) 0 = c .wide .ensures in (
+      omega (arith, c .before .before .before .pre .1 .low (a .d) (c .before .before .before .pre .2), terms-length (a .words .now) (a .c)),
+      λ q f. sought-start (bundleIn (a .words .now) (a .c)) (a .index .now) (sameBinder q (a .y) (a .body)) (c .before .before .before .pre .1) (a .d) (c .wide .result) (c .before .before .before .pre .2)
+          (λ r t. binder-digest (bundleIn (a .words .now) (a .c)) q (a .y) (a .body) r t ∙ ap (λ (k : ℕ). rootDigest k (a .y)) (sym f) ∙ sym (c .before .before .before .pre .3)) e,
+    )
 
 is-binder-requires : tie.Need-is-binder-requires Inv-loop μ-loop
 is-binder-requires c κs = search needs
 
-returns : tie.Need-returns Inv-loop μ-loop
-returns c q e =
-    let a = c .before .before .before .before .before .args in
-    let l = c .before .before .before .loop in
-    sym (l .inv .2 q e ∙ seek-here (sameBinder q (a .y) (a .body)) (bundleIn (a .words .now) (a .c) .terms) (a .c .terms) (terms-length (a .words .now) (a .c)) (l .t) (l .inv .0) (c .before .before .loop-test .taken) (c .before .is-binder .ensures q e) (c .if1 .taken))
+add-wide : tie.Need-add-wide Inv-loop μ-loop
+add-wide c = omega (arith, c .before .before .before .loop .inv .0, c .before .before .before .before .before .before .before .pre .0 .within .terms)
 
-add-t : tie.Need-add-t Inv-loop μ-loop
-add-t c = omega arith
+mul-wide-2 : tie.Need-mul-wide-2 Inv-loop μ-loop
+mul-wide-2 c = omega (arith, c .before .before .before .loop .inv .0, c .before .before .before .before .before .before .before .pre .0 .within .terms)
+
+element-copy-out-wide-2 : tie.Need-element-copy-out-wide-2 Inv-loop μ-loop
+element-copy-out-wide-2 c = omega (arith, c .before .before .before .loop .inv .0, c .before .before .before .before .before .before .before .pre .0 .within .terms)
+
+wide-requires-2 : tie.Need-wide-requires-2 Inv-loop μ-loop
+wide-requires-2 c κs = search needs
 
 loop-less : tie.Need-loop-less Inv-loop μ-loop
-loop-less c = omega arith
+loop-less c =
+    let a = c .before .before .before .before .before .before .before .before .before .args in
+    let l = c .before .before .before .before .before .loop in
+    let e : c .wide2 .result ≡ getD (a .index .now) (1024 + l .t) 0 = c .wide2 .ensures in
+    omega (arith, c .before .before .before .before .before .before .before .before .before .pre .1 .falls (l .t) (omega (arith, c .before .before .before .before .loop-test .taken)))
 
 loop-again : tie.Need-loop-again Inv-loop μ-loop
 loop-again c =
-    let a = c .before .before .before .before .before .args in
-    let l = c .before .before .before .loop in (
-      omega arith,
-      omega arith,
-      (λ q e. l .inv .2 q e ∙ seek-on (sameBinder q (a .y) (a .body)) (bundleIn (a .words .now) (a .c) .terms) (a .c .terms) (terms-length (a .words .now) (a .c)) (l .t) (l .inv .0) (c .before .before .loop-test .taken) (c .before .is-binder .ensures q e) (c .if1 .left)),
+    let a = c .before .before .before .before .before .before .before .before .before .args in
+    let l = c .before .before .before .before .before .loop in
+    let e : c .wide2 .result ≡ getD (a .index .now) (1024 + l .t) 0 = c .wide2 .ensures in (
+      omega (arith, l .inv .0, c .before .before .before .before .before .before .before .before .before .pre .1 .falls (l .t) (omega (arith, c .before .before .before .before .loop-test .taken))),
+      λ q f. ⊎-elim
+          (λ w. sought-hit (bundleIn (a .words .now) (a .c)) (a .index .now) (sameBinder q (a .y) (a .body)) (c .before .before .before .before .before .before .before .before .before .pre .1) (l .t) (l .found) (c .wide2 .result) (l .inv .1 q f) (c .before .before .before .before .loop-test .taken) e (c .before .before .before .is-binder .ensures q f) (c .before .before .if1 .found) (w .0 .taken) (w .1))
+          (λ w. sought-miss (bundleIn (a .words .now) (a .c)) (a .index .now) (sameBinder q (a .y) (a .body)) (c .before .before .before .before .before .before .before .before .before .pre .1) (l .t) (l .found) (c .wide2 .result) (l .inv .1 q f) (c .before .before .before .before .loop-test .taken) e (c .before .before .before .is-binder .ensures q f) (c .before .before .if1 .found) (w .0 .left) (w .1))
+          (c .before .before .if1 .came),
     )
 
-returns-2 : tie.Need-returns-2 Inv-loop μ-loop
-returns-2 c q e =
-    let a = c .before .before .before .args in
+returns : tie.Need-returns Inv-loop μ-loop
+returns c q f =
+    let a = c .before .before .before .before .before .args in
     let l = c .before .loop in
-    sym (l .inv .2 q e ∙ seek-end (sameBinder q (a .y) (a .body)) (bundleIn (a .words .now) (a .c) .terms) (a .c .terms) (terms-length (a .words .now) (a .c)) (l .t) (c .loop-test .left))
+    sought-end (bundleIn (a .words .now) (a .c)) (a .index .now) (sameBinder q (a .y) (a .body)) (c .before .before .before .before .before .pre .1) (l .t) (l .found) (l .inv .1 q f) (c .loop-test .left)
 
 pub find-binder-spec : {M : Type 1} → statement M
 find-binder-spec =
@@ -61,10 +85,15 @@ find-binder-spec =
     (tie.spec
     Inv-loop
     μ-loop
+    mul-wide
+    element-copy-out-wide
+    wide-requires
     loop-holds
     is-binder-requires
-    returns
-    add-t
+    add-wide
+    mul-wide-2
+    element-copy-out-wide-2
+    wide-requires-2
     loop-less
     loop-again
-    returns-2)
+    returns)

@@ -15,31 +15,31 @@ use Rattle.steps.proofs.contexts.all_settled.Statement.{statement}
 use Rattle.steps.proofs.contexts.all_settled.Tie as tie
 
 abbrev Inv-loop : tie.InvT-loop
-Inv-loop file b area n context terms i₀ i = (i ≤ b .links)
+Inv-loop file b area n moved context terms i₀ i = (i ≤ b .links)
     × (each (settled (bundleAt file b) context) (items (bundleAt file b) terms) ≡ each (settled (bundleAt file b) context) (items (bundleAt file b) i))
 
 abbrev μ-loop : tie.MeasureT-loop
-μ-loop file b area n context terms i₀ i = length (items (bundleAt file b) i)
+μ-loop file b area n moved context terms i₀ i = length (items (bundleAt file b) i)
 
 first-link-requires : tie.Need-first-link-requires Inv-loop μ-loop
 first-link-requires c κs = search needs
 
 loop-holds : tie.Need-loop-holds Inv-loop μ-loop
 loop-holds c =
-    let a = c .before .before .before .args in
+    let a = c .before .before .before .before .args in
     let r = c .first-link in
     (walk-start-le (a .file .now) (a .b) (a .terms) (r .result) (r .ensures), rw (walk-start (a .file .now) (a .b) (a .terms) (r .result) (r .ensures)))
 
 link-field-requires : tie.Need-link-field-requires Inv-loop μ-loop
-link-field-requires c κs = search needs
+link-field-requires c κs = (c .before .before .before .before .before .before .pre .0, omega arith)
 
 is-settled-requires : tie.Need-is-settled-requires Inv-loop μ-loop
-is-settled-requires c κs = search needs
+is-settled-requires c κs = c .before .before .before .before .before .before .before .pre
 
 returns : tie.Need-returns Inv-loop μ-loop
 unfolding each
 returns c =
-    let a = c .before .before .before .before .before .before .before .before .args in
+    let a = c .before .before .before .before .before .before .before .before .before .args in
     let l = c .before .before .before .before .loop in
     rw (
       l .inv .1,
@@ -50,18 +50,18 @@ returns c =
     )
 
 next-link-requires : tie.Need-next-link-requires Inv-loop μ-loop
-next-link-requires c κs = c .before .before .before .before .before .before .before .before .pre .0
+next-link-requires c κs = c .before .before .before .before .before .before .before .before .before .pre .0
 
 loop-less : tie.Need-loop-less Inv-loop μ-loop
 loop-less c =
-    let a = c .before .before .before .before .before .before .before .before .before .args in
+    let a = c .before .before .before .before .before .before .before .before .before .before .args in
     let l = c .before .before .before .before .before .loop in
     omega (arith, walk-length (a .file .now) (a .b) (l .i) (c .next-link .result) (c .before .before .before .before .loop-test .taken) (l .inv .0) (c .next-link .ensures))
 
 loop-again : tie.Need-loop-again Inv-loop μ-loop
 unfolding each
 loop-again c =
-    let a = c .before .before .before .before .before .before .before .before .before .args in
+    let a = c .before .before .before .before .before .before .before .before .before .before .args in
     let l = c .before .before .before .before .before .loop in
     let t = c .before .before .before .link-field in
     let r = c .next-link in (
@@ -77,7 +77,7 @@ loop-again c =
 returns-2 : tie.Need-returns-2 Inv-loop μ-loop
 unfolding each
 returns-2 c =
-    let a = c .before .before .before .before .before .args in
+    let a = c .before .before .before .before .before .before .args in
     rw (c .before .loop .inv .1, walk-nil (a .file .now) (a .b) (c .before .loop .i) (c .loop-test .left))
 
 pub all-settled-spec : {M : Type 1} → statement M

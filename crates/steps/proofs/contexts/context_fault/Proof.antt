@@ -1,7 +1,8 @@
 -- `contexts::context_fault` meets its contract: what is wrong is the first of the two tests that fails.
-use borrow.Author.Needs.{needs}
 use borrow.Author.Tests.{not-true, not-false}
+use mathlib.Core.Path.{sym, _∙_}
 use Rattle.logic.specs.Contexts.{contextFault}
+use borrow.Author.Needs.{needs}
 use Rattle.steps.proofs.contexts.context_fault.Statement.{statement}
 use Rattle.steps.proofs.contexts.context_fault.Tie as tie
 
@@ -13,7 +14,7 @@ unfolding contextFault
 returns c = rw (← c .before .context-refers .ensures, not-true (c .before .context-refers .result) (c .if1 .taken))
 
 replacements-settled-requires : tie.Need-replacements-settled-requires
-replacements-settled-requires c κs = search needs
+replacements-settled-requires c κs = (c .before .before .before .before .before .pre .0, c .before .before .before .before .before .pre .1, c .before .before .before .before .before .pre .2, sym (c .before .context-refers .ensures) ∙ not-false (c .before .context-refers .result) (c .if1 .left))
 
 returns-2 : tie.Need-returns-2
 unfolding contextFault

@@ -1,12 +1,17 @@
 -- `contexts::replacements_settled` meets its contract: only a context that replaces has terms.
 use mathlib.Core.Path.{_≡_, refl}
 use mathlib.Core.Bool.{Bool, true, false, cond}
-use Prim.Native.Nat.{ℕ}
+use native.Mathlib.Omega.{arith}
+use native.Mathlib.Nat.{mul-le-mul-left}
+use Prim.Native.Nat.{ℕ, _+_, _*_, _≤_, _<_}
 use lib.Dec.{eqb}
-use borrow.Author.Needs.{needs}
+use Rattle.bundle.specs.File.{bundleAt}
 use Rattle.bundle.specs.Bundle.{Bundle, Context}
 use Rattle.logic.specs.Contexts.{entryOf, fixing, noEntry, replacementsSettledAs, replacementsSettled}
 use Rattle.logic.proofs.Entries.{entry-rest}
+use Rattle.steps.proofs.EntryFacts.{lower-parent}
+use Rattle.steps.proofs.KnownRows.{moved-few}
+use borrow.Author.Needs.{needs}
 use Rattle.steps.proofs.contexts.replacements_settled.Statement.{statement}
 use Rattle.steps.proofs.contexts.replacements_settled.Tie as tie
 
@@ -29,7 +34,12 @@ context-field-requires-3 : tie.Need-context-field-requires-3
 context-field-requires-3 c κs = search needs
 
 all-settled-requires : tie.Need-all-settled-requires
-all-settled-requires c κs = search needs
+all-settled-requires c κs =
+    let a = c .before .before .before .before .before .before .before .args in
+    let b = bundleAt (a .file .now) (a .b) in
+    let p = c .before .context-field3 in
+    let low : p .result + 1 ≤ a .i = rw (p .ensures) (omega (arith, lower-parent b (a .i) (c .before .before .before .before .before .before .before .pre .3))) in
+    (c .before .before .before .before .before .before .before .pre .0, c .before .before .before .before .before .before .before .pre .1, moved-few b (a .moved .now) (a .n) (a .i) (p .result + 1) low (mul-le-mul-left (a .n) low) (c .before .before .before .before .before .before .before .pre .2))
 
 returns : tie.Need-returns
 unfolding replacementsSettled

@@ -1,86 +1,70 @@
--- `images::image_of` meets its contract. The invariant: the image is that in the context where the walk has come to.
--- The measure is that context's number.
-use borrow.Author.Needs.{needs}
-use mathlib.Core.Path.{_≡_, refl, sym, _∙_}
+-- `images::image_of` meets its contract: the place of the variable in the row of the context.
+use native.Mathlib.Omega.{arith}
+use mathlib.Core.Path.{_≡_, sym, ap, _∙_}
+use lib.ListN.{length, getD}
+use Prim.Native.Nat.{_+_, _*_, _-_, _≤_, _<_}
 use Rattle.bundle.specs.File.{bundleAt}
-use Rattle.logic.specs.Contexts.{image}
-use Rattle.logic.proofs.Walked.{image-zero, image-fixed, image-replaced, image-on, image-not-lower}
+use Rattle.bundle.proofs.Fields.{variables-length}
+use Rattle.steps.specs.Known.{asImage}
+use Rattle.steps.proofs.KnownRows.{image-zero, image-past, image-some, as-own, as-gives}
+use borrow.Author.Needs.{needs}
 use Rattle.steps.proofs.images.image_of.Statement.{statement}
 use Rattle.steps.proofs.images.image_of.Tie as tie
 
-abbrev Inv-loop : tie.InvT-loop
-Inv-loop file b context x k₀ k = image (bundleAt file b) context x ≡ image (bundleAt file b) k x
-
-abbrev μ-loop : tie.MeasureT-loop
-μ-loop file b context x k₀ k = k
-
-loop-holds : tie.Need-loop-holds Inv-loop μ-loop
-loop-holds c = refl
-
-mention-in-requires : tie.Need-mention-in-requires Inv-loop μ-loop
-mention-in-requires c κs = c .before .before .before .pre
-
-enum-told : tie.Need-enum-told Inv-loop μ-loop
-enum-told c = search needs
-
-returns : tie.Need-returns Inv-loop μ-loop
+returns : tie.Need-returns
 returns c =
-    let a = c .before .before .before .before .before .before .args in
-    let l = c .before .before .before .before .loop in
-    sym (l .inv ∙ image-fixed (bundleAt (a .file .now) (a .b)) (l .k) (a .x) (c .before .before .mention-in .ensures) (c .enum-told .given .1))
+    let a = c .before .before .before .args in
+    sym (image-zero (bundleAt (a .file .now) (a .b)) (a .images .now) (a .context) (a .x) (c .if1 .taken)) ∙ c .before .before .before .pre .1 .same (a .context) (a .x) (omega arith)
 
-enum-known-m : tie.Need-enum-known-m Inv-loop μ-loop
-enum-known-m c = search needs
-
-returns-2 : tie.Need-returns-2 Inv-loop μ-loop
+returns-2 : tie.Need-returns-2
 returns-2 c =
-    let a = c .before .before .before .before .before .before .before .args in
-    let l = c .before .before .before .before .before .loop in
-    sym (l .inv ∙ image-replaced (bundleAt (a .file .now) (a .b)) (l .k) (a .x) (c .before .before .before .mention-in .ensures) _ (c .before .m .given .1))
+    let a = c .before .before .before .before .before .args in
+    let past : length (bundleAt (a .file .now) (a .b) .variables) < a .x = omega (arith, variables-length (a .file .now) (a .b)) in
+    sym (image-past (bundleAt (a .file .now) (a .b)) (a .images .now) (a .context) (a .x) past) ∙ c .before .before .before .before .before .pre .1 .same (a .context) (a .x) (omega arith)
 
-enum-told-2 : tie.Need-enum-told-2 Inv-loop μ-loop
-enum-told-2 c = search needs
+mul-wide : tie.Need-mul-wide
+mul-wide c = search needs
 
-context-field-requires : tie.Need-context-field-requires Inv-loop μ-loop
-context-field-requires c κs = search needs
+sub-wide : tie.Need-sub-wide
+sub-wide c = search needs
 
-returns-3 : tie.Need-returns-3 Inv-loop μ-loop
+add-wide : tie.Need-add-wide
+add-wide c = omega (arith, c .before .before .before .before .before .pre .0 .within .variables, c .before .before .before .before .before .pre .1 .long)
+
+mul-wide-2 : tie.Need-mul-wide-2
+mul-wide-2 c = omega (arith, c .before .before .before .before .before .pre .0 .within .variables, c .before .before .before .before .before .pre .1 .long)
+
+shared-slice-read-wide : tie.Need-shared-slice-read-wide
+shared-slice-read-wide c = omega (arith, c .before .before .before .before .before .before .pre .0 .within .variables, c .before .before .before .before .before .before .pre .1 .long)
+
+wide-requires : tie.Need-wide-requires
+wide-requires c κs = search needs
+
+returns-3 : tie.Need-returns-3
 returns-3 c =
     let a = c .before .before .before .before .before .before .before .before .args in
-    let l = c .before .before .before .before .before .before .loop in
-    let p = c .before .context-field in
-    sym (l .inv ∙ image-not-lower (bundleAt (a .file .now) (a .b)) (l .k) (a .x) (c .before .before .before .before .mention-in .ensures) (c .before .before .enum-told2 .given .1) (p .ensures) (c .if1 .taken))
+    let e : c .before .wide .result ≡ getD (a .images .now) (64 * a .context + (a .x - 1)) 0 = c .before .wide .ensures in
+    let few : a .x ≤ length (bundleAt (a .file .now) (a .b) .variables) = omega (arith, variables-length (a .file .now) (a .b)) in
+    sym (image-some (bundleAt (a .file .now) (a .b)) (a .images .now) (a .context) (a .x) (omega arith) few ∙ ap asImage (sym e) ∙ as-own (c .before .wide .result) (c .if3 .taken)) ∙ c .before .before .before .before .before .before .before .before .pre .1 .same (a .context) (a .x) (omega arith)
 
-loop-less : tie.Need-loop-less Inv-loop μ-loop
-loop-less c = c .if1 .left
-
-loop-again : tie.Need-loop-again Inv-loop μ-loop
-loop-again c =
-    let a = c .before .before .before .before .before .before .before .before .args in
-    let l = c .before .before .before .before .before .before .loop in
-    let p = c .before .context-field in
-    l .inv ∙ image-on (bundleAt (a .file .now) (a .b)) (l .k) (a .x) (c .before .before .before .before .mention-in .ensures) (c .before .before .enum-told2 .given .1) (p .ensures) (c .if1 .left)
-
-returns-4 : tie.Need-returns-4 Inv-loop μ-loop
+returns-4 : tie.Need-returns-4
 returns-4 c =
-    let a = c .before .before .before .args in
-    sym (c .before .loop .inv ∙ image-zero (bundleAt (a .file .now) (a .b)) (c .before .loop .k) (a .x) (c .loop-test .left))
+    let a = c .before .before .before .before .before .before .before .before .args in
+    let e : c .before .wide .result ≡ getD (a .images .now) (64 * a .context + (a .x - 1)) 0 = c .before .wide .ensures in
+    let few : a .x ≤ length (bundleAt (a .file .now) (a .b) .variables) = omega (arith, variables-length (a .file .now) (a .b)) in
+    sym (image-some (bundleAt (a .file .now) (a .b)) (a .images .now) (a .context) (a .x) (omega arith) few ∙ ap asImage (sym e) ∙ as-gives (c .before .wide .result) (c .if3 .left)) ∙ c .before .before .before .before .before .before .before .before .pre .1 .same (a .context) (a .x) (omega arith)
 
 pub image-of-spec : {M : Type 1} → statement M
 image-of-spec =
     tie.close
     (tie.spec
-    Inv-loop
-    μ-loop
-    loop-holds
-    mention-in-requires
-    enum-told
     returns
-    enum-known-m
     returns-2
-    enum-told-2
-    context-field-requires
+    mul-wide
+    sub-wide
+    add-wide
+    mul-wide-2
+    shared-slice-read-wide
+    wide-requires
     returns-3
-    loop-less
-    loop-again
     returns-4)

@@ -3,25 +3,26 @@
 use native.Mathlib.Omega.{arith}
 use Prim.Native.Nat.{_≤_}
 use mathlib.Core.Path.{_≡_}
+use mathlib.Core.Bool.{true}
 use lib.ListN.{length}
 use borrow.Author.Tests.{not-true, not-false}
 use Rattle.bundle.specs.Links.{items}
 use Rattle.bundle.specs.File.{bundleAt}
 use Rattle.bundle.proofs.Walks.{walk-start, walk-start-le, walk-le, walk-nil, walk-length}
 use Rattle.logic.specs.Rules.{allProve}
-use Rattle.steps.proofs.Premises.{prove-short, prove-on, prove-end}
+use Rattle.steps.proofs.Premises.{prove-short, prove-on, prove-end, left-one}
 use borrow.Author.Needs.{needs}
 use Rattle.steps.proofs.rules.all_prove.Statement.{statement}
 use Rattle.steps.proofs.rules.all_prove.Tie as tie
 
 abbrev Inv-loop : tie.InvT-loop
-Inv-loop file b body context lefts rights premises i₀ j₀ k₀ i j k =
+Inv-loop file b context lefts rights premises i₀ j₀ k₀ i j k =
     (i ≤ b .links) × (j ≤ b .links) × (k ≤ b .links)
-    × (allProve (bundleAt file b) body context (items (bundleAt file b) lefts) (items (bundleAt file b) rights) (items (bundleAt file b) premises)
-    ≡ allProve (bundleAt file b) body context (items (bundleAt file b) i) (items (bundleAt file b) j) (items (bundleAt file b) k))
+    × (allProve (bundleAt file b) true context (items (bundleAt file b) lefts) (items (bundleAt file b) rights) (items (bundleAt file b) premises)
+    ≡ allProve (bundleAt file b) true context (items (bundleAt file b) i) (items (bundleAt file b) j) (items (bundleAt file b) k))
 
 abbrev μ-loop : tie.MeasureT-loop
-μ-loop file b body context lefts rights premises i₀ j₀ k₀ i j k = length (items (bundleAt file b) i)
+μ-loop file b context lefts rights premises i₀ j₀ k₀ i j k = length (items (bundleAt file b) i)
 
 first-link-requires : tie.Need-first-link-requires Inv-loop μ-loop
 first-link-requires c κs = search needs
@@ -50,7 +51,7 @@ returns c =
     let l = c .before .before .loop in
     rw (
       l .inv .3,
-      prove-short (a .file .now) (a .b) (a .body) (a .context) (l .i) (l .j) (l .k) (c .before .loop-test .taken) (l .inv .0) (l .inv .1) (l .inv .2) (c .if1 .taken),
+      prove-short (a .file .now) (a .b) true (a .context) (l .i) (l .j) (l .k) (c .before .loop-test .taken) (l .inv .0) (l .inv .1) (l .inv .2) (c .if1 .taken),
     )
 
 link-field-requires : tie.Need-link-field-requires Inv-loop μ-loop
@@ -71,7 +72,7 @@ returns-2 c =
     let l = c .before .before .before .before .before .before .before .loop in
     rw (
       l .inv .3,
-      prove-on (a .file .now) (a .b) (a .body) (a .context) (c .before .before .before .before .before .before .loop-test .taken) (l .inv .0) (l .inv .1) (l .inv .2) (c .before .before .before .before .before .if1 .left) (c .before .before .before .before .link-field .ensures) (c .before .before .before .link-field2 .ensures) (c .before .before .link-field3 .ensures) (c .before .step-carries .ensures),
+      prove-on (a .file .now) (a .b) true (a .context) (c .before .before .before .before .before .before .loop-test .taken) (l .inv .0) (l .inv .1) (l .inv .2) (c .before .before .before .before .before .if1 .left) (c .before .before .before .before .link-field .ensures) (c .before .before .before .link-field2 .ensures) (c .before .before .link-field3 .ensures) (c .before .step-carries .ensures),
       not-true (c .before .step-carries .result) (c .if2 .taken),
     )
 
@@ -99,7 +100,7 @@ loop-again c =
       walk-le (a .file .now) (a .b) (l .k) (c .next-link3 .result) (c .next-link3 .ensures),
       rw (
         l .inv .3,
-        prove-on (a .file .now) (a .b) (a .body) (a .context) (c .before .before .before .before .before .before .before .before .before .loop-test .taken) (l .inv .0) (l .inv .1) (l .inv .2) (c .before .before .before .before .before .before .before .before .if1 .left) (c .before .before .before .before .before .before .before .link-field .ensures) (c .before .before .before .before .before .before .link-field2 .ensures) (c .before .before .before .before .before .link-field3 .ensures) (c .before .before .before .before .step-carries .ensures),
+        prove-on (a .file .now) (a .b) true (a .context) (c .before .before .before .before .before .before .before .before .before .loop-test .taken) (l .inv .0) (l .inv .1) (l .inv .2) (c .before .before .before .before .before .before .before .before .if1 .left) (c .before .before .before .before .before .before .before .link-field .ensures) (c .before .before .before .before .before .before .link-field2 .ensures) (c .before .before .before .before .before .link-field3 .ensures) (c .before .before .before .before .step-carries .ensures),
         not-false (c .before .before .before .before .step-carries .result) (c .before .before .before .if2 .left),
         c .before .before .next-link .ensures,
         c .before .next-link2 .ensures,
@@ -107,8 +108,8 @@ loop-again c =
       ),
     )
 
-left-over-requires : tie.Need-left-over-requires Inv-loop μ-loop
-left-over-requires c κs = (c .before .before .before .before .before .before .pre, c .before .loop .inv .2)
+next-link-requires-4 : tie.Need-next-link-requires-4 Inv-loop μ-loop
+next-link-requires-4 c κs = c .before .before .before .before .before .before .pre
 
 returns-3 : tie.Need-returns-3 Inv-loop μ-loop
 returns-3 c =
@@ -117,8 +118,8 @@ returns-3 c =
     rw (
       l .inv .3,
       walk-nil (a .file .now) (a .b) (l .i) (c .before .loop-test .left),
-      prove-end (a .file .now) (a .b) (a .body) (a .context) (l .j) (l .k) (l .inv .1),
-      c .left-over .ensures,
+      prove-end (a .file .now) (a .b) true (a .context) (l .j) (l .k) (l .inv .1),
+      left-one (a .file .now) (a .b) (l .k) (c .next-link4 .result) (l .inv .2) (c .next-link4 .ensures),
     )
 
 pub all-prove-spec : {M : Type 1} → statement M
@@ -142,5 +143,5 @@ all-prove-spec =
     next-link-requires-3
     loop-less
     loop-again
-    left-over-requires
+    next-link-requires-4
     returns-3)

@@ -1,4 +1,5 @@
 -- `rules::bind_sides` meets its contract. The invariant: the variables above z are apart from y. The measure is z.
+use borrow.Author.Needs.{needs}
 use native.Mathlib.Omega.{arith}
 use Prim.Native.Nat.{ℕ, _≤_}
 use native.Mathlib.Nat.{le-refl}
@@ -13,7 +14,6 @@ use Rattle.logic.specs.Free.{freeAt}
 use Rattle.logic.specs.Contexts.{image}
 use Rattle.logic.specs.Rules.{freeInImage, bindSides}
 use Rattle.tables.proofs.Earlier.{upto-on, upto-here, upto-end}
-use borrow.Author.Needs.{needs}
 use Rattle.steps.proofs.rules.bind_sides.Statement.{statement}
 use Rattle.steps.proofs.rules.bind_sides.Tie as tie
 
@@ -22,17 +22,17 @@ abbrev apart : Bundle → ℕ → ℕ → ℕ → ℕ → Bool
 apart b context left y z = not (freeAt b left z) || not (freeInImage b (image b context z) z y)
 
 abbrev Inv-loop : tie.InvT-loop
-Inv-loop file b area n context left right y z₀ z =
+Inv-loop file b area n images context left right y z₀ z =
     (z ≤ b .variables) × (upTo (b .variables) (apart (bundleAt file b) context left y) ≡ upTo z (apart (bundleAt file b) context left y))
 
 abbrev μ-loop : tie.MeasureT-loop
-μ-loop file b area n context left right y z₀ z = z
+μ-loop file b area n images context left right y z₀ z = z
 
 term-field-requires : tie.Need-term-field-requires Inv-loop μ-loop
 term-field-requires c κs = search needs
 
 is-free-requires : tie.Need-is-free-requires Inv-loop μ-loop
-is-free-requires c κs = c .before .before .before .pre
+is-free-requires c κs = (c .before .before .before .before .pre .0, c .before .before .before .before .pre .1)
 
 returns : tie.Need-returns Inv-loop μ-loop
 unfolding bindSides
@@ -42,18 +42,18 @@ loop-holds : tie.Need-loop-holds Inv-loop μ-loop
 loop-holds c = (le-refl _, refl)
 
 is-free-requires-2 : tie.Need-is-free-requires-2 Inv-loop μ-loop
-is-free-requires-2 c κs = c .before .before .before .before .before .before .before .pre
+is-free-requires-2 c κs = (c .before .before .before .before .before .before .before .before .pre .0, c .before .before .before .before .before .before .before .before .pre .1)
 
 image-of-requires : tie.Need-image-of-requires Inv-loop μ-loop
-image-of-requires c κs = c .before .before .before .before .before .before .before .before .before .pre .0
+image-of-requires c κs = (c .before .before .before .before .before .before .before .before .before .before .pre .0, c .before .before .before .before .before .before .before .before .before .before .pre .2)
 
 free-in-image-requires : tie.Need-free-in-image-requires Inv-loop μ-loop
-free-in-image-requires c κs = c .before .before .before .before .before .before .before .before .before .before .pre
+free-in-image-requires c κs = (c .before .before .before .before .before .before .before .before .before .before .before .pre .0, c .before .before .before .before .before .before .before .before .before .before .before .pre .1)
 
 returns-2 : tie.Need-returns-2 Inv-loop μ-loop
 unfolding bindSides
 returns-2 c =
-    let a = c .before .before .before .before .before .before .before .before .before .before .before .before .args in
+    let a = c .before .before .before .before .before .before .before .before .before .before .before .before .before .args in
     let l = c .before .before .before .before .before .before .loop in
     let p = apart (bundleAt (a .file .now) (a .b)) (a .s .context) (a .s .left) (c .before .before .before .before .before .before .before .before .before .term-field .result) in
     let f : p (l .z) ≡ false = rw (← c .before .before .before .before .is-free2 .ensures, c .before .before .before .if2 .taken, ← c .before .before .image-of .ensures, ← c .before .free-in-image .ensures, c .if3 .taken) in
@@ -67,7 +67,7 @@ loop-less c = omega arith
 
 loop-again : tie.Need-loop-again Inv-loop μ-loop
 loop-again c =
-    let a = c .before .before .before .before .before .before .before .before .before .args in
+    let a = c .before .before .before .before .before .before .before .before .before .before .args in
     let l = c .before .before .before .loop in
     let p = apart (bundleAt (a .file .now) (a .b)) (a .s .context) (a .s .left) (c .before .before .before .before .before .before .term-field .result) in
     let t : p (l .z) ≡ true =
@@ -79,7 +79,7 @@ loop-again c =
 returns-3 : tie.Need-returns-3 Inv-loop μ-loop
 unfolding bindSides
 returns-3 c =
-    let a = c .before .before .before .before .before .before .before .args in
+    let a = c .before .before .before .before .before .before .before .before .args in
     let l = c .before .loop in
     let p = apart (bundleAt (a .file .now) (a .b)) (a .s .context) (a .s .left) (c .before .before .before .before .term-field .result) in
     rw (← c .before .before .before .before .term-field .ensures, ← c .before .before .before .is-free .ensures, c .before .before .if1 .left, variables-length (a .file .now) (a .b)) (sym (l .inv .1 ∙ upto-end p (l .z) (c .loop-test .left)))

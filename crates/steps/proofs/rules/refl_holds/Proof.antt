@@ -1,42 +1,63 @@
--- `rules::refl_holds` meets its contract: a straight line of reads, in the definition's order.
+-- `rules::refl_holds` meets its contract: the same settled term, or else a variable and its image.
+use mathlib.Core.Path.{_≡_, refl, sym, _∙_}
+use mathlib.Core.Bool.{Bool, true, false, _&&_, _||_}
+use Prim.Native.Nat.{ℕ}
+use lib.Dec.{eqb}
+use borrow.Author.Tests.{eq-eqb, ne-eqb}
+use mathlib.Core.Logic.{⊎-elim}
+use Rattle.bundle.specs.File.{bundleAt}
+use Rattle.logic.specs.Contexts.{settled}
 use Rattle.logic.specs.Rules.{reflHolds}
 use borrow.Author.Needs.{needs}
 use Rattle.steps.proofs.rules.refl_holds.Statement.{statement}
 use Rattle.steps.proofs.rules.refl_holds.Tie as tie
 
+is-settled-requires : tie.Need-is-settled-requires
+is-settled-requires c κs = (c .before .before .before .before .before .pre .0, c .before .before .before .before .before .pre .1, c .before .before .before .before .before .pre .3)
+
+returns : tie.Need-returns
+unfolding reflHolds
+returns c = rw (eq-eqb _ _ (c .before .before .if1 .taken), ← c .before .is-settled .ensures, c .if2 .taken)
+
 term-field-requires : tie.Need-term-field-requires
 term-field-requires c κs = search needs
+
+returns-2 : tie.Need-returns-2
+unfolding reflHolds
+returns-2 c =
+    let a = c .before .before .before .before .before .before .before .args in
+    let b = bundleAt (a .file .now) (a .b) in
+    let n : (eqb (a .s .left) (a .s .right) && settled b (a .s .context) (a .s .left)) ≡ false =
+    ⊎-elim (λ w. rw (eq-eqb _ _ (w .0 .taken), ← w .1 .ensures, w .2 .left)) (λ w. rw (ne-eqb _ _ (w .left))) (c .before .before .if1 .came) in
+    rw (n, ← c .before .term-field .ensures, ne-eqb _ 1 (c .if3 .taken))
 
 term-field-requires-2 : tie.Need-term-field-requires-2
 term-field-requires-2 c κs = search needs
 
 image-of-requires : tie.Need-image-of-requires
-image-of-requires c κs = search needs
-
-is-settled-requires : tie.Need-is-settled-requires
-is-settled-requires c κs = search needs
+image-of-requires c κs = (c .before .before .before .before .before .before .before .before .pre .0, c .before .before .before .before .before .before .before .before .pre .2)
 
 is-image-requires : tie.Need-is-image-requires
 is-image-requires c κs = search needs
 
-returns : tie.Need-returns
+returns-3 : tie.Need-returns-3
 unfolding reflHolds
-returns c =
-    rw (
-      ← c .before .before .before .before .term-field .ensures,
-      ← c .before .before .before .term-field2 .ensures,
-      ← c .before .before .image-of .ensures,
-      ← c .before .is-settled .ensures,
-      ← c .is-image .ensures,
-    )
+returns-3 c =
+    let a = c .before .before .before .before .before .before .before .before .before .before .args in
+    let b = bundleAt (a .file .now) (a .b) in
+    let n : (eqb (a .s .left) (a .s .right) && settled b (a .s .context) (a .s .left)) ≡ false =
+    ⊎-elim (λ w. rw (eq-eqb _ _ (w .0 .taken), ← w .1 .ensures, w .2 .left)) (λ w. rw (ne-eqb _ _ (w .left))) (c .before .before .before .before .before .if1 .came) in
+    rw (n, ← c .before .before .before .before .term-field .ensures, c .before .before .before .if3 .left, ← c .before .before .term-field2 .ensures, ← c .before .image-of .ensures, ← c .is-image .ensures)
 
 pub refl-holds-spec : {M : Type 1} → statement M
 refl-holds-spec =
     tie.close
     (tie.spec
+    is-settled-requires
+    returns
     term-field-requires
+    returns-2
     term-field-requires-2
     image-of-requires
-    is-settled-requires
     is-image-requires
-    returns)
+    returns-3)

@@ -11,7 +11,7 @@ step-field-requires : tie.Need-step-field-requires
 step-field-requires c κs = search needs
 
 is-settled-requires : tie.Need-is-settled-requires
-is-settled-requires c κs = search needs
+is-settled-requires c κs = c .before .before .before .before .before .pre
 
 returns : tie.Need-returns
 unfolding transSide

@@ -7,10 +7,10 @@ use Rattle.steps.proofs.steps.step_sides.Statement.{statement}
 use Rattle.steps.proofs.steps.step_sides.Tie as tie
 
 trans-side-requires : tie.Need-trans-side-requires
-trans-side-requires c κs = search needs
+trans-side-requires c κs = (c .before .before .before .before .before .pre .0, c .before .before .before .before .before .pre .1, c .before .before .before .before .before .pre .3)
 
 bind-sides-requires : tie.Need-bind-sides-requires
-bind-sides-requires c κs = search needs
+bind-sides-requires c κs = (c .before .before .before .before .before .pre .0, c .before .before .before .before .before .pre .1, c .before .before .before .before .before .pre .2)
 
 returns : tie.Need-returns
 unfolding ruleOf sidesAs

@@ -27,7 +27,7 @@ wide-requires c κs = search needs
 
 loop-holds : tie.Need-loop-holds Inv-loop μ-loop
 loop-holds c =
-    let k = c .before .before .before in
+    let k = c .before .before .before .before in
     let a = k .args in
     let filed = k .pre .1 in
     let e : c .wide .result ≡ getD (a .heads .now) (a .d) 0 = c .wide .ensures in
@@ -38,7 +38,7 @@ same-term-requires c κs = search needs
 
 returns : tie.Need-returns Inv-loop μ-loop
 returns c =
-    let a = c .before .before .before .before .before .before .before .args in
+    let a = c .before .before .before .before .before .before .before .before .args in
     let l = c .before .before .before .loop in
     let some : l .j ≡ 0 → ⊥ = c .before .before .loop-test .taken in
     sym (sought-found (bundleAt (a .file .now) (a .b)) (a .next .now) (a .i) (l .j) (omega arith) (l .inv .0) (rw (← c .before .same-term .ensures) (c .if1 .taken)))
@@ -46,22 +46,22 @@ returns c =
 mul-wide-2 : tie.Need-mul-wide-2 Inv-loop μ-loop
 mul-wide-2 c = search needs
 
-element-copy-out-wide-2 : tie.Need-element-copy-out-wide-2 Inv-loop μ-loop
-element-copy-out-wide-2 c = search needs
+shared-slice-read-wide : tie.Need-shared-slice-read-wide Inv-loop μ-loop
+shared-slice-read-wide c = search needs
 
 wide-requires-2 : tie.Need-wide-requires-2 Inv-loop μ-loop
 wide-requires-2 c κs = search needs
 
 loop-less : tie.Need-loop-less Inv-loop μ-loop
 loop-less c =
-    let k = c .before .before .before .before .before .before .before .before .before in
+    let k = c .before .before .before .before .before .before .before .before .before .before in
     let l = c .before .before .before .before .before .loop in
     let e : c .wide2 .result ≡ getD (k .args .next .now) (l .j) 0 = c .wide2 .ensures in
     omega (arith, k .pre .1 .falls (l .j) (omega arith))
 
 loop-again : tie.Need-loop-again Inv-loop μ-loop
 loop-again c =
-    let k = c .before .before .before .before .before .before .before .before .before in
+    let k = c .before .before .before .before .before .before .before .before .before .before in
     let a = k .args in
     let l = c .before .before .before .before .before .loop in
     let e : c .wide2 .result ≡ getD (a .next .now) (l .j) 0 = c .wide2 .ensures in (
@@ -71,7 +71,7 @@ loop-again c =
 
 returns-2 : tie.Need-returns-2 Inv-loop μ-loop
 returns-2 c =
-    let a = c .before .before .before .before .before .args in
+    let a = c .before .before .before .before .before .before .args in
     let l = c .before .loop in
     sym (sought-end (bundleAt (a .file .now) (a .b)) (a .next .now) (a .i) (l .j) (l .inv .1) (c .loop-test .left))
 
@@ -88,7 +88,7 @@ is-new-spec =
     same-term-requires
     returns
     mul-wide-2
-    element-copy-out-wide-2
+    shared-slice-read-wide
     wide-requires-2
     loop-less
     loop-again

@@ -11,41 +11,42 @@ use Rattle.tables.proofs.sorts.all_of_sort.Statement.{statement}
 use Rattle.tables.proofs.sorts.all_of_sort.Tie as tie
 
 abbrev Inv-loop : tie.InvT-loop
-Inv-loop file b count sort terms left₀ i₀ left i = (i ≤ b .links) × (sameList (replicate count sort) (termSorts file b terms) ≡ sameList (replicate left sort) (termSorts file b i))
+Inv-loop file b sorts count sort terms left₀ i₀ left i = (i ≤ b .links) × (sameList (replicate count sort) (termSorts file b terms) ≡ sameList (replicate left sort) (termSorts file b i))
 
 abbrev μ-loop : tie.MeasureT-loop
-μ-loop file b count sort terms left₀ i₀ left i = left
+μ-loop file b sorts count sort terms left₀ i₀ left i = left
 
 first-link-requires : tie.Need-first-link-requires Inv-loop μ-loop
 first-link-requires c κs = search needs
 
 loop-holds : tie.Need-loop-holds Inv-loop μ-loop
 loop-holds c =
-    let a = c .before .before .args in
+    let a = c .before .before .before .args in
     let r = c .first-link in
     (walk-start-le (a .file .now) (a .b) (a .terms) (r .result) (r .ensures), rw (walk-start (a .file .now) (a .b) (a .terms) (r .result) (r .ensures)))
 
 returns : tie.Need-returns Inv-loop μ-loop
 returns c =
     let l = c .before .before .loop in
-    let a = c .before .before .before .before .before .args in
+    let a = c .before .before .before .before .before .before .args in
     sym (l .inv .1 ∙ short (a .file .now) (a .b) (replicate-cons (l .left) (a .sort) (c .before .loop-test .taken)) (c .if1 .taken))
 
 link-field-requires : tie.Need-link-field-requires Inv-loop μ-loop
 link-field-requires c κs = search needs
 
-term-sort-requires : tie.Need-term-sort-requires Inv-loop μ-loop
-term-sort-requires c κs = search needs
+sort-in-requires : tie.Need-sort-in-requires Inv-loop μ-loop
+sort-in-requires c κs = search needs
 
 returns-2 : tie.Need-returns-2 Inv-loop μ-loop
 returns-2 c =
     let s = c .before in
     let i = s .before .before in
     let l = i .before .before .loop in
-    let a = i .before .before .before .before .before .args in
+    let k = i .before .before .before .before .before .before in
+    let a = k .args in
     sym (
     l .inv .1
-    ∙ differs (a .file .now) (a .b) (replicate-cons (l .left) (a .sort) (i .before .loop-test .taken)) (i .if1 .left) (l .inv .0) (s .before .link-field .ensures) (s .term-sort .ensures) refl (c .if2 .taken)
+    ∙ differs (a .file .now) (a .b) (replicate-cons (l .left) (a .sort) (i .before .loop-test .taken)) (i .if1 .left) (l .inv .0) (s .before .link-field .ensures) (s .sort-in .ensures ∙ k .pre .1 .noted (s .before .link-field .result)) refl (c .if2 .taken)
     )
 
 sub-left : tie.Need-sub-left Inv-loop μ-loop
@@ -62,17 +63,18 @@ loop-again c =
     let s = c .before .before in
     let i = s .before .before in
     let l = i .before .before .loop in
-    let a = i .before .before .before .before .before .args in
+    let k = i .before .before .before .before .before .before in
+    let a = k .args in
     let r = c .next-link in (
       walk-le (a .file .now) (a .b) (l .i) (r .result) (r .ensures),
       l .inv .1
-          ∙ on (a .file .now) (a .b) (replicate-cons (l .left) (a .sort) (i .before .loop-test .taken)) (i .if1 .left) (l .inv .0) (s .before .link-field .ensures) (s .term-sort .ensures) (r .ensures) (c .before .if2 .left),
+          ∙ on (a .file .now) (a .b) (replicate-cons (l .left) (a .sort) (i .before .loop-test .taken)) (i .if1 .left) (l .inv .0) (s .before .link-field .ensures) (s .sort-in .ensures ∙ k .pre .1 .noted (s .before .link-field .result)) (r .ensures) (c .before .if2 .left),
     )
 
 returns-3 : tie.Need-returns-3 Inv-loop μ-loop
 returns-3 c =
     let l = c .before .loop in
-    let a = c .before .before .before .before .args in
+    let a = c .before .before .before .before .before .args in
     sym (l .inv .1 ∙ ended (a .file .now) (a .b) (rw (c .loop-test .left)) (l .inv .0))
 
 pub all-of-sort-spec : {M : Type 1} → statement M
@@ -85,7 +87,7 @@ all-of-sort-spec =
     loop-holds
     returns
     link-field-requires
-    term-sort-requires
+    sort-in-requires
     returns-2
     sub-left
     next-link-requires

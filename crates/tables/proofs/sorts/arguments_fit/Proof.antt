@@ -30,20 +30,24 @@ first-link-requires c κs = search needs
 
 returns : tie.Need-returns
 unfolding argumentSorts
-returns c = rw (c .before .before .s .given .1) (c .all-of-sort .ensures)
+returns c = (rw (c .before .before .s .given .1) (c .all-of-sort .ensures), λ e. c .before .before .before .before .before .before .before .pre .2)
+
+same-length : tie.Need-same-length
+same-length c = search needs
 
 returns-2 : tie.Need-returns-2
 unfolding argumentSorts
-returns-2 c = rw (c .before .before .before .s2 .given .1, ← c .before .symbol-field .ensures) (c .same-sorts .ensures)
+returns-2 c = (rw (c .before .before .before .before .before .before .s2 .given .1, ← c .before .before .before .before .symbol-field .ensures) (c .before .before .same-sorts .ensures .0), c .before .before .same-sorts .ensures .1)
 
--- no symbol: no argument
 returns-3 : tie.Need-returns-3
 unfolding argumentSorts
 returns-3 c =
-    let a = c .before .before .before .before .args in
-    let r = c .first-link in
-    rw (c .before .enum-told .given .1, walk-start (a .file .now) (a .b) (a .terms) (r .result) (r .ensures))
-    (sym (ended (a .file .now) (a .b) refl (walk-start-le (a .file .now) (a .b) (a .terms) (r .result) (r .ensures))))
+    let a = c .before .before .before .before .before .before .args in
+    let r = c .first-link in (
+      rw (c .before .enum-told .given .1, walk-start (a .file .now) (a .b) (a .terms) (r .result) (r .ensures))
+          (sym (ended (a .file .now) (a .b) refl (walk-start-le (a .file .now) (a .b) (a .terms) (r .result) (r .ensures)))),
+      λ e. c .before .before .before .before .before .before .pre .2,
+    )
 
 pub arguments-fit-spec : {M : Type 1} → statement M
 arguments-fit-spec =
@@ -57,5 +61,6 @@ arguments-fit-spec =
     enum-told
     first-link-requires
     returns
+    same-length
     returns-2
     returns-3)

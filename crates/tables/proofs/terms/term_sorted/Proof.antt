@@ -32,47 +32,54 @@ signature-of-requires c κs = search needs
 arguments-fit-requires : tie.Need-arguments-fit-requires
 arguments-fit-requires c κs = search needs
 
+same-length : tie.Need-same-length
+same-length c = search needs
+
 returns : tie.Need-returns
 unfolding sorted
-returns c =
-    rw (
-      ← c .before .before .before .before .before .term-field .ensures,
-      c .before .before .if1 .taken,
-      ← c .before .before .before .before .term-field2 .ensures,
-      ← c .before .before .before .term-field3 .ensures,
-      symbols-length,
-      ← c .before .signature-of .ensures,
-      ← c .arguments-fit .ensures,
-    )
+returns c = (
+  rw (
+    ← c .before .before .before .before .before .before .before .before .term-field .ensures,
+    c .before .before .before .before .before .if1 .taken,
+    ← c .before .before .before .before .before .before .before .term-field2 .ensures,
+    ← c .before .before .before .before .before .before .term-field3 .ensures,
+    symbols-length,
+    ← c .before .before .before .signature-of .ensures,
+    ← c .before .before .arguments-fit .ensures .0,
+  ),
+  c .before .before .arguments-fit .ensures .1,
+)
 
-term-sort-requires : tie.Need-term-sort-requires
-term-sort-requires c κs = search needs
+sort-in-requires : tie.Need-sort-in-requires
+sort-in-requires c κs = search needs
 
 returns-2 : tie.Need-returns-2
 unfolding sorted
 returns-2 c =
     let q = kind-binder (c .before .before .before .before .before .term-field .result) (c .before .if2 .taken) in
-    rw (← c .before .before .before .before .before .term-field .ensures, q .1, ← c .before .before .before .term-field3 .ensures, ← c .term-sort .ensures)
+    (rw (← c .before .before .before .before .before .term-field .ensures, q .1, ← c .before .before .before .term-field3 .ensures, ← c .before .before .before .before .before .before .before .before .before .pre .1 .noted (c .before .before .before .term-field3 .result), ← c .sort-in .ensures), λ e. c .before .before .before .before .before .before .before .before .before .pre .2)
 
-lists-agree-requires : tie.Need-lists-agree-requires
-lists-agree-requires c κs = search needs
+let-agrees-requires : tie.Need-let-agrees-requires
+let-agrees-requires c κs = search needs
 
 returns-3 : tie.Need-returns-3
 unfolding sorted
-returns-3 c =
-    rw (
-      ← c .before .before .before .before .before .before .term-field .ensures,
-      c .before .if3 .taken,
-      ← c .before .before .before .before .before .term-field2 .ensures,
-      ← c .before .before .before .before .term-field3 .ensures,
-      ← c .lists-agree .ensures,
-    )
+returns-3 c = (
+  rw (
+    ← c .before .before .before .before .before .before .term-field .ensures,
+    c .before .if3 .taken,
+    ← c .before .before .before .before .before .term-field2 .ensures,
+    ← c .before .before .before .before .term-field3 .ensures,
+    ← c .let-agrees .ensures,
+  ),
+  λ e. c .before .before .before .before .before .before .before .before .before .before .pre .2,
+)
 
 returns-4 : tie.Need-returns-4
 unfolding sorted
 returns-4 c =
     let k = c .before .before .before .before .before .term-field in
-    rw (← k .ensures, kind-rest (k .result) (c .before .before .if1 .left) (c .before .if2 .left) (c .if3 .left)) (nothing-asked _ _ (eqb (k .result) 1))
+    (rw (← k .ensures, kind-rest (k .result) (c .before .before .if1 .left) (c .before .if2 .left) (c .if3 .left)) (nothing-asked _ _ (eqb (k .result) 1)), λ e. c .before .before .before .before .before .before .before .before .before .pre .2)
 
 pub term-sorted-spec : {M : Type 1} → statement M
 term-sorted-spec =
@@ -83,9 +90,10 @@ term-sorted-spec =
     term-field-requires-3
     signature-of-requires
     arguments-fit-requires
+    same-length
     returns
-    term-sort-requires
+    sort-in-requires
     returns-2
-    lists-agree-requires
+    let-agrees-requires
     returns-3
     returns-4)

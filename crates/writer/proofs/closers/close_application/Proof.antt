@@ -5,6 +5,7 @@ use native.Mathlib.Omega.{arith}
 use Rattle.arena.specs.Scratch.{bundleIn}
 use Rattle.arena.specs.Stack.{halves}
 use Rattle.writer.proofs.Calls.{application-asks, concluded-on, concluded-full}
+use Rattle.writer.proofs.Indexes.{full-visit, step-indexed}
 use borrow.Author.Needs.{needs}
 use Rattle.writer.proofs.closers.close_application.Statement.{statement}
 use Rattle.writer.proofs.closers.close_application.Tie as tie
@@ -20,7 +21,7 @@ enum-known-placed c = search needs
 
 conclude-requires : tie.Need-conclude-requires
 conclude-requires c κs =
-    let s = c .before .before .before .before .before .before .before .before .before .before in
+    let s = c .before .before .before .before .before .before .before .before .before .before .before in
     let a = s .args in
     let k = application-asks (bundleIn (a .words .now) (a .c)) (a .symbol) (halves true (a .stack .now) (a .from) (a .to))
     (c .before .before .before .before .before .before .place-application .ensures .1) (c .before .before .placed .given .1) in
@@ -31,10 +32,11 @@ same-length c = search needs
 
 returns : tie.Need-returns
 returns c =
-    let a = c .before .before .before .before .before .before .before .before .args in
+    let a = c .before .before .before .before .before .before .before .before .before .args in
     let p = c .before .before .before .before .place-application in (
       p .ensures .0,
       concluded-full (p .ensures .1) (c .enum-told .given .1) 2 (a .context) (a .term) _ (halves false (a .stack .now) (a .from) (a .to)),
+      full-visit,
     )
 
 same-length-2 : tie.Need-same-length-2
@@ -42,11 +44,12 @@ same-length-2 c = search needs
 
 returns-2 : tie.Need-returns-2
 returns-2 c =
-    let a = c .before .before .before .before .before .before .before .before .before .before .before .before .before .args in
+    let a = c .before .before .before .before .before .before .before .before .before .before .before .before .before .before .args in
     let p = c .before .before .before .before .before .before .before .before .before .place-application in
     let t = c .before .before .conclude in (
       t .ensures .0 ∙ p .ensures .0,
       concluded-on (p .ensures .1) (c .before .before .before .before .before .placed .given .1) 2 (a .context) (a .term) (halves false (a .stack .now) (a .from) (a .to)) (t .ensures .1),
+      step-indexed (p .ensures .2 .held _ _ (c .before .before .before .before .before .placed .given .1)) 2 (a .context) (a .term) _ (halves false (a .stack .now) (a .from) (a .to)) (t .ensures .1),
     )
 
 pub close-application-spec : {M : Type 1} → statement M

@@ -4,6 +4,7 @@ use mathlib.Core.List.{[], _∷_}
 use native.Mathlib.Omega.{arith}
 use Rattle.arena.specs.Scratch.{bundleIn}
 use Rattle.writer.proofs.Calls.{binder-of, binder-asks, concluded-on, concluded-full}
+use Rattle.writer.proofs.Indexes.{full-visit, step-indexed}
 use borrow.Author.Needs.{needs}
 use Rattle.writer.proofs.closers.close_quantifier.Statement.{statement}
 use Rattle.writer.proofs.closers.close_quantifier.Tie as tie
@@ -19,7 +20,7 @@ enum-known-placed c = search needs
 
 conclude-one-requires : tie.Need-conclude-one-requires
 conclude-one-requires c κs =
-    let s = c .before .before .before .before .before .before .before .before .before in
+    let s = c .before .before .before .before .before .before .before .before .before .before in
     let a = s .args in
     let q = binder-of (a .kind) (s .pre .3) (s .pre .4) in
     let k = binder-asks (bundleIn (a .words .now) (a .c)) (q .0) (a .y) (a .result) (c .before .before .before .before .before .before .place-binder .ensures .1 (q .0) (q .1))
@@ -31,10 +32,11 @@ same-length c = search needs
 
 returns : tie.Need-returns
 returns c =
-    let a = c .before .before .before .before .before .before .before .args in
+    let a = c .before .before .before .before .before .before .before .before .args in
     let p = c .before .before .before .before .place-binder in (
       p .ensures .0,
       λ q e. concluded-full (p .ensures .1 q e) (c .enum-told .given .1) 4 (a .context) (a .term) _ (a .step ∷ []),
+      full-visit,
     )
 
 same-length-2 : tie.Need-same-length-2
@@ -42,11 +44,12 @@ same-length-2 c = search needs
 
 returns-2 : tie.Need-returns-2
 returns-2 c =
-    let a = c .before .before .before .before .before .before .before .before .before .before .before .before .args in
+    let a = c .before .before .before .before .before .before .before .before .before .before .before .before .before .args in
     let p = c .before .before .before .before .before .before .before .before .before .place-binder in
     let t = c .before .before .conclude-one in (
       t .ensures .0 ∙ p .ensures .0,
       λ q e. concluded-on (p .ensures .1 q e) (c .before .before .before .before .before .placed .given .1) 4 (a .context) (a .term) (a .step ∷ []) (t .ensures .1),
+      step-indexed (p .ensures .2 .held _ _ (c .before .before .before .before .before .placed .given .1)) 4 (a .context) (a .term) _ (a .step ∷ []) (t .ensures .1),
     )
 
 pub close-quantifier-spec : {M : Type 1} → statement M

@@ -7,6 +7,7 @@ use Rattle.arena.specs.Scratch.{bundleIn}
 use Rattle.arena.proofs.ScratchFields.{variables-length}
 use Rattle.writer.specs.Visit.{newVariable}
 use Rattle.writer.proofs.Calls.{fresh-asks, renaming-on, renaming-full}
+use Rattle.writer.proofs.Indexes.{full-open, renaming-indexed}
 use borrow.Author.Needs.{needs}
 use Rattle.writer.proofs.closers.open_quantifier.Statement.{statement}
 use Rattle.writer.proofs.closers.open_quantifier.Tie as tie
@@ -25,7 +26,7 @@ enum-known-placed c = search needs
 
 open-renaming-requires : tie.Need-open-renaming-requires
 open-renaming-requires c κs =
-    let s = c .before .before .before .before .before .before .before .before .before .before in
+    let s = c .before .before .before .before .before .before .before .before .before .before .before in
     let a = s .args in
     let k = fresh-asks (bundleIn (a .words .now) (a .c)) (a .x) (c .before .before .before .before .before .before .place-fresh .ensures .1) (c .before .before .placed .given .1) in
     (k .0, s .pre .1, omega (arith, s .pre .0 .room .within .variables), k .1, s .pre .2)
@@ -35,21 +36,22 @@ same-length c = search needs
 
 returns : tie.Need-returns
 returns c =
-    let a = c .before .before .before .before .before .before .before .before .args in
+    let a = c .before .before .before .before .before .before .before .before .before .args in
     let p = c .before .before .before .before .place-fresh in
-    (p .ensures .0, renaming-full (p .ensures .1) (c .enum-told .given .1) (a .x) _ _ (a .context))
+    (p .ensures .0, renaming-full (p .ensures .1) (c .enum-told .given .1) (a .x) _ _ (a .context), full-open)
 
 same-length-2 : tie.Need-same-length-2
 same-length-2 c = search needs
 
 returns-2 : tie.Need-returns-2
 returns-2 c =
-    let a = c .before .before .before .before .before .before .before .before .before .before .before .before .before .args in
+    let a = c .before .before .before .before .before .before .before .before .before .before .before .before .before .before .args in
     let p = c .before .before .before .before .before .before .before .before .before .place-fresh in
     let t = c .before .before .open-renaming in (
       t .ensures .0 ∙ p .ensures .0,
       renaming-on (p .ensures .1) (c .before .before .before .before .before .placed .given .1) (a .x) (a .c .variables + 1) (newVariable (bundleIn (a .words .now) (a .c))) (a .context)
           (add-one (a .c .variables) ∙ ap suc (sym (variables-length (a .words .now) (a .c)))) (t .ensures .1),
+      renaming-indexed (p .ensures .2 .held _ _ (c .before .before .before .before .before .placed .given .1)) (a .x) (a .c .variables + 1) _ (a .context) (t .ensures .1),
     )
 
 pub open-quantifier-spec : {M : Type 1} → statement M
