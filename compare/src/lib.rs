@@ -19,4 +19,5 @@ pub mod naive_expand;
 pub mod plot;
 pub mod report;
 pub mod rng;
+pub mod smt;
 pub mod tally;

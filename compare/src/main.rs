@@ -10,7 +10,7 @@ use nezkaldo_compare::mutants::Verdict;
 use nezkaldo_compare::report::Results;
 use nezkaldo_compare::{
     answer, bench, check, compare, compare_writer, expand, ffi, generate, mutants, naive,
-    naive_expand, plot,
+    naive_expand, plot, smt,
 };
 use std::io::{self, Read};
 use std::path::{Path, PathBuf};
@@ -31,6 +31,7 @@ usage: compare COMMAND [OPTIONS]
            [--write DIR]        write BENCHMARK.md and benchmark.svg there
   check    [FILE]               judge a file, or standard input
   expand   JOB FILE             write the expansion of a job
+  smt      FILE                 the claim of an accepted file as an SMT-LIB query
   file     --seed S --index I --out FILE [--job]
                                 write one generated file, or job";
 
@@ -46,6 +47,7 @@ fn main() -> ExitCode {
         "bench" => run_bench(&arguments),
         "check" => run_check(&arguments),
         "expand" => run_expand(&arguments),
+        "smt" => run_smt(&arguments),
         "file" => run_file(&arguments),
         other => Err(format!("there is no command {other}\n{USAGE}")),
     });
@@ -230,6 +232,16 @@ fn run_check(arguments: &Arguments) -> Result<ExitCode, String> {
         Ok(claim) => println!("accepted {} {}", claim.left, claim.right),
         Err(refusal) => println!("{refusal}"),
     }
+    Ok(ExitCode::SUCCESS)
+}
+
+fn run_smt(arguments: &Arguments) -> Result<ExitCode, String> {
+    arguments.allow(&[], 1)?;
+    let path = arguments.plain().first().ok_or("smt needs a file")?;
+    let plain = naive::load(&read(path)?, 1024).map_err(|refusal| format!("{path}: {refusal}"))?;
+    let query = smt::query(&plain)
+        .ok_or(format!("{path}: a side of the claim is too long to write out"))?;
+    print!("{query}");
     Ok(ExitCode::SUCCESS)
 }
 
