@@ -5,7 +5,7 @@ use crate::bench::{Row, Share};
 use crate::report::{Results, number, thousands};
 use std::fmt::Write;
 
-const WIDTH: f64 = 960.0;
+const WIDTH: f64 = 1180.0;
 const HEIGHT: f64 = 470.0;
 const TOP: f64 = 70.0;
 const BOTTOM: f64 = 350.0;
@@ -58,8 +58,8 @@ pub fn svg(results: &Results) -> String {
     );
     let proved = results.checks.iter().any(|row| row.proved.is_some());
     picture.legend(proved);
-    picture.bars(&results.checks, 70.0, 560.0);
-    picture.lines(&results.doubling, 650.0, 935.0);
+    picture.bars(&results.checks, 70.0, 780.0);
+    picture.lines(&results.doubling, 870.0, 1155.0);
     picture.svg.push_str("</svg>\n");
     picture.svg
 }
