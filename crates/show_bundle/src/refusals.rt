@@ -251,9 +251,10 @@ fn missorted(file: &[u8], b: Bundle, i: usize)
     let second = term_field(file, b, i, 2);
     out::name(b"t", i);
     if kind == 2 {
-        out::text(b": its arguments are not as many as ");
+        out::name(b": its arguments are not as many as symbol ", first);
+        out::text(b" (");
         out::symbol(first);
-        out::text(b" takes, or not of its sorts");
+        out::text(b") takes, or not of its sorts");
     } else if kind == 5 {
         bad_pairs(file, b, first);
     } else {
@@ -460,40 +461,43 @@ fn false_cong(file: &[u8], b: Bundle, context: usize, left: usize, right: usize)
 fn false_bind(file: &[u8], b: Bundle, context: usize, left: usize, right: usize)
     requires { ⌜ Whole (now file) b ⌝ }
 {
+    let kind = term_field(file, b, left, 0);
+    let same = kind == term_field(file, b, right, 0);
     let x = term_field(file, b, left, 1);
     let y = term_field(file, b, right, 1);
-    let from = term_field(file, b, left, 2);
-    let to = term_field(file, b, right, 2);
-    let same = term_field(file, b, left, 0) == term_field(file, b, right, 0);
-    out::name(b" is BIND, and t", left);
-    if same {
-        out::name(b": its premise must carry t", from);
-        out::name(b" to t", to);
+    if same & ((kind == 3) | (kind == 4)) {
+        out::name(
+            b" is BIND, and its premise does not carry t",
+            term_field(file, b, left, 2),
+        );
+        out::name(b" to t", term_field(file, b, right, 2));
         out::name(b" in a context that replaces v", x);
         out::name(b" alone by v", y);
         out::name(b", over one that fixes v", y);
         out::name(b", over c", context);
     } else {
+        out::name(b" is BIND, and t", left);
         out::name(b" and t", right);
-        out::text(b" are not the same quantifier");
+        out::text(b" are not two for-alls or two exists");
     }
 }
 
 fn false_let(file: &[u8], b: Bundle, context: usize, left: usize, right: usize)
     requires { ⌜ Whole (now file) b ⌝ }
 {
-    out::name(b" is LET, and t", left);
     if term_field(file, b, left, 0) == 5 {
         out::name(
-            b": its premises must carry its bound terms, in order and in c",
-            context,
+            b" is LET, and its premises do not carry the bound terms of t",
+            left,
         );
+        out::name(b" to some terms, in order and in c", context);
         out::name(b", and then its body to t", right);
         out::name(
-            b" in a context that replaces its variables by the results, over c",
+            b" in a context that replaces its variables by those terms, over c",
             context,
         );
     } else {
+        out::name(b" is LET, and t", left);
         out::text(b" is no let");
     }
 }
