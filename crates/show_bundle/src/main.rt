@@ -1,0 +1,163 @@
+// The program show: reads a bundle of up to 65,536 bytes on standard input and prints it as text that can be read, and what the checker says of it.
+// With the argument --dot it prints its steps as a graph, for Graphviz; the rest is comments there.
+ghost use Rattle.bundle.specs.File.{Whole};
+
+mod out; // out.rt: pieces of text
+mod terms; // terms.rt: terms in SMT-LIB
+mod records; // records.rt: a line for each record
+mod refusals; // refusals.rt: what a refusal means
+mod dot; // dot.rt: the graph
+
+use bundle::Bundle;
+use bundle::words::counts;
+use bundle::words::word_at;
+use checker::Answer;
+
+// A line of the graph's text that is not the graph's is a comment.
+fn line_start(is_dot: bool) {
+    if is_dot {
+        out::text(b"// ");
+    }
+}
+
+fn header_line(b: Bundle, left: usize, right: usize, is_dot: bool) {
+    line_start(is_dot);
+    out::name(b"version ", b.version);
+    out::name(b", symbols ", b.symbols);
+    out::name(b", variables ", b.variables);
+    out::name(b", terms ", b.terms);
+    out::name(b", links ", b.links);
+    out::name(b", contexts ", b.contexts);
+    out::name(b", steps ", b.steps);
+    out::name(b", left ", left);
+    out::name(b", right ", right);
+    out::line_end();
+}
+
+// A word, two numbers and a newline.
+fn answer_line(word: &[u8], first: usize, second: usize, is_dot: bool) {
+    line_start(is_dot);
+    out::name(word, first);
+    out::name(b" ", second);
+    out::line_end();
+}
+
+// A refusal, and the start of the line that says why.
+fn begin_refusal(number: usize, record: usize, is_dot: bool) {
+    answer_line(b"refused ", number, record, is_dot);
+    line_start(is_dot);
+    refusals::word(number);
+    out::text(b": ");
+}
+
+// The checker's answer to a file with a bad header, and the start of the line that says why.
+fn begin_why(answer: Answer, is_dot: bool) {
+    match answer {
+        Answer::Accepted { left, right } => answer_line(b"accepted ", left, right, is_dot),
+        Answer::Refused { number, record } => begin_refusal(number, record, is_dot),
+    }
+}
+
+// What a whole file says, then the answer.
+fn show_bundle(file: &[u8], b: Bundle, left: usize, right: usize, answer: Answer, is_dot: bool)
+    requires { ⌜ Whole (now file) b ⌝ }
+{
+    if is_dot {
+        dot::nodes(file, b);
+    } else {
+        records::all_lines(file, b, left, right);
+    }
+    match answer {
+        Answer::Accepted { left: l, right: r } => answer_line(b"accepted ", l, r, is_dot),
+        Answer::Refused { number, record } => {
+            begin_refusal(number, record, is_dot);
+            refusals::sentence(file, b, left, right, number, record);
+            out::line_end();
+        }
+    }
+}
+
+fn show_short(length: usize, answer: Answer, is_dot: bool) {
+    begin_why(answer, is_dot);
+    refusals::too_short(length);
+    out::line_end();
+}
+
+fn show_foreign(version: usize, answer: Answer, is_dot: bool) {
+    begin_why(answer, is_dot);
+    refusals::foreign(version);
+    out::line_end();
+}
+
+fn show_oversize(b: Bundle, answer: Answer, is_dot: bool) {
+    begin_why(answer, is_dot);
+    refusals::oversize(b);
+    out::line_end();
+}
+
+fn show_length(length: usize, bytes: usize, answer: Answer, is_dot: bool) {
+    begin_why(answer, is_dot);
+    refusals::wrong_length(length, bytes);
+    out::line_end();
+}
+
+// As much of the file as can be read. A file whose header is bad, which the checker refuses with 1 to 3, shows its header's numbers only.
+fn show_file(file: &[u8], answer: Answer, is_dot: bool) {
+    if file.len() < 36 {
+        show_short(file.len(), answer, is_dot);
+        return;
+    }
+    let b = counts(file);
+    let left = word_at(file, 7);
+    let right = word_at(file, 8);
+    header_line(b, left, right, is_dot);
+    if b.version != 1 {
+        show_foreign(b.version, answer, is_dot);
+        return;
+    }
+    if !b.within() {
+        show_oversize(b, answer, is_dot);
+        return;
+    }
+    let bytes = b.bytes();
+    if file.len() != bytes {
+        show_length(file.len(), bytes, answer, is_dot);
+        return;
+    }
+    show_bundle(file, b, left, right, answer, is_dot);
+}
+
+// Whether the first argument is --dot.
+fn wants_dot() -> bool {
+    let mut word = [0u8; 8];
+    let n = os::arg(1, &mut word);
+    (n == 5)
+        & (word[0] == b'-')
+        & (word[1] == b'-')
+        & (word[2] == b'd')
+        & (word[3] == b'o')
+        & (word[4] == b't')
+}
+
+fn graph_start(is_dot: bool) {
+    if is_dot {
+        out::text(b"digraph derivation {\n");
+    }
+}
+
+fn graph_end(is_dot: bool) {
+    if is_dot {
+        out::text(b"}\n");
+    }
+}
+
+fn main() {
+    let mut input = io::large_buffer();
+    let n = io::read_full(0, &mut input);
+    let mut free = [0u64; 1024];
+    let answer = checker::check(&input[..n], &mut free);
+    let is_dot = wants_dot();
+    graph_start(is_dot);
+    show_file(&input[..n], answer, is_dot);
+    graph_end(is_dot);
+}
