@@ -14,6 +14,7 @@ use bundle::records::symbol_field;
 use bundle::records::term_field;
 use bundle::records::variable_sort;
 
+// The words are document 01's, as it prints them.
 pub fn word(number: usize) {
     match number {
         1 => out::text(b"short"),
@@ -313,7 +314,7 @@ fn first_same(file: &[u8], b: Bundle, i: usize) -> usize
 }
 
 // 9: a term equal to an earlier one.
-fn twin(file: &[u8], b: Bundle, i: usize)
+fn repeated_term(file: &[u8], b: Bundle, i: usize)
     requires { ⌜ Whole (now file) b ⌝ }
 {
     out::name(b"t", i);
@@ -525,7 +526,7 @@ fn false_step(file: &[u8], b: Bundle, k: usize)
 }
 
 // 14: TRANS's middle not settled, or a BIND side fails.
-fn captured(file: &[u8], b: Bundle, k: usize)
+fn failed_side(file: &[u8], b: Bundle, k: usize)
     requires { ⌜ Whole (now file) b ⌝ }
 {
     let context = step_field(file, b, k, 1);
@@ -577,12 +578,12 @@ pub fn sentence(file: &[u8], b: Bundle, left: usize, right: usize, number: usize
         6 => bad_sort(file, b, record),
         7 => bad_term(file, b, record),
         8 => missorted(file, b, record),
-        9 => twin(file, b, record),
+        9 => repeated_term(file, b, record),
         10 => bad_context(file, b, record),
         11 => unsettled(file, b, record),
         12 => bad_step(file, b, record),
         13 => false_step(file, b, record),
-        14 => captured(file, b, record),
+        14 => failed_side(file, b, record),
         15 => other_claim(file, b, left, right),
         _ => out::text(b"the area lent to the checker is too short"),
     }
