@@ -2,6 +2,7 @@
 --     Tables           tables that grow: a cell is what its record builds from the cells below it
 --     Firsts           first faults, for loops over a section
 --     Tests            tests put together and taken apart
+--     TermKinds        kinds of terms and their numbers
 --     Trees            trees, sorts and free variables of numbers
 --     Passes           what is known of a bundle in which the checks 5 to 9 find nothing
 --     Distinct         THE THEOREM: different numbers stand for different terms
@@ -19,13 +20,16 @@
 --     Symbols          the symbol table: declared symbols have records, and stay where more are declared
 --     Shapes           the tree of a well-formed term, by its kind
 --     ValueSorts       THE THEOREM: values keep sorts
+--     Meanings         THE MEANINGS: the sentences of document 01 of values; worlds of every size and valuations exist
 --     Longer           longer bundles: records and lists appended
 --     Kept             what old numbers of a well-formed bundle stand for in a longer one
 --     FormedKept       old records of a well-formed bundle are well formed in a longer one
 --     Later            THE THEOREM: later records change nothing earlier
+--     NextStep         a step after all those of a bundle
 pub mod Tables
 pub mod Firsts
 pub mod Tests
+pub mod TermKinds
 pub mod Trees
 pub mod Passes
 pub mod Distinct
@@ -43,7 +47,9 @@ pub mod Walked
 pub mod Symbols
 pub mod Shapes
 pub mod ValueSorts
+pub mod Meanings
 pub mod Longer
 pub mod Kept
 pub mod FormedKept
 pub mod Later
+pub mod NextStep

@@ -10,10 +10,12 @@
 --     Checks       document 01's checks 1 to 9: what is wrong with a file, a link, a symbol, a variable, a term
 --     Distinct     the statement that different numbers stand for different terms
 --     Contexts     images, moved variables, settled terms; checks 10 and 11
+--     Readings     what the tests of a step read besides the records
 --     Rules        the five rules as tests on record numbers; checks 12, 13 and 14
 --     WellFormed   what document 01 says of the tables and the contexts, in propositions
 --     Instance     THE RULES AS PRINTED: steps that are instances of REFL, CONG, TRANS, BIND or LET
 --     Values       worlds, valuations, and the value of a term
+--     Meanings     what values mean: document 01's sentences, and that worlds exist, as types
 --     Longer       bundles with records appended
 --     Lookup       terms looked up
 --     Statements   the theorems, as types: proofs/ has each under the same name
@@ -28,10 +30,12 @@ pub mod Lets
 pub mod Checks
 pub mod Distinct
 pub mod Contexts
+pub mod Readings
 pub mod Rules
 pub mod WellFormed
 pub mod Instance
 pub mod Values
+pub mod Meanings
 pub mod Longer
 pub mod Lookup
 pub mod Statements

@@ -1,4 +1,5 @@
--- The five rules as tests on record numbers, and checks 12, 13 and 14 of a step.
+-- The five rules as tests on record numbers, and checks 12, 13 and 14 of a step. A test whose name ends in `By` is over a reading, of which it
+-- takes what it needs; under the plain name stands the same test at the bundle's own reading.
 use Prim.Native.Nat.{ℕ, _-_}
 use mathlib.Core.Bool.{Bool, true, false, cond, not, _&&_, _||_}
 use mathlib.Core.List.{List, [], _∷_}
@@ -11,9 +12,11 @@ use Rattle.logic.specs.declared.Fault.{Fault}
 use Rattle.logic.specs.declared.Image.{Image}
 use Rattle.logic.specs.declared.Image.the-variants.{Own, Gives}
 use Rattle.logic.specs.Tests.{passed, upTo, Test, test, firstFailing, firstFault}
+use Rattle.logic.specs.Terms.{isBinder}
 use Rattle.logic.specs.Free.{freeAt}
 use Rattle.logic.specs.Checks.{startsList}
 use Rattle.logic.specs.Contexts.{image, isVariable, settled}
+use Rattle.logic.specs.Readings.{Reading, readingOf}
 
 -- Rules: 1 REFL, 2 CONG, 3 TRANS, 4 BIND, 5 LET.
 pub data Rule : Type 0 where
@@ -53,13 +56,17 @@ leftOver true (p ∷ []) = true
 leftOver true (p ∷ q ∷ ps) = false
 
 -- in context c, one premise for each pair of two lists, in order; and one more where `body` says so
-unfoldable pub allProve : Bundle → Bool → ℕ → List ℕ → List ℕ → List ℕ → Bool
+unfoldable pub allProveBy : (ℕ → Step) → Bool → ℕ → List ℕ → List ℕ → List ℕ → Bool
 unfolding leftOver
-allProve b body c [] [] ps = leftOver body ps
-allProve b body c [] (r ∷ rs) ps = false
-allProve b body c (l ∷ ls) [] ps = false
-allProve b body c (l ∷ ls) (r ∷ rs) [] = false
-allProve b body c (l ∷ ls) (r ∷ rs) (p ∷ ps) = carries (stepOf b p) c l r && allProve b body c ls rs ps
+allProveBy step body c [] [] ps = leftOver body ps
+allProveBy step body c [] (r ∷ rs) ps = false
+allProveBy step body c (l ∷ ls) [] ps = false
+allProveBy step body c (l ∷ ls) (r ∷ rs) [] = false
+allProveBy step body c (l ∷ ls) (r ∷ rs) (p ∷ ps) = carries (step p) c l r && allProveBy step body c ls rs ps
+
+unfoldable pub allProve : Bundle → Bool → ℕ → List ℕ → List ℕ → List ℕ → Bool
+unfolding allProveBy
+allProve b = allProveBy (stepOf b)
 
 -- ---- REFL: left and right are the same term and it is settled; or left is a variable and right its image.
 
@@ -68,110 +75,161 @@ unfoldable pub isImage : Image → ℕ → ℕ → Bool
 isImage Own l r = eqb l r
 isImage (Gives t) l r = eqb t r
 
+unfoldable pub reflHoldsBy : (ℕ → ℕ → Bool) → (ℕ → ℕ → Image) → Bundle → Step → Bool
+unfolding isImage
+reflHoldsBy settled image b s =
+    (eqb (s .left) (s .right) && settled (s .context) (s .left))
+    || (eqb (termOf b (s .left) .kind) 1 && isImage (image (s .context) (termOf b (s .left) .a)) (s .left) (s .right))
+
 unfoldable pub reflHolds : Bundle → Step → Bool
-unfolding settled isImage image
-reflHolds b s =
-    (eqb (s .left) (s .right) && settled b (s .context) (s .left))
-    || (eqb (termOf b (s .left) .kind) 1 && isImage (image b (s .context) (termOf b (s .left) .a)) (s .left) (s .right))
+unfolding reflHoldsBy settled isImage image
+reflHolds b = reflHoldsBy (settled b) (image b) b
 
 -- ---- CONG: same symbol, premises in the step's context, one for each argument in order.
 
-unfoldable pub congTests : Bundle → Step → List Bool
-unfolding allProve items
-congTests b s =
+-- the premises carry the arguments of the one side to those of the other
+abbrev pub argumentsProve : (ℕ → Step) → Bundle → Step → Bool
+argumentsProve step b s =
+    allProveBy step false (s .context) (items b (termOf b (s .left) .b)) (items b (termOf b (s .right) .b)) (items b (s .premises))
+
+-- the tests, where `proved` says whether they do
+unfoldable pub congWhere : Bool → Bundle → Step → List Bool
+congWhere proved b s =
     eqb (termOf b (s .left) .kind) 2
     ∷ eqb (termOf b (s .right) .kind) 2
     ∷ eqb (termOf b (s .left) .a) (termOf b (s .right) .a)
-    ∷ allProve b false (s .context) (items b (termOf b (s .left) .b)) (items b (termOf b (s .right) .b)) (items b (s .premises))
+    ∷ proved
     ∷ []
+
+unfoldable pub congTests : Bundle → Step → List Bool
+unfolding congWhere allProve items
+congTests b s = congWhere (argumentsProve (stepOf b) b s) b s
 
 -- ---- TRANS: left to middle, middle to right, same context; the middle is settled.
 
 -- the right side of the first premise
-abbrev pub middle : Bundle → Step → ℕ
-middle b s = stepOf b (firstOf (items b (s .premises))) .right
+abbrev pub middleBy : (ℕ → Step) → Bundle → Step → ℕ
+middleBy step b s = step (firstOf (items b (s .premises))) .right
 
-unfoldable pub transTests : Bundle → Step → List Bool
+abbrev pub middle : Bundle → Step → ℕ
+middle b = middleBy (stepOf b) b
+
+unfoldable pub transTestsBy : (ℕ → Step) → Bundle → Step → List Bool
 unfolding items
-transTests b s =
-    carries (stepOf b (firstOf (items b (s .premises)))) (s .context) (s .left) (middle b s)
-    ∷ carries (stepOf b (secondOf (items b (s .premises)))) (s .context) (middle b s) (s .right)
+transTestsBy step b s =
+    carries (step (firstOf (items b (s .premises)))) (s .context) (s .left) (middleBy step b s)
+    ∷ carries (step (secondOf (items b (s .premises)))) (s .context) (middleBy step b s) (s .right)
     ∷ []
 
+unfoldable pub transTests : Bundle → Step → List Bool
+unfolding transTestsBy items
+transTests b = transTestsBy (stepOf b) b
+
+unfoldable pub transSideBy : (ℕ → ℕ → Bool) → (ℕ → Step) → Bundle → Step → Bool
+unfolding items
+transSideBy settled step b s = settled (s .context) (middleBy step b s)
+
 unfoldable pub transSide : Bundle → Step → Bool
-unfolding settled items
-transSide b s = settled b (s .context) (middle b s)
+unfolding transSideBy settled items
+transSide b = transSideBy (settled b) (stepOf b) b
 
 -- ---- BIND, from Qx.φ to Qy.ψ, same quantifier: the premise is φ to ψ in a context that replaces x alone by y, whose parent fixes y, whose
 -- parent is the step's context.
 
 -- the premise, its context, and that one's parent
+abbrev pub premiseBy : (ℕ → Step) → Bundle → Step → Step
+premiseBy step b s = step (firstOf (items b (s .premises)))
+
+abbrev pub innerBy : (ℕ → Step) → Bundle → Step → ℕ
+innerBy step b s = premiseBy step b s .context
+
+abbrev pub outerBy : (ℕ → Step) → Bundle → Step → ℕ
+outerBy step b s = contextOf b (innerBy step b s) .parent
+
 abbrev pub premise : Bundle → Step → Step
-premise b s = stepOf b (firstOf (items b (s .premises)))
+premise b = premiseBy (stepOf b) b
 
 abbrev pub inner : Bundle → Step → ℕ
-inner b s = premise b s .context
+inner b = innerBy (stepOf b) b
 
 abbrev pub outer : Bundle → Step → ℕ
-outer b s = contextOf b (inner b s) .parent
+outer b = outerBy (stepOf b) b
 
--- kinds 3 and 4 bind one variable
-abbrev pub isBinder : ℕ → Bool
-isBinder kind = eqb kind 3 || eqb kind 4
-
-unfoldable pub bindTerms : Bundle → Step → List Bool
+unfoldable pub bindTermsBy : (ℕ → Step) → Bundle → Step → List Bool
 unfolding items
-bindTerms b s =
+bindTermsBy step b s =
     isBinder (termOf b (s .left) .kind)
     ∷ eqb (termOf b (s .right) .kind) (termOf b (s .left) .kind)
-    ∷ eqb (premise b s .left) (termOf b (s .left) .b)
-    ∷ eqb (premise b s .right) (termOf b (s .right) .b)
+    ∷ eqb (premiseBy step b s .left) (termOf b (s .left) .b)
+    ∷ eqb (premiseBy step b s .right) (termOf b (s .right) .b)
+    ∷ []
+
+unfoldable pub bindTerms : Bundle → Step → List Bool
+unfolding bindTermsBy items
+bindTerms b = bindTermsBy (stepOf b) b
+
+unfoldable pub bindContextsBy : (ℕ → Step) → Bundle → Step → List Bool
+unfolding items single
+bindContextsBy step b s =
+    eqb (contextOf b (innerBy step b s) .kind) 2
+    ∷ single (items b (contextOf b (innerBy step b s) .a))
+    ∷ eqb (firstOf (items b (contextOf b (innerBy step b s) .a))) (termOf b (s .left) .a)
+    ∷ single (items b (contextOf b (innerBy step b s) .b))
+    ∷ isVariable b (firstOf (items b (contextOf b (innerBy step b s) .b))) (termOf b (s .right) .a)
+    ∷ eqb (contextOf b (outerBy step b s) .kind) 1
+    ∷ eqb (contextOf b (outerBy step b s) .a) (termOf b (s .right) .a)
+    ∷ eqb (contextOf b (outerBy step b s) .parent) (s .context)
     ∷ []
 
 unfoldable pub bindContexts : Bundle → Step → List Bool
-unfolding items single
-bindContexts b s =
-    eqb (contextOf b (inner b s) .kind) 2
-    ∷ single (items b (contextOf b (inner b s) .a))
-    ∷ eqb (firstOf (items b (contextOf b (inner b s) .a))) (termOf b (s .left) .a)
-    ∷ single (items b (contextOf b (inner b s) .b))
-    ∷ isVariable b (firstOf (items b (contextOf b (inner b s) .b))) (termOf b (s .right) .a)
-    ∷ eqb (contextOf b (outer b s) .kind) 1
-    ∷ eqb (contextOf b (outer b s) .a) (termOf b (s .right) .a)
-    ∷ eqb (contextOf b (outer b s) .parent) (s .context)
-    ∷ []
+unfolding bindContextsBy items single
+bindContexts b = bindContextsBy (stepOf b) b
 
 -- y is free in the image of x
+unfoldable pub freeInImageBy : (ℕ → ℕ → Bool) → Image → ℕ → ℕ → Bool
+freeInImageBy free Own x y = eqb y x
+freeInImageBy free (Gives t) x y = free t y
+
 unfoldable pub freeInImage : Bundle → Image → ℕ → ℕ → Bool
-unfolding freeAt
-freeInImage b Own x y = eqb y x
-freeInImage b (Gives t) x y = freeAt b t y
+unfolding freeInImageBy freeAt
+freeInImage b = freeInImageBy (freeAt b)
 
 -- Sides: y is not free in Qx.φ, and y is not free in the image, in the step's context, of any free variable of Qx.φ.
+unfoldable pub bindSidesBy : (ℕ → ℕ → Bool) → (ℕ → ℕ → Image) → Bundle → Step → Bool
+unfolding freeInImageBy upTo
+bindSidesBy free image b s =
+    not (free (s .left) (termOf b (s .right) .a))
+    && upTo (length (b .variables)) (λ z. not (free (s .left) z) || not (freeInImageBy free (image (s .context) z) z (termOf b (s .right) .a)))
+
 unfoldable pub bindSides : Bundle → Step → Bool
-unfolding freeAt freeInImage image upTo
-bindSides b s =
-    not (freeAt b (s .left) (termOf b (s .right) .a))
-    && upTo (length (b .variables)) (λ z. not (freeAt b (s .left) z) || not (freeInImage b (image b (s .context) z) z (termOf b (s .right) .a)))
+unfolding bindSidesBy freeAt freeInImage image upTo
+bindSides b = bindSidesBy (freeAt b) (image b) b
 
 -- ---- LET: premises carry each bound term to some s in the step's context; the last carries the body to the right side in a context that
 -- replaces the let's variables by those s, in order, with the step's context as parent.
 
 -- the last premise, and its context
+abbrev pub bodyStepBy : (ℕ → Step) → Bundle → Step → Step
+bodyStepBy step b s = step (lastOf (items b (s .premises)))
+
 abbrev pub bodyStep : Bundle → Step → Step
-bodyStep b s = stepOf b (lastOf (items b (s .premises)))
+bodyStep b = bodyStepBy (stepOf b) b
+
+unfoldable pub letTestsBy : (ℕ → Step) → Bundle → Step → List Bool
+unfolding lastOf items sameList allProveBy
+letTestsBy step b s =
+    eqb (termOf b (s .left) .kind) 5
+    ∷ eqb (bodyStepBy step b s .left) (termOf b (s .left) .c)
+    ∷ eqb (bodyStepBy step b s .right) (s .right)
+    ∷ eqb (contextOf b (bodyStepBy step b s .context) .kind) 2
+    ∷ eqb (contextOf b (bodyStepBy step b s .context) .parent) (s .context)
+    ∷ sameList (items b (contextOf b (bodyStepBy step b s .context) .a)) (items b (termOf b (s .left) .a))
+    ∷ allProveBy step true (s .context) (items b (termOf b (s .left) .b)) (items b (contextOf b (bodyStepBy step b s .context) .b)) (items b (s .premises))
+    ∷ []
 
 unfoldable pub letTests : Bundle → Step → List Bool
-unfolding lastOf items sameList allProve
-letTests b s =
-    eqb (termOf b (s .left) .kind) 5
-    ∷ eqb (bodyStep b s .left) (termOf b (s .left) .c)
-    ∷ eqb (bodyStep b s .right) (s .right)
-    ∷ eqb (contextOf b (bodyStep b s .context) .kind) 2
-    ∷ eqb (contextOf b (bodyStep b s .context) .parent) (s .context)
-    ∷ sameList (items b (contextOf b (bodyStep b s .context) .a)) (items b (termOf b (s .left) .a))
-    ∷ allProve b true (s .context) (items b (termOf b (s .left) .b)) (items b (contextOf b (bodyStep b s .context) .b)) (items b (s .premises))
-    ∷ []
+unfolding letTestsBy lastOf items sameList allProve
+letTests b = letTestsBy (stepOf b) b
 
 -- ---- the checks of a step
 
@@ -184,54 +242,100 @@ countFits BIND n = eqb n 1
 countFits LET n = true
 countFits noRule n = false
 
-unfoldable pub stepRefers : Bundle → ℕ → Bool
-unfolding countFits ruleOf each items passed
-stepRefers b k =
-    passed (
-    leb (stepOf b k .context) (length (b .contexts))
-    ∷ numbers (length (b .terms)) (stepOf b k .left)
-    ∷ numbers (length (b .terms)) (stepOf b k .right)
-    ∷ startsList b (stepOf b k .premises)
-    ∷ each (numbers (k - 1)) (items b (stepOf b k .premises))
-    ∷ countFits (ruleOf (stepOf b k .rule)) (length (items b (stepOf b k .premises)))
+-- the tests of a step s, where `earlier` says whether its premises are earlier steps
+abbrev pub refersWhere : Bool → Bundle → Step → List Bool
+refersWhere earlier b s =
+    leb (s .context) (length (b .contexts))
+    ∷ numbers (length (b .terms)) (s .left)
+    ∷ numbers (length (b .terms)) (s .right)
+    ∷ startsList b (s .premises)
+    ∷ earlier
+    ∷ countFits (ruleOf (s .rule)) (length (items b (s .premises)))
     ∷ []
-    )
+
+-- and where there are n earlier steps
+unfoldable pub refersBy : Bundle → ℕ → Step → Bool
+unfolding countFits ruleOf each items passed
+refersBy b n s = passed (refersWhere (each (numbers n) (items b (s .premises))) b s)
+
+unfoldable pub stepRefers : Bundle → ℕ → Bool
+unfolding refersBy
+stepRefers b k = refersBy b (k - 1) (stepOf b k)
 
 -- 13: any other mismatch with its rule
+-- where `proved` says whether the premises of a CONG carry its arguments
+unfoldable pub matchesWhere : Bool → Reading → Bundle → Rule → Step → Bool
+unfolding reflHoldsBy congWhere transTestsBy bindTermsBy bindContextsBy letTestsBy passed
+matchesWhere proved g b REFL s = reflHoldsBy (g .settled) (g .image) b s
+matchesWhere proved g b CONG s = passed (congWhere proved b s)
+matchesWhere proved g b TRANS s = passed (transTestsBy (g .step) b s)
+matchesWhere proved g b BIND s = passed (bindTermsBy (g .step) b s) && passed (bindContextsBy (g .step) b s)
+matchesWhere proved g b LET s = passed (letTestsBy (g .step) b s)
+matchesWhere proved g b noRule s = false
+
+-- and whether they do
+unfoldable pub walkBy : (ℕ → Step) → Bundle → Rule → Step → Bool
+unfolding allProveBy items
+walkBy step b REFL s = true
+walkBy step b CONG s = argumentsProve step b s
+walkBy step b TRANS s = true
+walkBy step b BIND s = true
+walkBy step b LET s = true
+walkBy step b noRule s = true
+
+unfoldable pub matchesBy : Reading → Bundle → Rule → Step → Bool
+unfolding matchesWhere walkBy
+matchesBy g b rule s = matchesWhere (walkBy (g .step) b rule s) g b rule s
+
 unfoldable pub matchesAs : Bundle → Rule → Step → Bool
-unfolding reflHolds congTests transTests bindTerms bindContexts letTests passed
-matchesAs b REFL s = reflHolds b s
-matchesAs b CONG s = passed (congTests b s)
-matchesAs b TRANS s = passed (transTests b s)
-matchesAs b BIND s = passed (bindTerms b s) && passed (bindContexts b s)
-matchesAs b LET s = passed (letTests b s)
-matchesAs b noRule s = false
+unfolding matchesBy isBinder reflHolds congTests transTests bindTerms bindContexts letTests passed
+matchesAs b = matchesBy (readingOf b) b
 
 unfoldable pub matches : Bundle → ℕ → Bool
 unfolding matchesAs ruleOf
 matches b k = matchesAs b (ruleOf (stepOf b k .rule)) (stepOf b k)
 
 -- 14: TRANS's middle not settled, or a BIND side fails
+unfoldable pub sidesBy : Reading → Bundle → Rule → Step → Bool
+unfolding transSideBy bindSidesBy
+sidesBy g b REFL s = true
+sidesBy g b CONG s = true
+sidesBy g b TRANS s = transSideBy (g .settled) (g .step) b s
+sidesBy g b BIND s = bindSidesBy (g .free) (g .image) b s
+sidesBy g b LET s = true
+sidesBy g b noRule s = true
+
 unfoldable pub sidesAs : Bundle → Rule → Step → Bool
-unfolding transSide bindSides
-sidesAs b REFL s = true
-sidesAs b CONG s = true
-sidesAs b TRANS s = transSide b s
-sidesAs b BIND s = bindSides b s
-sidesAs b LET s = true
-sidesAs b noRule s = true
+unfolding sidesBy transSide bindSides
+sidesAs b = sidesBy (readingOf b) b
 
 unfoldable pub sides : Bundle → ℕ → Bool
 unfolding sidesAs ruleOf
 sides b k = sidesAs b (ruleOf (stepOf b k .rule)) (stepOf b k)
 
--- the tests of a step, in the order of their numbers
+-- the tests of a step s after n others, in the order of their numbers
+abbrev pub ruleTestsWhere : Bool → Reading → Bundle → Step → List Test
+ruleTestsWhere proved g b s = test 13 (matchesWhere proved g b (ruleOf (s .rule)) s) ∷ test 14 (sidesBy g b (ruleOf (s .rule)) s) ∷ []
+
+abbrev pub stepTestsBy : Reading → Bundle → ℕ → Step → List Test
+stepTestsBy g b n s = test 12 (refersBy b n s) ∷ ruleTestsWhere (walkBy (g .step) b (ruleOf (s .rule)) s) g b s
+
+unfoldable pub stepFaultBy : Reading → Bundle → ℕ → Step → ℕ
+unfolding firstFailing refersBy
+stepFaultBy g b n s = firstFailing (stepTestsBy g b n s)
+
+-- the same of step k
 abbrev pub stepTests : Bundle → ℕ → List Test
 stepTests b k = test 12 (stepRefers b k) ∷ test 13 (matches b k) ∷ test 14 (sides b k) ∷ []
 
 unfoldable pub stepFault : Bundle → ℕ → ℕ
-unfolding firstFailing stepRefers matches sides
+unfolding stepFaultBy firstFailing stepRefers matches sides
 stepFault b k = firstFailing (stepTests b k)
+
+-- what is wrong with a step that comes after all those of a bundle
+unfoldable pub nextFault : Bundle → Step → ℕ
+unfolding stepFaultBy
+nextFault b s = stepFaultBy (readingOf b) b (length (b .steps)) s
 
 unfoldable pub stepsFault : Bundle → Fault
 unfolding firstFault stepFault

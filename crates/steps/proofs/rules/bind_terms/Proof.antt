@@ -1,6 +1,7 @@
 -- `rules::bind_terms` meets its contract: a straight line of reads, in the definition's order.
 use Rattle.logic.specs.Tests.{passed}
-use Rattle.logic.specs.Rules.{bindTerms}
+use Rattle.logic.specs.Rules.{bindTermsBy}
+use Rattle.logic.proofs.TermKinds.{is-binder-numbers}
 use borrow.Author.Needs.{needs}
 use Rattle.steps.proofs.rules.bind_terms.Statement.{statement}
 use Rattle.steps.proofs.rules.bind_terms.Tie as tie
@@ -20,23 +21,24 @@ term-field-requires-4 c κs = search needs
 first-item-requires : tie.Need-first-item-requires
 first-item-requires c κs = search needs
 
-step-field-requires : tie.Need-step-field-requires
-step-field-requires c κs = search needs
+taken-field-requires : tie.Need-taken-field-requires
+taken-field-requires c κs = search needs
 
-step-field-requires-2 : tie.Need-step-field-requires-2
-step-field-requires-2 c κs = search needs
+taken-field-requires-2 : tie.Need-taken-field-requires-2
+taken-field-requires-2 c κs = search needs
 
 returns : tie.Need-returns
-unfolding passed bindTerms
+unfolding passed bindTermsBy
 returns c =
     rw (
+      is-binder-numbers,
       ← c .before .before .before .before .before .before .term-field .ensures,
       ← c .before .before .before .before .before .term-field2 .ensures,
       ← c .before .before .before .before .term-field3 .ensures,
       ← c .before .before .before .term-field4 .ensures,
       ← c .before .before .first-item .ensures,
-      ← c .before .step-field .ensures,
-      ← c .step-field2 .ensures,
+      ← c .before .taken-field .ensures,
+      ← c .taken-field2 .ensures,
     )
 
 pub bind-terms-spec : {M : Type 1} → statement M
@@ -48,6 +50,6 @@ bind-terms-spec =
     term-field-requires-3
     term-field-requires-4
     first-item-requires
-    step-field-requires
-    step-field-requires-2
+    taken-field-requires
+    taken-field-requires-2
     returns)
