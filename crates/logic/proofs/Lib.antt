@@ -4,6 +4,7 @@
 --     Tests            tests put together and taken apart
 --     TermKinds        kinds of terms and their numbers
 --     Trees            trees, sorts and free variables of numbers
+--     Lets             THE LAW: a term holds a let exactly where one occurs in it
 --     Passes           what is known of a bundle in which the checks 5 to 9 find nothing
 --     Distinct         THE THEOREM: different numbers stand for different terms
 --     Exactly          tests that hold exactly where a proposition does, put together
@@ -11,6 +12,7 @@
 --     Formed           THE THEOREMS: checks 5 to 9, and 5 to 11, find nothing exactly in well-formed bundles
 --     TermNumbers      what records and contexts name are terms; what a tree says of its record
 --     Instances        THE THEOREMS: a step passes 12 to 14 exactly where it is an instance of its rule with its premises
+--     LetSide          THE THEOREM: LET's printed side holds of every instance in a well-formed bundle
 --     Values           laws of values: domains, quantifiers, valuations; a value depends on the free variables only
 --     Images           equations of images, from what a context's record says
 --     Sound            THE THEOREMS: where every step holds, both sides of a step in context 0 have equal values in every world
@@ -31,6 +33,7 @@ pub mod Firsts
 pub mod Tests
 pub mod TermKinds
 pub mod Trees
+pub mod Lets
 pub mod Passes
 pub mod Distinct
 pub mod Exactly
@@ -38,6 +41,7 @@ pub mod FreeSettled
 pub mod Formed
 pub mod TermNumbers
 pub mod Instances
+pub mod LetSide
 pub mod Values
 pub mod Images
 pub mod Sound

@@ -64,6 +64,28 @@ pub data Instance (b : Bundle) (rule : Rule) (Γ : ℕ) (left right : Term) (pre
   by-let : rule ≡ LET → (xs : List ℕ) (rs ss : Terms) (t : Term) (ps : List ℕ) (p Δ : ℕ) → left ≡ letIn xs rs t → premises ≡ ps ++ (p ∷ [])
       → SayAll b Γ rs ss ps → Says b p Δ t right → Replaces b Δ xs ss Γ → Instance b rule Γ left right premises
 
+-- each of the terms is settled in context Γ: the paper's Γ(s) = s
+abbrev pub AllSettled : Bundle → ℕ → Terms → Type 0
+AllSettled b Γ none = Unit {0}
+AllSettled b Γ (more s ss) = Settled b Γ s × AllSettled b Γ ss
+
+-- LET with the side that the paper prints. Document 01 leaves it out, since in every replacing context the terms are settled in the parent:
+-- `LetPrinted` (Statements.antt).
+pub record LetAsPrinted (b : Bundle) (Γ : ℕ) (left right : Term) (premises : List ℕ) : Type 0 where
+  pub variables : List ℕ
+  pub bound : Terms
+  pub carried : Terms
+  pub body : Term
+  pub earlier : List ℕ
+  pub last : ℕ
+  pub inner : ℕ
+  pub is-let : left ≡ letIn variables bound body
+  pub premises-are : premises ≡ earlier ++ (last ∷ [])
+  pub bound-say : SayAll b Γ bound carried earlier
+  pub body-says : Says b last inner body right
+  pub replacing : Replaces b inner variables carried Γ
+  pub side : AllSettled b Γ carried
+
 -- both sides of step p are terms
 abbrev pub SidesAreTerms : Bundle → ℕ → Type 0
 SidesAreTerms b p = Number (length (b .terms)) (stepOf b p .left) × Number (length (b .terms)) (stepOf b p .right)

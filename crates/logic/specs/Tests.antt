@@ -1,7 +1,7 @@
 -- Tests, numbered tests, and the first fault of a section. A number is that of a refusal in document 01, 0 where nothing is wrong.
 use Prim.Native.Nat.{ℕ, zero, suc}
 use mathlib.Core.List.{List, [], _∷_}
-use mathlib.Core.Bool.{Bool, true, false, cond, _&&_}
+use mathlib.Core.Bool.{Bool, true, cond, _&&_}
 use Rattle.logic.specs.declared.Fault.{Fault}
 
 -- Every test of a list passes. As a left fold it computes to `t₁ && t₂ && ..`, as code writes it with `&`.
