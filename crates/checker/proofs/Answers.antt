@@ -2,20 +2,21 @@
 --     header-there                  where it finds nothing, the file has a header
 --     answer-refused, area-zeros    something is wrong: refused with it, and the cleared area is what is to be left
 --     answer-accepted, area-free    nothing is: accepted with the claim, and so is the area that holds the free sets
-use Prim.Native.Nat.{ℕ, zero, suc, _≤_}
-use mathlib.Core.Path.{_≡_, refl, sym, _∙_}
+use Prim.Native.Nat.{ℕ, _≤_}
+use mathlib.Core.Path.{_≡_, sym, _∙_}
 use mathlib.Core.List.{List}
 use native.Mathlib.Omega.{arith}
-use lib.ListN.{length, replicate}
+use lib.ListN.{length}
 use Rattle.bundle.specs.Limits.{setWords}
 use Rattle.bundle.specs.File.{bundleOf}
 use Rattle.sets.specs.Sets.{cleared}
 use Rattle.logic.specs.declared.Fault.{Fault}
 use Rattle.logic.specs.Free.{freeArea}
 use Rattle.checker.specs.declared.Answer.the-variants.{Accepted, Refused}
-use Rattle.checker.specs.Judge.{faultOf, judge, areaFor, areaAfter}
+use Rattle.checker.specs.Judge.{faultOf, judge, areaAfter}
 use Rattle.checker.proofs.Acceptance.{nothing-exactly, accepted-where, refused-where}
 use Rattle.checker.proofs.Areas.{all-cleared}
+use Rattle.checker.proofs.Demands.{area-left}
 
 -- r is what the code finds in f, where m words are lent
 module _ (f : List ℕ) (m : ℕ) (r : Fault) (found : r ≡ faultOf f m) where
@@ -26,12 +27,7 @@ module _ (f : List ℕ) (m : ℕ) (r : Fault) (found : r ≡ faultOf f m) where
 
   -- x is what stood in the area, y what does once it is cleared
   pub area-zeros : (x y : List ℕ) → (r .number ≡ 0 → ⊥) → length x ≡ m → y ≡ cleared x 0 (length x) → y ≡ areaAfter f m
-  unfolding areaAfter
-  area-zeros x y ne long clear = clear ∙ all-cleared x ∙ rw long (go (faultOf f m .number) (λ z. ne (rw found z)))
-    where
-      go : (n : ℕ) → (n ≡ 0 → ⊥) → replicate m 0 ≡ areaFor (bundleOf f) n m
-      go zero some = absurd (some refl)
-      go (suc n) some = refl
+  area-zeros x y ne long clear = clear ∙ all-cleared x ∙ rw long (sym (area-left f m .refused _ _ (sym (answer-refused ne))))
 
   -- ---- nothing is
 

@@ -3,9 +3,12 @@
 --     whole-long      a whole file has a header
 --     free-sets       an area that is `freeArea` holds the free sets, if each variable has a bit
 --     sets-held       so it does where the file is whole
+--     area-bit        bit v - 1 of a term's words in `freeArea` is set exactly where v is free in its tree
+--     sets-left       so `freeArea` is what document 01 says is left
 --     all-cleared     an area cleared from end to end is zeros
-use Prim.Native.Nat.{ℕ, _+_, _*_, _-_, _≤_, _<_}
+use Prim.Native.Nat.{ℕ, _+_, _*_, _-_, _/_, _%_, _≤_, _<_}
 use mathlib.Core.Path.{_≡_, refl, sym, ap, _∙_}
+use mathlib.Core.Logic.{_↔_, Iff·symm, Iff·trans}
 use mathlib.Core.Bool.{Bool, true, false, cond, false≢true}
 use mathlib.Core.List.{List}
 use native.Mathlib.Omega.{arith}
@@ -20,13 +23,19 @@ use Rattle.bundle.proofs.Tab.{tab-length}
 use Rattle.bundle.proofs.Fields.{variables-length, terms-length}
 use Rattle.sets.specs.Sets.{holds, member, cleared}
 use Rattle.sets.proofs.Members.{holds-small, filled-length, filled-in}
-use Rattle.logic.specs.Free.{freeAt, freeArea}
+use Rattle.logic.specs.Lists.{Number}
+use Rattle.logic.specs.Terms.{tree}
+use Rattle.logic.specs.Free.{Free, freeAt, freeArea}
 use Rattle.logic.specs.Checks.{tablesFault}
+use Rattle.logic.specs.WellFormed.{TablesFormed}
 use Rattle.logic.proofs.Tests.{numbers-of}
+use Rattle.logic.proofs.Exactly.{eq-exactly}
 use Rattle.logic.proofs.Trees.{free-known}
-use Rattle.free_variables.proofs.SetWords.{area-member}
+use Rattle.logic.proofs.FreeSettled.{free-at-exactly}
+use Rattle.free_variables.proofs.SetWords.{area-member, area-word, area-rest}
 use Rattle.steps.specs.Given.{FreeSets}
 use Rattle.checker.specs.Judge.{required, lentFor}
+use Rattle.checker.specs.Demands.{bit, FreeSetsLeft}
 
 -- ---- how many words
 
@@ -68,6 +77,25 @@ pub sets-held : (f : List ℕ) (c : Counts) (m : ℕ) (w : List ℕ) → Whole f
     → FreeSets w setWords (bundleAt f c)
 sets-held f c m w whole long area =
     free-sets (bundleAt f c) setWords m w (omega arith) (rw variables-length (whole .within .variables)) (rw terms-length long) area
+
+-- ---- the same in document 01's words
+
+area-bit : (b : Bundle) (n m : ℕ) → TablesFormed b → 1 ≤ n → n * length (b .terms) ≤ m → (i v : ℕ) → Number (length (b .terms)) i
+    → Number (64 * n) v → (bit (getD (freeArea b n m) (n * (i - 1) + (v - 1) / 64) 0) ((v - 1) % 64) ≡ 1) ↔ Free v (tree b i)
+unfolding member
+area-bit b n m formed one long i v term small =
+    let has : holds n v ≡ true = holds-small n v (small .0) (small .1) in
+    let same = rw has at (area-member b n m one i v (term .0) (term .1) long has) in
+    Iff·trans (Iff·symm (eq-exactly _ 1)) (rw same (free-at-exactly b formed i v))
+
+pub sets-left : (b : Bundle) (m : ℕ) → TablesFormed b → setWords * length (b .terms) ≤ m → FreeSetsLeft b m (freeArea b setWords m)
+unfolding freeArea
+sets-left b m formed long = record {
+  long = tab-length _ m;
+  words = area-word b setWords m (omega arith);
+  exact = area-bit b setWords m formed (omega arith) long;
+  rest = area-rest b setWords m (omega arith);
+}
 
 -- ---- zeros
 

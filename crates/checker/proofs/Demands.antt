@@ -4,18 +4,23 @@
 --     accepted-exactly          the same, in document 01's words
 --     accepted-sound            accepted, both sides of the claim have equal values
 --     accepted-distinct         accepted, different numbers stand for different terms
-use mathlib.Core.Path.{refl, sym, subst₂, _∙_}
+--     area-left                 accepted, the free sets stand in the area; refused, zeros
+use Prim.Native.Nat.{ℕ, zero, suc, _≤_}
+use mathlib.Core.Path.{_≡_, refl, sym, subst₂, _∙_}
 use native.Mathlib.Omega.{arith}
-use lib.ListN.{length}
+use lib.ListN.{length, replicate}
 use Rattle.bundle.specs.File.{bundleOf}
+use Rattle.bundle.proofs.Fields.{terms-length}
 use Rattle.logic.specs.Values.{EqualValues}
 use Rattle.logic.proofs.Formed.{well-formed-exactly}
 use Rattle.logic.proofs.Distinct.{terms-distinct}
 use Rattle.logic.proofs.Sound.{claim-sound}
+use Rattle.checker.specs.Judge.{areaFor, areaAfter}
 use Rattle.checker.specs.Order.{allChecks}
-use Rattle.checker.specs.Demands.{LastIsClaim, RefusedExactly, AcceptedUnlessFails, AcceptedExactly, AcceptedSound, AcceptedDistinct}
+use Rattle.checker.specs.Demands.{LastIsClaim, RefusedExactly, AcceptedUnlessFails, AcceptedExactly, AcceptedSound, AcceptedDistinct, AreaLeft}
 use Rattle.checker.proofs.Order.{first-fails, fails-first, none-fails, all-hold, failing-number, checks-find}
 use Rattle.checker.proofs.Acceptance.{nothing-exactly, accepted-where, refused-where}
+use Rattle.checker.proofs.Areas.{sets-left}
 
 pub refused-exactly : RefusedExactly
 refused-exactly f m n i = (
@@ -44,3 +49,16 @@ accepted-sound f m l r e =
 
 pub accepted-distinct : AcceptedDistinct
 accepted-distinct f m l r e = terms-distinct (bundleOf f) (well-formed-exactly (bundleOf f) .1 (accepted-exactly f m l r .0 e .0 .formed) .0)
+
+pub area-left : AreaLeft
+unfolding areaAfter
+area-left f m = record {
+  accepted = λ l r e.
+      let good = accepted-exactly f m l r .0 e .0 in
+      rw (accepted-where f m l r .0 e .0) (sets-left (bundleOf f) m (good .formed .tables) (rw terms-length (good .area)));
+  refused = λ n i e. let h = refused-where f m n i .0 e in rw (h .1) (zeros n (h .0));
+}
+  where
+    zeros : (n : ℕ) → 1 ≤ n → areaFor (bundleOf f) n m ≡ replicate m 0
+    zeros zero some = absurd (omega arith)
+    zeros (suc n) some = refl

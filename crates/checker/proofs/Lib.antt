@@ -2,16 +2,16 @@
 --     Order         the nested first faults are the first failing check of the one ordered list
 --     Header        the tests of the header and of the area hold exactly where the header is good and the area long enough
 --     Acceptance    nothing is wrong exactly with an acceptable file
---     Demands       THE DEMANDS
 --     Areas         the lent area: its length, the free sets in it, zeros
+--     Demands       THE DEMANDS
 --     Answers       the answer and the area, from what the code finds
 --     Sizes         how large the number and the record of an answer can be
 --     Examples      THE EXAMPLES of document 01: every row of the table is right
 pub mod Order
 pub mod Header
 pub mod Acceptance
-pub mod Demands
 pub mod Areas
+pub mod Demands
 pub mod Answers
 pub mod Sizes
 pub mod Examples

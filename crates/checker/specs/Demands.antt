@@ -1,20 +1,22 @@
 -- THE DEMANDS on the checker, as types. proofs/ has each under the same name.
-use Prim.Native.Nat.{ℕ, _*_, _≤_}
+use Prim.Native.Nat.{ℕ, _+_, _*_, _-_, _/_, _%_, _^_, _≤_, _<_}
 use mathlib.Core.Path.{_≡_}
 use mathlib.Core.Logic.{_↔_}
 use mathlib.Core.List.{List}
-use lib.ListN.{length}
+use lib.ListN.{length, getD, replicate}
 use Rattle.bundle.specs.Bundle.{Bundle, stepOf}
 use Rattle.bundle.specs.Limits.{setWords}
 use Rattle.bundle.specs.File.{Whole, countsOf, bundleOf}
 use Rattle.logic.specs.Lists.{All, Number}
+use Rattle.logic.specs.Terms.{tree}
+use Rattle.logic.specs.Free.{Free}
 use Rattle.logic.specs.Distinct.{Distinct}
 use Rattle.logic.specs.WellFormed.{WellFormed}
 use Rattle.logic.specs.Instance.{StepHolds}
 use Rattle.logic.specs.Values.{EqualValues}
 use Rattle.checker.specs.declared.Answer.{Answer}
 use Rattle.checker.specs.declared.Answer.the-variants.{Accepted, Refused}
-use Rattle.checker.specs.Judge.{judge}
+use Rattle.checker.specs.Judge.{judge, areaAfter}
 use Rattle.checker.specs.Order.{allChecks, Holds, FirstFailing}
 
 -- Demand 1. A file is refused with number n and record i exactly where check n fails at record i and every check before it in document 01's order
@@ -57,3 +59,24 @@ AcceptedSound = (f : List ℕ) (m l r : ℕ) → judge f m ≡ Accepted l r → 
 -- In an accepted file different numbers stand for different terms.
 abbrev pub AcceptedDistinct : Type 0
 AcceptedDistinct = (f : List ℕ) (m l r : ℕ) → judge f m ≡ Accepted l r → Distinct (bundleOf f)
+
+-- bit k of a word, counted from 0
+abbrev pub bit : ℕ → ℕ → ℕ
+bit w k = w / 2 ^ k % 2
+
+-- The checker is lent 64-bit words, at least T; when it accepts, word i has bit v - 1 set exactly where variable v is free in term i, and the rest
+-- is zero. A term has `setWords` words, and variable v bit (v - 1) % 64 of word (v - 1) / 64 of them.
+pub record FreeSetsLeft (b : Bundle) (m : ℕ) (area : List ℕ) : Type 0 where
+  pub long : length area ≡ m
+  pub words : (j : ℕ) → getD area j 0 < 2 ^ 64
+  pub exact : (i v : ℕ) → Number (length (b .terms)) i → Number (64 * setWords) v
+      → (bit (getD area (setWords * (i - 1) + (v - 1) / 64) 0) ((v - 1) % 64) ≡ 1) ↔ Free v (tree b i)
+  pub rest : (j : ℕ) → setWords * length (b .terms) ≤ j → getD area j 0 ≡ 0
+
+-- What is left in the m words: accepted, the free sets; refused, every area lent for writing is all zeros.
+pub record LeftInArea (f : List ℕ) (m : ℕ) : Type 0 where
+  pub accepted : (l r : ℕ) → judge f m ≡ Accepted l r → FreeSetsLeft (bundleOf f) m (areaAfter f m)
+  pub refused : (n i : ℕ) → judge f m ≡ Refused n i → areaAfter f m ≡ replicate m 0
+
+abbrev pub AreaLeft : Type 0
+AreaLeft = (f : List ℕ) (m : ℕ) → LeftInArea f m

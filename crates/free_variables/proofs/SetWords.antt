@@ -2,6 +2,8 @@
 --     bits-lt, bits-at    the number whose bits are a set's: below 2 ^ n, and its bit k says whether v + k is in the set
 --     area-is             words that hold all free sets, with zeros after them, are `freeArea`
 --     area-member         a member of a term's set in `freeArea` is a free variable
+--     area-word           a word of `freeArea` is below 2 ^ 64
+--     area-rest           a word after the sets is zero
 use mathlib.Core.Path.{_≡_, refl, sym, ap, _∙_}
 use mathlib.Core.Logic.{inl}
 use mathlib.Core.Bool.{Bool, true, false, cond}
@@ -9,13 +11,14 @@ use mathlib.Core.List.{List}
 use Prim.Native.Nat.{ℕ, zero, suc, _+_, _*_, _-_, _/_, _%_, _^_, _≤_, _<_}
 use native.Mathlib.Nat.{mod-lt, mod-eq-of-lt, div-eq-of-lt, div-one, div-add-mod, div-lt-iff-lt-mul, mul-add-div, mul-add-mod-self-left, mul-comm, pow-succ'}
 use native.Mathlib.Omega.{arith}
+use native.Mathlib.Decide.{decLt}
 use lib.ListN.{length, getD}
 use lib.Seq.{ext-getD}
 use lib.Dec.{ltb}
-use borrow.Author.Tests.{ltb-true, ltb-false, lt-ltb}
+use borrow.Author.Tests.{ltb-true, ltb-false, lt-ltb, le-ltb}
 use Rattle.bundle.specs.Bundle.{Bundle}
 use Rattle.bundle.specs.File.{tab}
-use Rattle.bundle.proofs.Tab.{tab-length, tab-at}
+use Rattle.bundle.proofs.Tab.{tab-length, tab-at, tab-none}
 use Rattle.bundle.proofs.Fields.{record-within}
 use Rattle.sets.specs.Sets.{bitAt, holds, member, cleared}
 use Rattle.sets.proofs.Digits.{bit-half, bits-same}
@@ -122,3 +125,22 @@ module _ (b : Bundle) (n m : ℕ) (one : 1 ≤ n) where
       ∙ ap (λ (y : ℕ). bitAt y j) (tab-at wordOf m (n * (t - 1) + k) 0 (omega arith) ∙ word-of t k first (h .1) place)
       ∙ bits-at (freeAt b t) 64 (64 * k + 1) j (mod-lt (x - 1) (omega arith))
       ∙ ap (freeAt b t) x-is
+
+  -- word j of the area is `wordOf j`, or 0 past the end
+  area-at : (P : ℕ → Type 0) (j : ℕ) → P (wordOf j) → P 0 → P (getD (freeArea b n m) j 0)
+  unfolding freeArea
+  area-at P j here past = go (decLt j m)
+    where
+      go : Dec (j < m) → P (getD (tab wordOf m) j 0)
+      go (yes h) = rw (tab-at wordOf m j 0 h) here
+      go (no h) = rw (tab-none 0 wordOf m (suc j) (omega arith)) past
+
+  pub area-word : (j : ℕ) → getD (freeArea b n m) j 0 < 2 ^ 64
+  area-word j = area-at (λ x. x < 2 ^ 64) j (go (ltb j (n * length (b .terms)))) (omega arith)
+    where
+      go : (p : Bool) → cond p (setWord (freeAt b (suc (j / n))) (j % n)) 0 < 2 ^ 64
+      go true = bits-lt (freeAt b (suc (j / n))) 64 (64 * (j % n) + 1)
+      go false = omega arith
+
+  pub area-rest : (j : ℕ) → n * length (b .terms) ≤ j → getD (freeArea b n m) j 0 ≡ 0
+  area-rest j past = area-at (λ x. x ≡ 0) j (rw (le-ltb j (n * length (b .terms)) past)) refl
