@@ -17,7 +17,7 @@ extern "C" {
  * Returns 0 where it is accepted: then both sides of its claim (header words 7 and 8) have equal value in every finite world. Else
  * number * 2^32 + record of the first check of document 01 that fails (record 0 for 1 to 4 and 15).
  *
- * `free` is lent for writing: `free_length` words of 64 bits, at least one for each of the file's terms (else 4); 1,024 are always enough.
+ * `free` is lent for writing: `free_length` words of 64 bits, at least one for each of the file's terms (else check 4 fails); 1,024 are always enough.
  * It may hold anything before. Accepted: bit v-1 of word i-1 is set exactly where variable v is free in term i; the rest is zero.
  * Refused: all zero.
  *
@@ -28,12 +28,12 @@ uint64_t nezkaldo_check(const uint8_t *file, size_t file_length, uint64_t *free,
 
 /* Expands the lets of the rule of the job at `job`: a bundle with no contexts, no steps and right 0, whose left is the rule.
  *
- * Returns the length of the file that now stands at the start of `out`, at most 58,148: nezkaldo_check accepts it, its left is the rule, its
- * right holds no let. Else number * 2^32 + record of the first check of document 01 that fails (record 0 for 1 to 4 and
+ * Returns the length of the file that now stands at the start of `out`, at most 58,148: nezkaldo_check, lent a word for each of its terms, accepts
+ * it, its left is the rule, its right holds no let. Else number * 2^32 + record of the first check of document 01 that fails (record 0 for 1 to 4 and
  * 15 to 18), which is at least 2^32.
  *
  * Lent for writing, with anything in them before: `out`, at least 58,148 bytes; `words`, at least 14,537 words of 32 bits; `sets`, at least 1,024
- * words of 64 bits (else 4). `words` and `sets` come back zero. Written: `out` is the file, then zeros. Refused: `out` is zero.
+ * words of 64 bits (else check 4 fails). `words` and `sets` come back zero. Written: `out` is the file, then zeros. Refused: `out` is zero.
  *
  * The visit of a term calls itself as deep as the rule nests: give the thread 4 MB of stack (1,023 nested terms were measured at 1.3 to 1.4 MB).
  *

@@ -1,0 +1,159 @@
+-- What the numbers say that the exported calls answer, each under the name of its type in specs/Exported.antt.
+--     same-parts, tells-exactly     n · 2^32 + i, with i below 2^32, is so of one n and one i
+--     tells-one                     each number from 2^32 on tells of exactly one number and record
+--     check-number                  what `nezkaldo_check` answers
+--     file-short                    a file that is written has at most 58,148 bytes
+--     expand-number                 what `nezkaldo_expand` answers
+--     exported-zeros                what it leaves in the areas besides the file: zeros
+--     exported-demand-three         demand 3 over these numbers
+use Prim.Native.Nat.{ℕ, _+_, _*_, _/_, _%_, _≤_, _<_}
+use mathlib.Core.Path.{_≡_, refl, sym, ap, _∙_}
+use mathlib.Core.Logic.{_↔_}
+use mathlib.Core.List.{List}
+use native.Mathlib.Omega.{arith}
+use native.Mathlib.Nat.{mod-lt, div-add-mod}
+use lib.ListN.{length, take}
+use Rattle.bundle.specs.Limits.{limits, headerWords, bytesOf}
+use Rattle.bundle.specs.File.{bundleOf}
+use Rattle.checker.specs.declared.Answer.{Answer}
+use Rattle.checker.specs.declared.Answer.the-variants.{Accepted, Refused}
+use Rattle.checker.specs.Judge.{judge}
+use Rattle.checker.proofs.Sizes.{refused-small}
+use Rattle.checker.proofs.Acceptance.{refused-where}
+use Rattle.checker.proofs.Demands.{refused-exactly, accepted-exactly, accepted-sound}
+use Rattle.writer.specs.declared.Answer.{Answer as Reply}
+use Rattle.writer.specs.declared.Answer.the-variants.{Written, Refused as Denied}
+use Rattle.writer.specs.Visit.{expanded}
+use Rattle.writer.specs.File.{fileOf}
+use Rattle.writer.specs.Expansion.{expansion}
+use Rattle.writer.specs.Demands.{LongEnough, ZerosLeft, WrittenWell}
+use Rattle.writer.proofs.JobSizes.{refused-job-small}
+use Rattle.writer.proofs.JobChecks.{job-exactly, job-answer, job-room, refused-job-where}
+use Rattle.writer.proofs.Demands.{refused-job-exactly, written-exactly, areas-left, expansion-right}
+use Rattle.nezkaldo.specs.Packed.{packed, packedReply}
+use Rattle.nezkaldo.specs.Exported.{Tells, TellsOne, CheckSays, CheckNumber, ExpandSays, ExpandNumber, ExportedZeros, ExportedEqual, ExportedAccepted, ExportedDemandThree}
+
+-- ---- number · 2^32 + record
+
+same-parts : (n i k j : ℕ) → i < 4294967296 → j < 4294967296 → 4294967296 * n + i ≡ 4294967296 * k + j → (n ≡ k) × (i ≡ j)
+same-parts n i k j small small′ e = let same : n ≡ k = omega arith in (same, omega arith)
+
+tells-exactly : (k j n i : ℕ) → 1 ≤ k → j < 4294967296 → Tells (4294967296 * k + j) n i ↔ ((n ≡ k) × (i ≡ j))
+tells-exactly k j n i some small = (λ t. same-parts n i k j (t .«record») small (sym (t .sum)), λ h. omega arith)
+
+pub tells-one : TellsOne
+tells-one p l =
+    let n : ℕ = p / 4294967296 in
+    let i : ℕ = p % 4294967296 in
+    let small : i < 4294967296 = mod-lt p (omega arith) in
+    let sum : 4294967296 * n + i ≡ p = div-add-mod p 4294967296 in
+    (n, i, omega arith, λ n′ i′ t. same-parts n′ i′ n i (t .«record») small (sym (t .sum) ∙ sym sum))
+
+-- ---- check
+
+pub check-number : CheckNumber
+unfolding packed
+check-number f m = go (judge f m) refl
+  where
+    go : (a : Answer) → judge f m ≡ a → CheckSays f m (packed a)
+    go (Accepted l r) e = record {
+      accepted = (λ z. accepted-exactly f m l r .0 e .0, λ h. refl);
+      other = λ ne. absurd (ne refl);
+      refused = λ n i. (
+        λ t. absurd (omega (arith, t .number, t .sum)),
+        λ h.
+            let q : judge f m ≡ Refused n i = refused-exactly f m n i .1 h in
+            let z : _≡_ {A = ℕ} 0 1 = cc in
+            omega arith,
+      );
+    }
+    go (Refused k j) e =
+        let some : 1 ≤ k = refused-where f m k j .0 e .0 in
+        let small = refused-small f m k j e in
+        record {
+          accepted = (λ z. absurd (omega arith), λ h. let q : judge f m ≡ Accepted _ _ = accepted-exactly f m _ _ .1 (h, refl, refl) in cc);
+          other = λ ne. omega arith;
+          refused = λ n i. (
+            λ t. let same = tells-exactly k j n i some (omega arith) .0 t in refused-exactly f m n i .0 (cc),
+            λ h. let q = refused-exactly f m n i .1 h in tells-exactly k j n i some (omega arith) .1 (cc, cc),
+          );
+        }
+
+-- ---- expand
+
+-- It is as long as in the shortest output that is long enough.
+file-short : (f : List ℕ) (out words sets n : ℕ) → expansion f out words sets .answer ≡ Written n → n ≤ 58148
+unfolding headerWords
+file-short f out words sets n e =
+    let (formed, closed, fits, long) = written-exactly f out words sets .0 (n, e) in
+    let shortest : LongEnough (bytesOf limits) words sets = record { output = omega arith; scratch = long .scratch; stack = long .stack } in
+    let room = job-room f (bytesOf limits) words sets (job-exactly f (bytesOf limits) words sets .1 (formed, closed, fits, shortest)) in
+    let told = job-answer f out words sets (job-exactly f out words sets .1 (formed, closed, fits, long)) in
+    let same : n ≡ length (fileOf (expanded (bundleOf f))) = cc in
+    omega arith
+
+pub expand-number : ExpandNumber
+unfolding packedReply
+expand-number f out words sets = go (expansion f out words sets .answer) refl
+  where
+    go : (a : Reply) → expansion f out words sets .answer ≡ a → ExpandSays f out words sets (packedReply a)
+    go (Written p) e =
+        let short : p ≤ 58148 = file-short f out words sets p e in
+        record {
+          written = (λ l. written-exactly f out words sets .0 (p, e), λ h. omega arith);
+          long = λ l. (e, short);
+          refused = λ n i. (
+            λ t. absurd (omega (arith, t .number, t .sum)),
+            λ h.
+                let q : expansion f out words sets .answer ≡ Denied n i = refused-job-exactly f out words sets n i .1 h in
+                let z : _≡_ {A = ℕ} 0 1 = cc in
+                omega arith,
+          );
+        }
+    go (Denied k j) e =
+        let some : 1 ≤ k = refused-job-where f out words sets k j .0 e .0 in
+        let small = refused-job-small f out words sets k j e in
+        record {
+          written = (
+            λ l. absurd (omega arith),
+            λ h.
+                let (n, q) = written-exactly f out words sets .1 h in
+                let z : _≡_ {A = ℕ} 0 1 = cc in
+                omega arith,
+          );
+          long = λ l. absurd (omega arith);
+          refused = λ n i. (
+            λ t. let same = tells-exactly k j n i some (omega arith) .0 t in refused-job-exactly f out words sets n i .0 (cc),
+            λ h. let q = refused-job-exactly f out words sets n i .1 h in tells-exactly k j n i some (omega arith) .1 (cc, cc),
+          );
+        }
+
+pub exported-zeros : ExportedZeros
+exported-zeros job out words sets out′ words′ sets′ r left =
+    let zeros : ZerosLeft _ _ _ _ = areas-left job (length out) (length words) (length sets) in
+    let says : ExpandSays job (length out) (length words) (length sets) r = rw (left .answer) (expand-number job _ _ _) in (
+      left .scratch ∙ zeros .scratch,
+      left .stack ∙ zeros .stack,
+      λ l.
+          let (n, i, tells, one) = tells-one r l in
+          left .output ∙ zeros .refused n i (refused-job-exactly job _ _ _ n i .1 (says .refused n i .0 tells)),
+      λ l. rw (left .output) (zeros .written r (says .long l .0)),
+    )
+
+-- ---- demand 3
+
+exported-equal : ExportedEqual
+exported-equal file free r e zero =
+    accepted-sound file _ _ _ (accepted-exactly file (length free) _ _ .1 (check-number file _ .accepted .0 (sym e ∙ zero), refl, refl))
+
+exported-accepted : ExportedAccepted
+unfolding packed packedReply
+exported-accepted job out words sets out′ words′ sets′ r bytes formed closed fits long left =
+    let w = expansion-right job _ _ _ bytes formed closed fits long in
+    let says : ExpandSays job (length out) (length words) (length sets) r = rw (left .answer) (expand-number job _ _ _) in
+    let same : r ≡ w .0 = left .answer ∙ ap packedReply (w .1) in
+    let well : WrittenWell job (take r out′) = rw (same, left .output) (w .2) in
+    (says .written .1 (formed, closed, fits, long), λ free a room e. e ∙ ap packed (well .accepted _ room), well)
+
+pub exported-demand-three : ExportedDemandThree
+exported-demand-three = (exported-equal, exported-accepted)

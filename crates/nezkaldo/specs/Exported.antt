@@ -1,0 +1,104 @@
+-- WHAT THE NUMBERS SAY that `nezkaldo_check` and `nezkaldo_expand` answer (include/nezkaldo.h), as types. proofs/ has each under the same name.
+-- 4,294,967,296 is 2^32.
+use Prim.Native.Nat.{ℕ, _+_, _-_, _*_, _≤_, _<_}
+use mathlib.Core.Path.{_≡_}
+use mathlib.Core.Logic.{_↔_}
+use mathlib.Core.List.{List}
+use lib.ListN.{length, take, drop, replicate}
+use Rattle.bundle.specs.Limits.{setWords}
+use Rattle.bundle.specs.File.{countsOf, bundleOf}
+use Rattle.logic.specs.Terms.{tree}
+use Rattle.logic.specs.Free.{Closed}
+use Rattle.logic.specs.Values.{EqualValues}
+use Rattle.checker.specs.Judge.{judge}
+use Rattle.checker.specs.Order.{allChecks, FirstFailing}
+use Rattle.checker.specs.Demands.{Acceptable}
+use Rattle.writer.specs.declared.Answer.the-variants.{Written}
+use Rattle.writer.specs.Expansion.{Outcome, expansion}
+use Rattle.writer.specs.JobOrder.{allJobChecks}
+use Rattle.writer.specs.Demands.{Bytes, JobFormed, Fits, LongEnough, WrittenWell}
+use Rattle.nezkaldo.specs.Packed.{packed, packedReply}
+
+-- ---- number · 2^32 + record
+
+-- p is number · 2^32 + record, of the number n, not 0, and the record i
+pub record Tells (p n i : ℕ) : Type 0 where
+  pub number : 1 ≤ n
+  pub «record» : i < 4294967296
+  pub sum : p ≡ 4294967296 * n + i
+
+-- Each p from 2^32 on is so, of exactly one number and record.
+abbrev pub TellsOne : Type 0
+TellsOne =
+    (p : ℕ) → 4294967296 ≤ p
+    → (n : ℕ) × (i : ℕ) × Tells p n i × ((n′ i′ : ℕ) → Tells p n′ i′ → (n′ ≡ n) × (i′ ≡ i))
+
+-- ---- what `nezkaldo_check` answers to the file f where m words are lent
+
+-- The answer is number and record.
+pub record CheckSays (f : List ℕ) (m p : ℕ) : Type 0 where
+  -- 0 exactly where the file is acceptable;
+  pub accepted : (p ≡ 0) ↔ Acceptable f m
+  -- any other answer is at least 2^32, so that it tells of exactly one number and record,
+  pub other : (p ≡ 0 → ⊥) → 4294967296 ≤ p
+  -- which are those of the first check of document 01 that fails
+  pub refused : (n i : ℕ) → Tells p n i ↔ FirstFailing (allChecks f m) n i
+
+abbrev pub CheckNumber : Type 0
+CheckNumber = (f : List ℕ) (m : ℕ) → CheckSays f m (packed (judge f m))
+
+-- ---- what `nezkaldo_expand` answers to the job f where the lent areas have these lengths
+
+-- An accepted answer is the length.
+pub record ExpandSays (f : List ℕ) (out words sets p : ℕ) : Type 0 where
+  -- less than 2^32 exactly for well-formed closed jobs whose derivation fits, with long enough areas;
+  pub written : (p < 4294967296) ↔ (JobFormed f × Closed (tree (bundleOf f) (bundleOf f .left)) × Fits f × LongEnough out words sets)
+  -- then a file is written, and the answer is its length, at most 58,148;
+  pub long : p < 4294967296 → (expansion f out words sets .answer ≡ Written p) × (p ≤ 58148)
+  -- any other answer tells of the number and record of the first check of document 01 that fails
+  pub refused : (n i : ℕ) → Tells p n i ↔ FirstFailing (allJobChecks f out words sets) n i
+
+abbrev pub ExpandNumber : Type 0
+ExpandNumber = (f : List ℕ) (out words sets : ℕ) → ExpandSays f out words sets (packedReply (expansion f out words sets .answer))
+
+-- ---- what `nezkaldo_expand` leaves
+
+-- the four clauses of its contract (src/lib.rt): the answer, and every byte and word of the areas, are those of the outcome
+pub record Leaves (o : Outcome) (r : ℕ) (out words sets : List ℕ) : Type 0 where
+  pub answer : r ≡ packedReply (o .answer)
+  pub output : out ≡ o .out
+  pub scratch : words ≡ o .words
+  pub stack : sets ≡ o .sets
+
+-- Scratch ends zero; where the job is refused, the output is zero too; bytes after the result, which is as long as the answer says, are zero.
+abbrev pub ExportedZeros : Type 0
+ExportedZeros =
+    (job out words sets out′ words′ sets′ : List ℕ) (r : ℕ)
+    → Leaves (expansion job (length out) (length words) (length sets)) r out′ words′ sets′
+    → (words′ ≡ replicate (length words) 0)
+    × (sets′ ≡ replicate (length sets) 0)
+    × (4294967296 ≤ r → out′ ≡ replicate (length out) 0)
+    × (r < 4294967296 → (r ≤ length out) × (drop r out′ ≡ replicate (length out - r) 0))
+
+-- ---- DEMAND 3 over these numbers
+
+-- Where `nezkaldo_check` answers 0, both sides of the claim have equal value in every finite world, under every valuation. `r` is what it answers.
+abbrev pub ExportedEqual : Type 0
+ExportedEqual =
+    (file free : List ℕ) (r : ℕ) → r ≡ packed (judge file (length free)) → r ≡ 0
+    → EqualValues (bundleOf file) (bundleOf file .left) (bundleOf file .right)
+
+-- For every well-formed closed job whose derivation fits, with long enough areas, whatever stood in them (out, words, sets): if `nezkaldo_expand`
+-- answers `r` and leaves out′, words′ and sets′, then r is less than 2^32, `nezkaldo_check` answers 0 to the first r bytes of out′ with an area for
+-- their T, and they are as they are to be: left is the rule, right holds no let, both have equal value in every world.
+abbrev pub ExportedAccepted : Type 0
+ExportedAccepted =
+    (job out words sets out′ words′ sets′ : List ℕ) (r : ℕ)
+    → Bytes job → JobFormed job → Closed (tree (bundleOf job) (bundleOf job .left)) → Fits job → LongEnough (length out) (length words) (length sets)
+    → Leaves (expansion job (length out) (length words) (length sets)) r out′ words′ sets′
+    → (r < 4294967296)
+    × ((free : List ℕ) (a : ℕ) → setWords * countsOf (take r out′) .terms ≤ length free → a ≡ packed (judge (take r out′) (length free)) → a ≡ 0)
+    × WrittenWell job (take r out′)
+
+abbrev pub ExportedDemandThree : Type 0
+ExportedDemandThree = ExportedEqual × ExportedAccepted
