@@ -6,7 +6,6 @@
 --     Demands       THE DEMANDS
 --     Answers       the answer and the area, from what the code finds
 --     Sizes         how large the number and the record of an answer can be
---     Examples      THE EXAMPLES of document 01: every row of the table is right
 pub mod Order
 pub mod Header
 pub mod Acceptance
@@ -14,4 +13,3 @@ pub mod Areas
 pub mod Demands
 pub mod Answers
 pub mod Sizes
-pub mod Examples

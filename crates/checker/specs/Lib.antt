@@ -2,8 +2,6 @@
 --     Judge      the answer for every file and every length of the lent area, and what is left there
 --     Order      document 01's one order of checks, as one list
 --     Demands    THE DEMANDS, as types: proofs/ has each under the same name
---     Examples   THE EXAMPLES of document 01: one table, and the statement that every row is right
 pub mod Judge
 pub mod Order
 pub mod Demands
-pub mod Examples

@@ -1,19 +1,7 @@
--- Document 01's twelve examples as rows of one table: a file, by its bytes, what `judge` answers, and what is left in the lent area.
---     rows            the table, in document 01's order
---     ExamplesRight   THE STATEMENT: every row is right; proofs/ has it under the name `examples-right`
--- Every accepted claim here is closed and of sort truth.
+-- The files of document 01's twelve examples, as words: a line for the header, then for each section one, or two for a long one: symbols, variables,
+-- terms, links, contexts, steps. Every accepted claim here is closed and of sort truth.
 use Prim.Native.Nat.{ℕ}
-use mathlib.Core.Path.{_≡_}
 use mathlib.Core.List.{List, [], _∷_}
-use lib.ListN.{replicate}
-use Rattle.bundle.specs.Words.{encode}
-use Rattle.logic.specs.Lists.{All}
-use Rattle.checker.specs.declared.Answer.{Answer}
-use Rattle.checker.specs.declared.Answer.the-variants.{Accepted, Refused}
-use Rattle.checker.specs.Judge.{judge, areaAfter}
-
--- ---- the files, as words: a line for the header, then for each section one, or two for a long one: symbols, variables, terms, links, contexts,
--- steps
 
 -- Let x≃a in p(x,x) to p(a,a): the file that document 01 prints, where the claimed right is 4, step 3's right 4 and link 2's next 0.
 abbrev pub printed : ℕ → ℕ → ℕ → List ℕ
@@ -31,7 +19,7 @@ printed right third next =
 abbrev pub bare : List ℕ
 bare = 1 ∷ 0 ∷ 0 ∷ 0 ∷ 0 ∷ 0 ∷ 0 ∷ 0 ∷ 0 ∷ []
 
--- ∀y. let v≃f(y) in ∀z. p(v,z) to ∀y.∀y. p(f(y),y): the bundle of logic's CounterExample, which says what its records are.
+-- ∀y. let v≃f(y) in ∀z. p(v,z) to ∀y.∀y. p(f(y),y): the bundle of logic's proofs/CounterExample, which says what its records are.
 -- Step 5 is the inner BIND. All else is good.
 abbrev pub nameClash : List ℕ
 nameClash =
@@ -90,6 +78,28 @@ repeated =
     ∷ 2 ∷ 0 ∷ 2 ∷ 2 ∷ 0 ∷ 1 ∷ 1 ∷ 1 ∷ 2 ∷ 0 ∷ 2 ∷ 1 ∷ 3 ∷ 4 ∷ 3 ∷ 5 ∷ 0 ∷ 5 ∷ 4 ∷ 5
     ∷ []
 
+-- Let x≃a in p(x,x), with four terms: 1 x, 2 a, 3 p(x,x), 4 the let. Lists: sorts of p, arguments, variables, bound terms.
+abbrev pub job : List ℕ
+job =
+    1 ∷ 2 ∷ 1 ∷ 4 ∷ 6 ∷ 0 ∷ 0 ∷ 4 ∷ 0
+    ∷ 1 ∷ 0 ∷ 0 ∷ 1
+    ∷ 1
+    ∷ 1 ∷ 1 ∷ 0 ∷ 0 ∷ 2 ∷ 33 ∷ 0 ∷ 0 ∷ 2 ∷ 34 ∷ 3 ∷ 0 ∷ 5 ∷ 5 ∷ 6 ∷ 3
+    ∷ 1 ∷ 2 ∷ 1 ∷ 0 ∷ 1 ∷ 4 ∷ 1 ∷ 0 ∷ 1 ∷ 0 ∷ 2 ∷ 0
+    ∷ []
+
+-- The file that the writer makes of that job: steps CONG, REFL, REFL, CONG, LET; right is term 5, p(a,a).
+abbrev pub file : List ℕ
+file =
+    1 ∷ 2 ∷ 1 ∷ 5 ∷ 13 ∷ 1 ∷ 5 ∷ 4 ∷ 5
+    ∷ 1 ∷ 0 ∷ 0 ∷ 1
+    ∷ 1
+    ∷ 1 ∷ 1 ∷ 0 ∷ 0 ∷ 2 ∷ 33 ∷ 0 ∷ 0 ∷ 2 ∷ 34 ∷ 3 ∷ 0 ∷ 5 ∷ 5 ∷ 6 ∷ 3 ∷ 2 ∷ 34 ∷ 8 ∷ 0
+    ∷ 1 ∷ 2 ∷ 1 ∷ 0 ∷ 1 ∷ 4 ∷ 1 ∷ 0 ∷ 1 ∷ 0 ∷ 2 ∷ 0 ∷ 2 ∷ 0 ∷ 2 ∷ 9 ∷ 2 ∷ 0 ∷ 2 ∷ 11 ∷ 3 ∷ 0 ∷ 1 ∷ 13 ∷ 4 ∷ 0
+    ∷ 2 ∷ 5 ∷ 7 ∷ 0
+    ∷ 2 ∷ 0 ∷ 2 ∷ 2 ∷ 0 ∷ 1 ∷ 1 ∷ 1 ∷ 2 ∷ 0 ∷ 1 ∷ 1 ∷ 1 ∷ 2 ∷ 0 ∷ 2 ∷ 1 ∷ 3 ∷ 5 ∷ 10 ∷ 5 ∷ 0 ∷ 4 ∷ 5 ∷ 12
+    ∷ []
+
 -- ∀x.∀y. let x≃y, y≃x in p(x,y) to ∀x.∀y. p(y,x).
 -- Terms 1 x, 2 y, 3 p(x,y), 4 p(y,x), 5 let x≃y, y≃x in p(x,y), 6 ∀y. 5, 7 ∀x. 6, 8 ∀y. p(y,x), 9 ∀x. 8.
 -- Contexts 1 x fixed, 2 then x replaced by x, 3 then y fixed, 4 then y replaced by y, 5 then x and y by y and x together.
@@ -106,61 +116,3 @@ swapped image =
     ∷ 1 ∷ 4 ∷ 2 ∷ 2 ∷ 0 ∷ 1 ∷ 4 ∷ 1 ∷ 1 ∷ 0 ∷ 1 ∷ 5 ∷ 1 ∷ image ∷ 0 ∷ 1 ∷ 5 ∷ 2 ∷ 1 ∷ 0 ∷ 2 ∷ 5 ∷ 3 ∷ 4 ∷ 7 ∷ 5 ∷ 4 ∷ 5 ∷ 4 ∷ 9
     ∷ 4 ∷ 2 ∷ 6 ∷ 8 ∷ 12 ∷ 4 ∷ 0 ∷ 7 ∷ 9 ∷ 13
     ∷ []
-
--- ---- the table
-
--- a file, by its bytes, and how many words are lent with it; the answer, and those words after the call
-pub record Row : Type 0 where
-  pub file : List ℕ
-  pub lent : ℕ
-  pub answer : Answer
-  pub area : List ℕ
-
-abbrev pub accepted : List ℕ → ℕ → ℕ → ℕ → List ℕ → Row
-accepted file lent left right area = record { file = file; lent = lent; answer = Accepted left right; area = area }
-
--- every lent word is then zero
-abbrev pub refused : List ℕ → ℕ → ℕ → ℕ → Row
-refused file lent number i = record { file = file; lent = lent; answer = Refused number i; area = replicate lent 0 }
-
-abbrev pub rows : List Row
-rows =
-    -- 1. The printed file; free sets 1, 0, 1, 0, 0.
-    accepted (encode (printed 4 4 0)) 5 5 4 (1 ∷ 0 ∷ 1 ∷ 0 ∷ 0 ∷ [])
-    -- The same with two words more: the rest is zero.
-    ∷ accepted (encode (printed 4 4 0)) 7 5 4 (1 ∷ 0 ∷ 1 ∷ 0 ∷ 0 ∷ 0 ∷ 0 ∷ [])
-    -- 2. Claimed right 2: 15, record 0.
-    ∷ refused (encode (printed 2 4 0)) 5 15 0
-    -- 3. Step 3's right 3: 13, record 3.
-    ∷ refused (encode (printed 4 3 0)) 5 13 3
-    -- 4. Link 2's next 1: 5, record 2.
-    ∷ refused (encode (printed 4 4 1)) 5 5 2
-    -- 5. Empty input, and 35 bytes: 1.
-    ∷ refused [] 5 1 0
-    ∷ refused (replicate 35 0) 5 1 0
-    -- 6. 36 bytes, version 1, all else zero: 15.
-    ∷ refused (encode bare) 5 15 0
-    -- 7. The ∀y example: 14 at the inner BIND.
-    ∷ refused (encode nameClash) 11 14 5
-    -- 8. Replacing x by a, then fixing x: the image is x,
-    ∷ accepted (encode (fixed 1)) 5 5 4 (1 ∷ 0 ∷ 1 ∷ 0 ∷ 0 ∷ [])
-    -- and not a.
-    ∷ refused (encode (fixed 2)) 5 13 2
-    -- 9. TRANS with middle p(x,x) where x becomes a: 14.
-    ∷ refused (encode unsettled) 9 14 6
-    -- 10. A let over x, x: 8.
-    ∷ refused (encode repeated) 5 8 5
-    -- 11, the writer on let x≃a in p(x,x), joins with the writer.
-    -- 12. x and y fixed, then replaced by y and x together: REFL takes x to y,
-    ∷ accepted (encode (swapped 2)) 9 7 9 (1 ∷ 2 ∷ 3 ∷ 3 ∷ 3 ∷ 1 ∷ 0 ∷ 1 ∷ 0 ∷ [])
-    -- and not to x.
-    ∷ refused (encode (swapped 1)) 9 13 3
-    ∷ []
-
--- ---- the statement
-
-abbrev pub Right : Row → Type 0
-Right r = (judge (r .file) (r .lent) ≡ r .answer) × (areaAfter (r .file) (r .lent) ≡ r .area)
-
-abbrev pub ExamplesRight : Type 0
-ExamplesRight = All Right rows
