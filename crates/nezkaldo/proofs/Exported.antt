@@ -82,7 +82,7 @@ check-number f m = go (judge f m) refl
 -- ---- expand
 
 -- It is as long as in the shortest output that is long enough.
-file-short : (f : List ℕ) (out words sets n : ℕ) → expansion f out words sets .answer ≡ Written n → n ≤ 58148
+file-short : (f : List ℕ) (out words sets n : ℕ) → expansion f out words sets .answer ≡ Written n → n ≤ bytesOf limits
 unfolding headerWords
 file-short f out words sets n e =
     let (formed, closed, fits, long) = written-exactly f out words sets .0 (n, e) in
@@ -93,12 +93,12 @@ file-short f out words sets n e =
     omega arith
 
 pub expand-number : ExpandNumber
-unfolding packedReply
+unfolding packedReply headerWords
 expand-number f out words sets = go (expansion f out words sets .answer) refl
   where
     go : (a : Reply) → expansion f out words sets .answer ≡ a → ExpandSays f out words sets (packedReply a)
     go (Written p) e =
-        let short : p ≤ 58148 = file-short f out words sets p e in
+        let short : p ≤ bytesOf limits = file-short f out words sets p e in
         record {
           written = (λ l. written-exactly f out words sets .0 (p, e), λ h. omega arith);
           long = λ l. (e, short);

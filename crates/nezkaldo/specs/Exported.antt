@@ -5,7 +5,7 @@ use mathlib.Core.Path.{_≡_}
 use mathlib.Core.Logic.{_↔_}
 use mathlib.Core.List.{List}
 use lib.ListN.{length, take, drop, replicate}
-use Rattle.bundle.specs.Limits.{setWords}
+use Rattle.bundle.specs.Limits.{limits, setWords, bytesOf}
 use Rattle.bundle.specs.File.{countsOf, bundleOf}
 use Rattle.logic.specs.Terms.{tree}
 use Rattle.logic.specs.Free.{Closed}
@@ -54,7 +54,7 @@ pub record ExpandSays (f : List ℕ) (out words sets p : ℕ) : Type 0 where
   -- less than 2^32 exactly for well-formed closed jobs whose derivation fits, with long enough areas;
   pub written : (p < 4294967296) ↔ (JobFormed f × Closed (tree (bundleOf f) (bundleOf f .left)) × Fits f × LongEnough out words sets)
   -- then a file is written, and the answer is its length, at most 58,148;
-  pub long : p < 4294967296 → (expansion f out words sets .answer ≡ Written p) × (p ≤ 58148)
+  pub long : p < 4294967296 → (expansion f out words sets .answer ≡ Written p) × (p ≤ bytesOf limits)
   -- any other answer tells of the number and record of the first check of document 01 that fails
   pub refused : (n i : ℕ) → Tells p n i ↔ FirstFailing (allJobChecks f out words sets) n i
 
