@@ -17,8 +17,8 @@ extern "C" {
  * Returns 0 where it is accepted: then both sides of its claim (header words 7 and 8) have equal value in every finite world. Else
  * number * 2^32 + record of the first check of document 01 that fails (record 0 for 1 to 4 and 15).
  *
- * `free` is lent for writing: `free_length` words of 64 bits, at least one for each of the file's terms (else check 4 fails); 1,024 are always enough.
- * It may hold anything before. Accepted: bit v-1 of word i-1 is set exactly where variable v is free in term i; the rest is zero.
+ * `free` is lent for writing: `free_length` words of 64 bits, at least one for each of the file's terms (else check 4 fails); 1,024 are always
+ * enough. It may hold anything before. Accepted: bit v-1 of word i-1 is set exactly where variable v is free in term i; the rest is zero.
  * Refused: all zero.
  *
  * It takes at most 60 KB of stack, whatever the file.
