@@ -97,6 +97,11 @@ impl Refusal {
     pub fn packed(self) -> u64 {
         u64::from(self.reason.number()) << 32 | u64::from(self.record)
     }
+
+    /// The form in which the programs print it.
+    pub fn line(self) -> String {
+        format!("{self}\n")
+    }
 }
 
 /// The claim of an accepted file.
@@ -104,6 +109,20 @@ impl Refusal {
 pub struct Claim {
     pub left: u32,
     pub right: u32,
+}
+
+impl fmt::Display for Claim {
+    fn fmt(&self, out: &mut fmt::Formatter<'_>) -> fmt::Result {
+        write!(out, "accepted {} {}", self.left, self.right)
+    }
+}
+
+/// What a check answers, as the program check prints it.
+pub fn line(outcome: Result<Claim, Refusal>) -> String {
+    match outcome {
+        Ok(claim) => format!("{claim}\n"),
+        Err(refusal) => refusal.line(),
+    }
 }
 
 /// What a check answers, as the proved library packs it: 0 where accepted,

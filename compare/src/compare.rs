@@ -1,15 +1,18 @@
-//! The comparison: two checkers on the same files, for areas of several lengths
-//! filled with junk before; answers and areas have to be the same. What is
-//! accepted has to hold in finite worlds.
+//! The comparison: the proved check and the Rust checker on the same files, for
+//! areas of several lengths filled with junk before; answers and areas have to be
+//! the same. A share of the files goes to the plain reading and to the program
+//! check too. What is accepted has to hold in finite worlds.
 
-use crate::answer::{Packed, Reason};
+use crate::answer::{Packed, Reason, line};
 use crate::bundle::{Section, counts_of};
+use crate::check::check;
 use crate::eval::{claim_holds, steps_hold};
 use crate::generate::{Case, Family, case};
 use crate::naive;
+use crate::programs::{self, Program};
 use crate::rng::Rng;
-use crate::tally::{ENOUGH, Tally, keep};
-use std::path::{Path, PathBuf};
+use crate::tally::{self, ENOUGH, Tally, first_difference};
+use std::path::Path;
 use std::{fmt, io};
 
 /// A check as the proved library offers it: 0 where accepted, else
@@ -32,59 +35,49 @@ pub fn call(check: Checker, file: &[u8], length: usize, junk: u64) -> (u64, Vec<
     (answer, area)
 }
 
-/// Two checkers that do not agree on a file.
-#[derive(Clone, Debug)]
-pub struct Difference {
-    pub index: u64,
-    pub family: Family,
-    pub area: usize,
-    pub subject: u64,
-    pub reference: u64,
-    /// The first word of the area that differs, counted from 1.
-    pub word: Option<usize>,
-    /// Why an accepted claim or step is false.
-    pub falsehood: Option<String>,
-    pub written: Option<PathBuf>,
+/// What is compared.
+#[allow(missing_debug_implementations)]
+#[derive(Clone, Copy)]
+pub struct Checkers<'a> {
+    /// The proved check, or what stands in for it.
+    pub subject: Checker<'a>,
+    /// The Rust checker.
+    pub reference: Checker<'a>,
+    /// The plain reading.
+    pub plain: Option<Checker<'a>>,
+    /// The program check. It prints the claim that the proved check's answer lacks.
+    pub program: Option<Program<'a>>,
 }
 
-impl fmt::Display for Difference {
-    fn fmt(&self, out: &mut fmt::Formatter<'_>) -> fmt::Result {
-        write!(
-            out,
-            "file {} ({:?}), area of {} words: {} against {} from the Rust checker",
-            self.index,
-            self.family,
-            self.area,
-            Packed(self.subject),
-            Packed(self.reference)
-        )?;
-        if let Some(word) = self.word {
-            write!(out, "; the areas differ at word {word}")?;
-        }
-        if let Some(text) = &self.falsehood {
-            write!(out, "; accepted, but {text}")?;
-        }
-        if let Some(path) = &self.written {
-            write!(out, "; written to {}", path.display())?;
-        }
-        Ok(())
+impl<'a> Checkers<'a> {
+    /// The subject against the reference alone.
+    pub fn two(subject: Checker<'a>, reference: Checker<'a>) -> Self {
+        Checkers { subject, reference, plain: None, program: None }
     }
 }
 
+pub type Difference = tally::Difference<Family>;
+
 /// What a comparison saw.
-#[derive(Clone, Debug, Default)]
+#[derive(Clone, Debug)]
 pub struct Report {
     pub files: u64,
     pub bytes: u64,
     pub calls: u64,
     pub tally: Tally<Family>,
-    /// Accepted claims that were tried in worlds, and those of them that were
-    /// tried in every world of one and two items.
+    /// Accepted claims that were tried in worlds.
     pub claims: u64,
+    /// Those of them whose sides are different terms.
+    pub claims_apart: u64,
+    /// Those of the latter that were tried in every world of one and two items, as
+    /// far as their symbols go, for every value of their free variables.
     pub claims_everywhere: u64,
     pub differences: Vec<Difference>,
 }
 
+/// The plain reading gets one file in so many, the program one in so many.
+const PLAIN: u64 = 2;
+const PROGRAM: u64 = 100;
 /// Larger files are not tried in worlds.
 pub const SMALL: usize = 8 * 1024;
 /// Up to so many worlds of a size, all are tried.
@@ -95,53 +88,79 @@ pub fn numbers() -> impl Iterator<Item = Reason> {
     Reason::ALL.into_iter().take_while(|&reason| reason <= Reason::Claim)
 }
 
+impl Default for Report {
+    fn default() -> Self {
+        Report {
+            files: 0,
+            bytes: 0,
+            calls: 0,
+            tally: Tally::new(PLAIN, PROGRAM),
+            claims: 0,
+            claims_apart: 0,
+            claims_everywhere: 0,
+            differences: Vec::new(),
+        }
+    }
+}
+
 impl Report {
     /// Compares on one file and counts it.
-    pub fn add(&mut self, subject: Checker, reference: Checker, index: u64, case: &Case) {
+    pub fn add(&mut self, checkers: Checkers, index: u64, case: &Case) {
         self.files += 1;
         self.bytes += case.bytes.len() as u64;
         self.tally.add_family(case.family);
-        for (place, length) in areas(&case.bytes).into_iter().enumerate() {
-            let (expected, expected_area) = call(reference, &case.bytes, length, index);
-            let (found, area) = call(subject, &case.bytes, length, index);
-            self.calls += 1;
-            self.tally.add_call(expected, place == 0);
-            let same = (found, &area) == (expected, &expected_area);
-            let falsehood = match expected {
-                0 if place == 0 && case.bytes.len() <= SMALL => self.try_in_worlds(index, case),
-                _ => None,
-            };
-            if !same || falsehood.is_some() {
-                let word = area.iter().zip(&expected_area).position(|(a, b)| a != b);
-                self.differences.push(Difference {
-                    index,
-                    family: case.family,
-                    area: length,
-                    subject: found,
-                    reference: expected,
-                    word: word.map(|place| place + 1),
-                    falsehood,
-                    written: None,
-                });
-                break;
-            }
+        if let Some(text) = self.problem(checkers, index, case) {
+            self.differences.push(Difference { index, family: case.family, text, written: None });
         }
     }
 
+    /// What is wrong on a file, if something is.
+    fn problem(&mut self, checkers: Checkers, index: u64, case: &Case) -> Option<String> {
+        let (file, family) = (&case.bytes, case.family);
+        let mut answer = 0;
+        let mut plain = None;
+        for (place, length) in areas(file).into_iter().enumerate() {
+            let expected = call(checkers.reference, file, length, index);
+            let found = call(checkers.subject, file, length, index);
+            self.calls += 1;
+            self.tally.add_call(expected.0, place == 0);
+            if place == 0 {
+                answer = expected.0;
+                plain = checkers.plain.filter(|_| self.tally.plain.takes(family, answer));
+            }
+            let text = difference(&found, &expected, "the Rust checker").or_else(|| {
+                difference(&found, &call(plain?, file, length, index), "the plain reading")
+            });
+            if let Some(text) = text {
+                return Some(format!("area of {length} words: {text}"));
+            }
+        }
+        if answer == 0
+            && file.len() <= SMALL
+            && let Some(text) = self.try_in_worlds(index, file)
+        {
+            return Some(format!("accepted, but {text}"));
+        }
+        let program = checkers.program.filter(|_| self.tally.program.takes(family, answer))?;
+        let mut free = [0; Section::Terms.limit() as usize];
+        programs::difference(program, file, line(check(file, &mut free)).as_bytes(), b"")
+    }
+
     /// Why the claim or a step of an accepted file is false, if it was found to be.
-    fn try_in_worlds(&mut self, index: u64, case: &Case) -> Option<String> {
-        let plain = match naive::load(&case.bytes, usize::MAX) {
+    fn try_in_worlds(&mut self, index: u64, file: &[u8]) -> Option<String> {
+        let plain = match naive::load(file, usize::MAX) {
             Ok(plain) => plain,
             Err(refusal) => return Some(format!("the plain reading says {refusal}")),
         };
         let mut rng = Rng::new(index);
-        self.claims += 1;
-        match claim_holds(&plain, WORLDS, &mut rng) {
-            Ok(tested) => {
-                self.claims_everywhere += u64::from(tested.all_small && tested.given_up == 0)
-            }
+        let tested = match claim_holds(&plain, WORLDS, &mut rng) {
+            Ok(tested) => tested,
             Err(text) => return Some(text),
-        }
+        };
+        let apart = plain.left != plain.right;
+        self.claims += 1;
+        self.claims_apart += u64::from(apart);
+        self.claims_everywhere += u64::from(apart && tested.all_small && tested.given_up == 0);
         steps_hold(&plain, 1, &mut rng).err()
     }
 
@@ -155,11 +174,20 @@ impl Report {
     }
 }
 
-/// Compares on files 0 to `files` - 1 of the run. A file that tells the two apart
+/// How two calls differ, if they do.
+fn difference(found: &(u64, Vec<u64>), expected: &(u64, Vec<u64>), from: &str) -> Option<String> {
+    let (answer, expected_answer) = (Packed(found.0), Packed(expected.0));
+    if found.0 != expected.0 {
+        return Some(format!("{answer} against {expected_answer} from {from}"));
+    }
+    let place = first_difference(&found.1, &expected.1)?;
+    Some(format!("{answer}, but word {} of the area is not as from {from}", place + 1))
+}
+
+/// Compares on files 0 to `files` - 1 of the run. A file on which something differs
 /// is written into `failures`, if given.
 pub fn run(
-    subject: Checker,
-    reference: Checker,
+    checkers: Checkers,
     seed: u64,
     files: u64,
     failures: Option<&Path>,
@@ -168,10 +196,9 @@ pub fn run(
     for index in 0..files {
         let case = case(seed, index);
         let before = report.differences.len();
-        report.add(subject, reference, index, &case);
+        report.add(checkers, index, &case);
         if let (Some(difference), Some(folder)) = (report.differences.get_mut(before), failures) {
-            let name = format!("seed-{seed}-file-{index}.bin");
-            difference.written = Some(keep(folder, name, &case.bytes)?);
+            difference.keep(folder, format!("seed-{seed}-file-{index}.bin"), &case.bytes)?;
         }
         if report.differences.len() >= ENOUGH {
             break;
@@ -186,11 +213,12 @@ impl fmt::Display for Report {
         self.tally.write(out, "files", "accepted", numbers())?;
         writeln!(
             out,
-            "{} accepted claims tried in worlds, {} of them in every world of 1 and 2 items",
-            self.claims, self.claims_everywhere
+            "{} accepted claims tried in worlds, {} of them with different sides; {} of these in \
+             every world of 1 and 2 items, for all values of their free variables",
+            self.claims, self.claims_apart, self.claims_everywhere
         )?;
         for difference in &self.differences {
-            writeln!(out, "DIFFERENCE: {difference}")?;
+            writeln!(out, "DIFFERENCE: file {difference}")?;
         }
         Ok(())
     }

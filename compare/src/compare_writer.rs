@@ -1,16 +1,18 @@
-//! The comparison of two writers on the same jobs: same answer, same bytes and
-//! words of every lent area. What is written has to be accepted.
+//! The comparison of the proved writer with the Rust writer on the same jobs: same
+//! answer, same bytes and words of every lent area. A share of the jobs goes to the
+//! plain reading and to the program expand too. What is written has to be accepted.
 
 use crate::answer::{Packed, Reason, Refusal};
 use crate::bundle::{LEFT, MAX_BYTES, MAX_WORDS, RIGHT, Section, counts_of, to_words};
 use crate::compare::{Checker, SMALL, WORLDS};
 use crate::eval::claim_holds;
-use crate::expand::SETS;
+use crate::expand::{SETS, written};
 use crate::generate::jobs::{Job, JobFamily, job};
 use crate::naive::{Plain, Tree, load};
+use crate::programs::{self, Program};
 use crate::rng::Rng;
-use crate::tally::{ENOUGH, Tally, keep};
-use std::path::{Path, PathBuf};
+use crate::tally::{self, ENOUGH, Tally, first_difference};
+use std::path::Path;
 use std::{fmt, io};
 
 /// A writer as the proved library offers it: the length where written, else
@@ -58,32 +60,47 @@ pub fn call(write: Writer, job: &[u8], [out, words, sets]: [usize; 3], junk: u64
     (answer, areas)
 }
 
-/// Two writers that do not agree, or a file that should not have been written.
+/// What is compared.
+#[allow(missing_debug_implementations)]
+#[derive(Clone, Copy)]
+pub struct Writers<'a> {
+    /// The proved writer, or what stands in for it.
+    pub subject: Writer<'a>,
+    /// The Rust writer.
+    pub reference: Writer<'a>,
+    /// The plain reading.
+    pub plain: Option<Writer<'a>>,
+    /// The program expand.
+    pub program: Option<Program<'a>>,
+    /// Each has to accept what is written.
+    pub checkers: &'a [Checker<'a>],
+}
+
+pub type Difference = tally::Difference<JobFamily>;
+
 #[derive(Clone, Debug)]
-pub struct Difference {
-    pub index: u64,
-    pub family: JobFamily,
-    pub text: String,
-    pub written: Option<PathBuf>,
-}
-
-impl fmt::Display for Difference {
-    fn fmt(&self, out: &mut fmt::Formatter<'_>) -> fmt::Result {
-        write!(out, "job {} ({:?}): {}", self.index, self.family, self.text)?;
-        match &self.written {
-            Some(path) => write!(out, "; written to {}", path.display()),
-            None => Ok(()),
-        }
-    }
-}
-
-#[derive(Clone, Debug, Default)]
 pub struct Report {
     pub jobs: u64,
     pub calls: u64,
     pub written_bytes: u64,
     pub tally: Tally<JobFamily>,
     pub differences: Vec<Difference>,
+}
+
+/// The plain reading gets one job in so many, the program one in so many.
+const PLAIN: u64 = 2;
+const PROGRAM: u64 = 50;
+
+impl Default for Report {
+    fn default() -> Self {
+        Report {
+            jobs: 0,
+            calls: 0,
+            written_bytes: 0,
+            tally: Tally::new(PLAIN, PROGRAM),
+            differences: Vec::new(),
+        }
+    }
 }
 
 /// The numbers a writer can answer.
@@ -93,39 +110,46 @@ pub fn numbers() -> impl Iterator<Item = Reason> {
 }
 
 impl Report {
-    /// Compares on one job and counts it. A written file has to be accepted by each
-    /// of the checkers.
-    pub fn add(
-        &mut self,
-        subject: Writer,
-        reference: Writer,
-        checkers: &[Checker],
-        index: u64,
-        job: &Job,
-    ) {
+    /// Compares on one job and counts it.
+    pub fn add(&mut self, writers: Writers, index: u64, job: &Job) {
         self.jobs += 1;
         self.tally.add_family(job.family);
+        if let Some(text) = self.problem(writers, index, job) {
+            self.differences.push(Difference { index, family: job.family, text, written: None });
+        }
+    }
+
+    /// What is wrong on a job, if something is.
+    fn problem(&mut self, writers: Writers, index: u64, job: &Job) -> Option<String> {
+        let (job, family) = (&job.bytes, job.family);
+        let mut answer = 0;
+        let mut plain = None;
         for (place, lengths) in lengths(index).into_iter().enumerate() {
-            let (expected, expected_areas) = call(reference, &job.bytes, lengths, index);
-            let (found, areas) = call(subject, &job.bytes, lengths, index);
+            let expected = call(writers.reference, job, lengths, index);
+            let found = call(writers.subject, job, lengths, index);
             self.calls += 1;
-            self.tally.add_call(expected, place == 0);
-            let mut problem = difference(found, &areas, expected, &expected_areas);
-            if expected >> 32 == 0 && place == 0 {
-                self.written_bytes += expected;
-                let file = &areas.out[..(found as usize).min(areas.out.len())];
-                problem = problem.or_else(|| misfit(checkers, &job.bytes, file));
+            self.tally.add_call(expected.0, place == 0);
+            if place == 0 {
+                answer = expected.0;
+                plain = writers.plain.filter(|_| self.tally.plain.takes(family, answer));
+            }
+            let mut problem = difference(&found, &expected, "the Rust writer").or_else(|| {
+                difference(&found, &call(plain?, job, lengths, index), "the plain reading")
+            });
+            if answer >> 32 == 0 && place == 0 {
+                self.written_bytes += answer;
+                let out = &found.1.out;
+                let file = &out[..(found.0 as usize).min(out.len())];
+                problem = problem.or_else(|| misfit(writers.checkers, job, file));
             }
             if let Some(text) = problem {
-                let text = format!("areas of {lengths:?}: {text}");
-                self.differences.push(Difference {
-                    index,
-                    family: job.family,
-                    text,
-                    written: None,
-                });
-                break;
+                return Some(format!("areas of {lengths:?}: {text}"));
             }
+        }
+        let program = writers.program.filter(|_| self.tally.program.takes(family, answer))?;
+        match written(job) {
+            Ok(file) => programs::difference(program, job, &file, b""),
+            Err(refusal) => programs::difference(program, job, b"", refusal.line().as_bytes()),
         }
     }
 
@@ -138,24 +162,19 @@ impl Report {
     }
 }
 
-fn difference(found: u64, areas: &Areas, expected: u64, expected_areas: &Areas) -> Option<String> {
-    if found != expected {
-        return Some(format!(
-            "{} against {} from the Rust writer",
-            Packed(found),
-            Packed(expected)
-        ));
+/// How two calls differ, if they do.
+fn difference(found: &(u64, Areas), expected: &(u64, Areas), from: &str) -> Option<String> {
+    let (answer, expected_answer) = (Packed(found.0), Packed(expected.0));
+    if found.0 != expected.0 {
+        return Some(format!("{answer} against {expected_answer} from {from}"));
     }
+    let (areas, expected) = (&found.1, &expected.1);
     let at = |name: &str, place: Option<usize>| {
-        place.map(|place| format!("{name} differs at place {place} (from 0)"))
+        Some(format!("{answer}, but {name} differs at place {} (from 0) from {from}'s", place?))
     };
-    at("the output", first_difference(&areas.out, &expected_areas.out))
-        .or_else(|| at("the 32-bit scratch", first_difference(&areas.words, &expected_areas.words)))
-        .or_else(|| at("the 64-bit scratch", first_difference(&areas.sets, &expected_areas.sets)))
-}
-
-fn first_difference<T: PartialEq>(one: &[T], other: &[T]) -> Option<usize> {
-    if one == other { None } else { one.iter().zip(other).position(|(a, b)| a != b) }
+    at("the output", first_difference(&areas.out, &expected.out))
+        .or_else(|| at("the 32-bit scratch", first_difference(&areas.words, &expected.words)))
+        .or_else(|| at("the 64-bit scratch", first_difference(&areas.sets, &expected.sets)))
 }
 
 /// What is wrong with a written file: every checker has to accept it; it has to keep
@@ -207,24 +226,16 @@ pub fn holds_let(plain: &Plain, term: u32) -> bool {
     holds[term as usize]
 }
 
-/// Compares on jobs 0 to `jobs` - 1 of the run. A job that tells the two apart is
+/// Compares on jobs 0 to `jobs` - 1 of the run. A job on which something differs is
 /// written into `failures`, if given.
-pub fn run(
-    subject: Writer,
-    reference: Writer,
-    checkers: &[Checker],
-    seed: u64,
-    jobs: u64,
-    failures: Option<&Path>,
-) -> io::Result<Report> {
+pub fn run(writers: Writers, seed: u64, jobs: u64, failures: Option<&Path>) -> io::Result<Report> {
     let mut report = Report::default();
     for index in 0..jobs {
         let job = job(seed, index);
         let before = report.differences.len();
-        report.add(subject, reference, checkers, index, &job);
+        report.add(writers, index, &job);
         if let (Some(difference), Some(folder)) = (report.differences.get_mut(before), failures) {
-            let name = format!("seed-{seed}-job-{index}.bin");
-            difference.written = Some(keep(folder, name, &job.bytes)?);
+            difference.keep(folder, format!("seed-{seed}-job-{index}.bin"), &job.bytes)?;
         }
         if report.differences.len() >= ENOUGH {
             break;
@@ -242,7 +253,7 @@ impl fmt::Display for Report {
         )?;
         self.tally.write(out, "jobs", "written", numbers())?;
         for difference in &self.differences {
-            writeln!(out, "DIFFERENCE: {difference}")?;
+            writeln!(out, "DIFFERENCE: job {difference}")?;
         }
         Ok(())
     }

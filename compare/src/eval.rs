@@ -53,19 +53,23 @@ impl World {
     /// Every world with so many items, as far as the symbols `used` go; `None`
     /// where there are more than `most`.
     pub fn all(plain: &Plain, items: u32, used: &BTreeSet<u32>, most: usize) -> Option<Vec<World>> {
-        // Each table entry is a digit; its base is the result's size.
+        // Each table entry is a digit; its base is the result's size. A symbol with one
+        // meaning only, or that is not used, needs no table.
         let mut bases = Vec::new();
         let mut tables = Vec::new();
         let mut worlds = 1usize;
         for (index, (result, sorts)) in plain.symbols.iter().enumerate() {
+            let base = size(*result, items);
+            if base == 1 || !used.contains(&(BUILT_IN + 1 + index as u32)) {
+                tables.push(None);
+                continue;
+            }
             let entries = tuples(sorts, items)?;
-            let is_used = used.contains(&(BUILT_IN + 1 + index as u32));
-            let base = if is_used { size(*result, items) } else { 1 };
             for _ in 0..entries {
                 worlds = worlds.checked_mul(base as usize).filter(|&worlds| worlds <= most)?;
             }
             bases.extend(std::iter::repeat_n(base, entries));
-            tables.push(entries);
+            tables.push(Some(entries));
         }
         let mut digits = vec![0; bases.len()];
         let mut found = Vec::with_capacity(worlds);
@@ -73,10 +77,13 @@ impl World {
             let mut rest = digits.as_slice();
             let meanings = tables
                 .iter()
-                .map(|&entries| {
-                    let (table, others) = rest.split_at(entries);
-                    rest = others;
-                    Meaning::Table(table.to_vec())
+                .map(|&entries| match entries {
+                    Some(entries) => {
+                        let (table, others) = rest.split_at(entries);
+                        rest = others;
+                        Meaning::Table(table.to_vec())
+                    }
+                    None => Meaning::Seeded(0),
                 })
                 .collect();
             found.push(World { items, meanings });
@@ -229,19 +236,25 @@ pub fn symbols_in(plain: &Plain, terms: &[u32]) -> BTreeSet<u32> {
 #[derive(Clone, Copy, Debug, Default, PartialEq, Eq)]
 pub struct Tested {
     pub worlds: usize,
-    /// Every world of 1 and of 2 items was among them.
+    /// Every world of 1 and of 2 items was among them, as far as the claim's symbols
+    /// go, each with every value of the claim's free variables.
     pub all_small: bool,
     /// Evaluations that were given up.
     pub given_up: usize,
 }
 
-/// Compares the claim's sides: in every world of 1 and 2 items where there are
-/// at most `most` of each, else in random worlds of 1 to 3 items; for every value
-/// of the free variables where these are few, else for random ones.
+/// Up to so many free variables, all their values are tried.
+const FREE: usize = 6;
+
+/// Compares the claim's sides in worlds of 1 and of 2 items, all of them where there
+/// are at most `most` of a size, else 12 random ones, and in 4 random worlds of 3
+/// items. In those of 1 and 2 items for every value of the free variables where
+/// these are few, else, and with 3 items, for up to 64 random ones.
 pub fn claim_holds(plain: &Plain, most: usize, rng: &mut Rng) -> Result<Tested, String> {
     let (left, right) = (plain.left, plain.right);
     let used = symbols_in(plain, &[left, right]);
-    let mut tested = Tested { all_small: true, ..Tested::default() };
+    let free: Vec<u32> = plain.free(left).union(plain.free(right)).copied().collect();
+    let mut tested = Tested { all_small: free.len() <= FREE, ..Tested::default() };
     let mut worlds = Vec::new();
     for items in 1..=2 {
         match World::all(plain, items, &used, most) {
@@ -253,13 +266,12 @@ pub fn claim_holds(plain: &Plain, most: usize, rng: &mut Rng) -> Result<Tested, 
         }
     }
     worlds.extend((0..4).map(|_| World::random(plain, 3, rng)));
-    let free: Vec<u32> = plain.free(left).union(plain.free(right)).copied().collect();
     for world in &worlds {
         tested.worlds += 1;
         let mut evaluator = Evaluator::new(plain, world, 40_000);
-        for assignment in 0..1u32 << free.len().min(6) {
+        for assignment in 0..1u32 << free.len().min(FREE) {
             evaluator.randomise(rng);
-            if world.items <= 2 && free.len() <= 6 {
+            if world.items <= 2 && free.len() <= FREE {
                 for (place, &variable) in free.iter().enumerate() {
                     let largest = size(plain.variables[variable as usize - 1], world.items) - 1;
                     evaluator.values[variable as usize - 1] =

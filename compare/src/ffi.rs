@@ -1,41 +1,29 @@
 //! The proved library's calls behind safe functions: the only unsafe code here.
-//! `None` where the library, or the call in it, was not there when this was built.
 
 #![allow(unsafe_code)]
 
 use crate::compare::Checker;
 use crate::compare_writer::Writer;
 
-/// The proved check.
-pub fn proved_check() -> Option<Checker<'static>> {
-    #[cfg(proved_check)]
-    return Some(&check);
-    #[cfg(not(proved_check))]
+/// The proved library.
+#[allow(missing_debug_implementations)]
+#[derive(Clone, Copy)]
+pub struct Library {
+    pub check: Checker<'static>,
+    pub expand: Writer<'static>,
+}
+
+/// `None` where the library was not there when this was built.
+pub fn library() -> Option<Library> {
+    #[cfg(proved)]
+    return Some(Library { check: &check, expand: &expand });
+    #[cfg(not(proved))]
     None
 }
 
-/// The proved writer.
-pub fn proved_expand() -> Option<Writer<'static>> {
-    #[cfg(proved_expand)]
-    return Some(&expand);
-    #[cfg(not(proved_expand))]
-    None
-}
-
-#[cfg(proved_check)]
+#[cfg(proved)]
 unsafe extern "C" {
     fn nezkaldo_check(file: *const u8, file_len: usize, free: *mut u64, free_len: usize) -> u64;
-}
-
-#[cfg(proved_check)]
-fn check(file: &[u8], free: &mut [u64]) -> u64 {
-    // SAFETY: each pointer is a slice's, with that slice's length, and the two do
-    // not overlap; the call reads the first, writes the second and keeps neither.
-    unsafe { nezkaldo_check(file.as_ptr(), file.len(), free.as_mut_ptr(), free.len()) }
-}
-
-#[cfg(proved_expand)]
-unsafe extern "C" {
     fn nezkaldo_expand(
         job: *const u8,
         job_len: usize,
@@ -48,7 +36,14 @@ unsafe extern "C" {
     ) -> u64;
 }
 
-#[cfg(proved_expand)]
+#[cfg(proved)]
+fn check(file: &[u8], free: &mut [u64]) -> u64 {
+    // SAFETY: each pointer is a slice's, with that slice's length, and the two do
+    // not overlap; the call reads the first, writes the second and keeps neither.
+    unsafe { nezkaldo_check(file.as_ptr(), file.len(), free.as_mut_ptr(), free.len()) }
+}
+
+#[cfg(proved)]
 fn expand(job: &[u8], out: &mut [u8], words: &mut [u32], sets: &mut [u64]) -> u64 {
     // SAFETY: as above; the call reads the first slice and writes the others.
     unsafe {

@@ -17,6 +17,7 @@ pub mod mutants;
 pub mod naive;
 pub mod naive_expand;
 pub mod plot;
+pub mod programs;
 pub mod report;
 pub mod rng;
 pub mod smt;

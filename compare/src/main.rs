@@ -4,13 +4,14 @@ mod arguments;
 
 use arguments::Arguments;
 use nezkaldo_compare::bench::Share;
-use nezkaldo_compare::compare::Checker;
-use nezkaldo_compare::compare_writer::Writer;
+use nezkaldo_compare::compare::Checkers;
+use nezkaldo_compare::compare_writer::Writers;
+use nezkaldo_compare::ffi::Library;
 use nezkaldo_compare::mutants::Verdict;
 use nezkaldo_compare::report::Results;
 use nezkaldo_compare::{
     answer, bench, check, compare, compare_writer, expand, ffi, generate, mutants, naive,
-    naive_expand, plot, smt,
+    naive_expand, plot, programs, smt,
 };
 use std::io::{self, Read};
 use std::path::{Path, PathBuf};
@@ -20,11 +21,13 @@ use std::{env, fs};
 
 const USAGE: &str = "\
 usage: compare COMMAND [OPTIONS]
-  compare  --files N --seed S   the proved library against the Rust checker and writer
+  compare  --files N --seed S   the proved library and the programs against the Rust checker
+                                and writer, and against a second, plain reading
            [--jobs N]           jobs for the writer (default: files / 10)
            [--least N]          fail if a number was seen less often (default 1)
            [--failures DIR]     where to write files that differ (default: failures)
-           [--self]             a second, plain Rust reading instead of the library
+           [--programs DIR]     where check_bundle and expand_job are (default: ../target/bin)
+           [--self]             no library and no programs: the plain reading in their place
   mutants  --files N --seed S   how the broken copies are told apart
   bench    [--ms N]             time for each measurement (default 120)
            [--only TEXT]        only rows whose name has this text
@@ -77,83 +80,100 @@ fn plain_expand(job: &[u8], out: &mut [u8], words: &mut [u32], sets: &mut [u64])
 }
 
 fn run_compare(arguments: &Arguments) -> Result<ExitCode, String> {
-    arguments.allow(&["files", "seed", "jobs", "least", "failures", "self"], 0)?;
+    arguments.allow(&["files", "seed", "jobs", "least", "failures", "programs", "self"], 0)?;
     let files = arguments.number("files", 20_000)?;
-    let seed = arguments.number("seed", 1)?;
-    let jobs = arguments.number("jobs", files / 10)?;
-    let least = arguments.number("least", 1)?;
-    let failures = PathBuf::from(arguments.text("failures").unwrap_or("failures"));
-    let alone = arguments.flag("self");
-    let (checker, writer): (Checker, Option<Writer>) = if alone {
-        println!("no library: the Rust checker and writer against a second, plain Rust reading");
-        (&plain_check, Some(&plain_expand))
-    } else {
-        let Some(checker) = ffi::proved_check() else {
-            return Err(
-                "there is no proved library in this build. Run `rt staticlib nezkaldo` in \
-                        the repository's root, or set NEZKALDO_LIB_DIR to the folder of \
-                        libnezkaldo.a, and build again; or compare with --self."
-                    .into(),
-            );
-        };
-        println!("the proved library against the Rust checker and writer");
-        (checker, ffi::proved_expand())
-    };
-    let mut good = compare_checks(checker, seed, files, least, &failures)?;
-    match writer {
-        Some(writer) => good &= compare_jobs(writer, checker, seed, jobs, least, &failures)?,
-        None => println!("the library has no nezkaldo_expand: no jobs compared"),
+    let jobs = arguments.number("jobs", (files / 10).max(1))?;
+    if files == 0 || jobs == 0 {
+        return Err("--files and --jobs are at least 1".into());
     }
-    println!("{}", if good { "no difference" } else { "FAILED" });
+    let run = Run {
+        seed: arguments.number("seed", 1)?,
+        files,
+        jobs,
+        least: arguments.number("least", 1)?,
+        failures: PathBuf::from(arguments.text("failures").unwrap_or("failures")),
+    };
+    let alone = arguments.flag("self");
+    let good = if alone {
+        println!("no library: the Rust checker and writer against a second, plain reading");
+        let writers = Writers {
+            subject: &plain_expand,
+            reference: &exact_expand,
+            plain: None,
+            program: None,
+            checkers: &[&plain_check, &exact_check],
+        };
+        run.compare(Checkers::two(&plain_check, &exact_check), writers)?
+    } else {
+        let Some(Library { check, expand }) = ffi::library() else {
+            return Err("there is no proved library in this build. Run `rt staticlib nezkaldo` \
+                        in the repository's root, or set NEZKALDO_LIB_DIR to the folder of \
+                        libnezkaldo.a, and build again; or compare with --self."
+                .into());
+        };
+        let folder = Path::new(arguments.text("programs").unwrap_or(programs::FOLDER));
+        let check_program = programs::program(folder, programs::CHECK)?;
+        let expand_program = programs::program(folder, programs::EXPAND)?;
+        println!("the proved library and the programs against the Rust checker and writer");
+        let checkers = Checkers {
+            subject: check,
+            reference: &exact_check,
+            plain: Some(&plain_check),
+            program: Some(&check_program),
+        };
+        let writers = Writers {
+            subject: expand,
+            reference: &exact_expand,
+            plain: Some(&plain_expand),
+            program: Some(&expand_program),
+            checkers: &[check, &exact_check],
+        };
+        run.compare(checkers, writers)?
+    };
+    println!(
+        "{}",
+        match (good, alone) {
+            (true, false) => "no difference",
+            (true, true) => "no difference, without the library",
+            (false, _) => "FAILED",
+        }
+    );
     Ok(if good { ExitCode::SUCCESS } else { ExitCode::FAILURE })
 }
 
-fn compare_checks(
-    subject: Checker,
+/// What a comparison runs on, and what it has to have seen.
+struct Run {
     seed: u64,
     files: u64,
-    least: u64,
-    failures: &Path,
-) -> Result<bool, String> {
-    let begun = Instant::now();
-    let report = compare::run(subject, &exact_check, seed, files, Some(failures))
-        .map_err(|error| format!("cannot write into {}: {error}", failures.display()))?;
-    print!("{report}seed {seed}, {:.1} s\n", begun.elapsed().as_secs_f64());
-    Ok(report.agrees() & all_seen(&report.unseen(least), least))
-}
-
-/// Says which numbers were answered too seldom.
-fn all_seen(unseen: &[u32], least: u64) -> bool {
-    if !unseen.is_empty() {
-        println!("seen fewer than {least} times: {unseen:?}");
-    }
-    unseen.is_empty()
-}
-
-/// Every written file has to be accepted by `checker` and by the Rust checker.
-fn compare_jobs(
-    subject: Writer,
-    checker: Checker,
-    seed: u64,
     jobs: u64,
     least: u64,
-    failures: &Path,
-) -> Result<bool, String> {
-    if jobs == 0 {
-        return Ok(true);
+    failures: PathBuf,
+}
+
+impl Run {
+    /// Whether nothing differs on files and jobs, and every number was seen.
+    fn compare(&self, checkers: Checkers, writers: Writers) -> Result<bool, String> {
+        let failures = Some(self.failures.as_path());
+        let unwritten = |error| format!("cannot write into {}: {error}", self.failures.display());
+        let begun = Instant::now();
+        let report = compare::run(checkers, self.seed, self.files, failures).map_err(unwritten)?;
+        print!("{report}");
+        let good = self.ended(begun, &report.unseen(self.least)) & report.agrees();
+        let begun = Instant::now();
+        let report =
+            compare_writer::run(writers, self.seed, self.jobs, failures).map_err(unwritten)?;
+        print!("{report}");
+        Ok(self.ended(begun, &report.unseen(self.least)) & report.agrees() & good)
     }
-    let begun = Instant::now();
-    let report = compare_writer::run(
-        subject,
-        &exact_expand,
-        &[checker, &exact_check],
-        seed,
-        jobs,
-        Some(failures),
-    )
-    .map_err(|error| format!("cannot write into {}: {error}", failures.display()))?;
-    print!("{report}seed {seed}, {:.1} s\n", begun.elapsed().as_secs_f64());
-    Ok(report.agrees() & all_seen(&report.unseen(least), least))
+
+    /// Prints the time, and which numbers were answered too seldom; whether none was.
+    fn ended(&self, begun: Instant, unseen: &[u32]) -> bool {
+        println!("seed {}, {:.1} s", self.seed, begun.elapsed().as_secs_f64());
+        if !unseen.is_empty() {
+            println!("seen fewer than {} times: {unseen:?}", self.least);
+        }
+        unseen.is_empty()
+    }
 }
 
 fn run_mutants(arguments: &Arguments) -> Result<ExitCode, String> {
@@ -183,8 +203,10 @@ fn run_bench(arguments: &Arguments) -> Result<ExitCode, String> {
     arguments.allow(&["ms", "only", "write"], 0)?;
     let only = arguments.text("only").unwrap_or("");
     let budget = Duration::from_millis(arguments.number("ms", 120)?);
-    let proved = ffi::proved_check();
-    let check = |subject: &bench::Subject| bench::time_check(subject, proved, &exact_check, budget);
+    let proved = ffi::library();
+    let check = |subject: &bench::Subject| {
+        bench::time_check(subject, proved.map(|library| library.check), &exact_check, budget)
+    };
     let rows = |subjects: Vec<bench::Subject>| {
         subjects.iter().filter(|subject| subject.name.contains(only)).map(check).collect()
     };
@@ -195,7 +217,10 @@ fn run_bench(arguments: &Arguments) -> Result<ExitCode, String> {
         writers: bench::SIZES
             .into_iter()
             .filter(|(name, _)| name.contains(only))
-            .map(|size| bench::time_writer(size, ffi::proved_expand(), &exact_expand, budget))
+            .map(|size| {
+                let proved = proved.map(|library| library.expand);
+                bench::time_writer(size, proved, &exact_expand, budget)
+            })
             .collect(),
     };
     print!("{}", results.text());
@@ -228,10 +253,7 @@ fn run_check(arguments: &Arguments) -> Result<ExitCode, String> {
         }
     }
     let mut free = vec![0; 1024];
-    match check::check(&file, &mut free) {
-        Ok(claim) => println!("accepted {} {}", claim.left, claim.right),
-        Err(refusal) => println!("{refusal}"),
-    }
+    print!("{}", answer::line(check::check(&file, &mut free)));
     Ok(ExitCode::SUCCESS)
 }
 

@@ -1,66 +1,80 @@
-//! The comparison on files and jobs: with the proved library where it is there,
-//! and with the plain readings always.
+//! The comparison on files and jobs: with the proved library and the programs where
+//! they are there, and with the plain readings always.
 
-use crate::{exact, exact_expand, plain};
-use nezkaldo_compare::{compare, compare_writer, ffi, naive_expand};
+use crate::{exact, exact_expand, plain, plain_expand};
+use nezkaldo_compare::compare::{self, Checkers};
+use nezkaldo_compare::compare_writer::{self, Writers};
+use nezkaldo_compare::ffi::{self, Library};
+use nezkaldo_compare::programs::{self, Program};
 use std::path::Path;
 
 const SEED: u64 = 20;
 const FILES: u64 = 20_000;
 const JOBS: u64 = 3_000;
 
-fn plain_expand(job: &[u8], out: &mut [u8], words: &mut [u32], sets: &mut [u64]) -> u64 {
-    compare_writer::packed(naive_expand::expand(job, out, words, sets))
-}
-
 fn failures() -> Option<&'static Path> {
     Some(Path::new(concat!(env!("CARGO_MANIFEST_DIR"), "/failures")))
 }
 
-#[test]
-fn the_two_readings_agree_on_files() {
-    let report = compare::run(&plain, &exact, SEED, FILES, failures()).unwrap();
+fn check_files(checkers: Checkers) {
+    let report = compare::run(checkers, SEED, FILES, failures()).unwrap();
     assert!(report.agrees(), "{report}");
     assert_eq!(report.unseen(1), [], "{report}");
+}
+
+fn check_jobs(writers: Writers) {
+    let report = compare_writer::run(writers, SEED, JOBS, failures()).unwrap();
+    assert!(report.agrees(), "{report}");
+    assert_eq!(report.unseen(1), [], "{report}");
+}
+
+#[test]
+fn the_two_readings_agree_on_files() {
+    check_files(Checkers::two(&plain, &exact));
 }
 
 #[test]
 fn the_two_readings_agree_on_jobs() {
-    let report = compare_writer::run(
-        &plain_expand,
-        &exact_expand,
-        &[&plain, &exact],
-        SEED,
-        JOBS,
-        failures(),
-    )
-    .unwrap();
-    assert!(report.agrees(), "{report}");
-    assert_eq!(report.unseen(1), [], "{report}");
+    check_jobs(Writers {
+        subject: &plain_expand,
+        reference: &exact_expand,
+        plain: None,
+        program: None,
+        checkers: &[&plain, &exact],
+    });
 }
 
 #[test]
 fn the_proved_check_agrees() {
-    let Some(proved) = ffi::proved_check() else {
+    let Some(Library { check, .. }) = ffi::library() else {
         eprintln!("no proved library in this build: not compared");
         return;
     };
-    let report = compare::run(proved, &exact, SEED, FILES, failures()).unwrap();
-    assert!(report.agrees(), "{report}");
-    assert_eq!(report.unseen(1), [], "{report}");
+    let program = programs::program(Path::new(programs::FOLDER), programs::CHECK).ok();
+    if program.is_none() {
+        eprintln!("no program check: not compared");
+    }
+    let program = program.as_ref().map(|program| program as Program);
+    check_files(Checkers { subject: check, reference: &exact, plain: Some(&plain), program });
 }
 
 #[test]
 fn the_proved_writer_agrees() {
-    let (Some(proved), Some(checker)) = (ffi::proved_expand(), ffi::proved_check()) else {
-        eprintln!("no proved writer in this build: not compared");
+    let Some(Library { check, expand }) = ffi::library() else {
+        eprintln!("no proved library in this build: not compared");
         return;
     };
-    let report =
-        compare_writer::run(proved, &exact_expand, &[checker, &exact], SEED, JOBS, failures())
-            .unwrap();
-    assert!(report.agrees(), "{report}");
-    assert_eq!(report.unseen(1), [], "{report}");
+    let program = programs::program(Path::new(programs::FOLDER), programs::EXPAND).ok();
+    if program.is_none() {
+        eprintln!("no program expand: not compared");
+    }
+    check_jobs(Writers {
+        subject: expand,
+        reference: &exact_expand,
+        plain: Some(&plain_expand),
+        program: program.as_ref().map(|program| program as Program),
+        checkers: &[check, &exact],
+    });
 }
 
 /// A run is repeatable: the same seed gives the same files.

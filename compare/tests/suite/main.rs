@@ -3,13 +3,14 @@
 mod agreement;
 mod examples;
 mod limits;
+mod parties;
 mod teeth;
 mod worlds;
 mod writer;
 
 use nezkaldo_compare::answer::packed;
 use nezkaldo_compare::bundle::{Section, to_bytes};
-use nezkaldo_compare::{check, compare_writer, expand, naive};
+use nezkaldo_compare::{check, compare_writer, expand, naive, naive_expand};
 
 /// The checker's answer in the library's form.
 pub fn exact(file: &[u8], free: &mut [u64]) -> u64 {
@@ -23,6 +24,10 @@ pub fn plain(file: &[u8], free: &mut [u64]) -> u64 {
 
 pub fn exact_expand(job: &[u8], out: &mut [u8], words: &mut [u32], sets: &mut [u64]) -> u64 {
     compare_writer::packed(expand::expand(job, out, words, sets))
+}
+
+pub fn plain_expand(job: &[u8], out: &mut [u8], words: &mut [u32], sets: &mut [u64]) -> u64 {
+    compare_writer::packed(naive_expand::expand(job, out, words, sets))
 }
 
 /// Number and record of the checker, which the plain reading shares; (0, 0) where

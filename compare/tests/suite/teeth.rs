@@ -1,6 +1,7 @@
 //! The comparison notices every single fault, by the ordinary files alone.
 
 use crate::{exact, exact_expand};
+use nezkaldo_compare::compare::{self, Checkers};
 use nezkaldo_compare::eval::claim_holds;
 use nezkaldo_compare::fault::Fault;
 use nezkaldo_compare::generate::case;
@@ -33,7 +34,7 @@ fn every_broken_writer_is_told_apart() {
 /// An exact copy is not told apart: no fault is no difference.
 #[test]
 fn the_exact_checker_is_not() {
-    let report = nezkaldo_compare::compare::run(&exact, &exact, SEED, 500, None).unwrap();
+    let report = compare::run(Checkers::two(&exact, &exact), SEED, 500, None).unwrap();
     assert!(report.agrees());
 }
 

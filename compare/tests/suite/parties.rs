@@ -1,0 +1,169 @@
+//! The plain readings and the programs have a say of their own: one that differs
+//! from an otherwise exact comparison is noticed.
+
+use crate::{exact, exact_expand};
+use nezkaldo_compare::answer::{Claim, Refusal, line};
+use nezkaldo_compare::check::check;
+use nezkaldo_compare::compare::{self, Checkers};
+use nezkaldo_compare::compare_writer::{self, Writers};
+use nezkaldo_compare::expand::written;
+use nezkaldo_compare::fault::Fault;
+use nezkaldo_compare::mutants::{broken_checker, broken_writer};
+use nezkaldo_compare::programs::{self, Program};
+use nezkaldo_compare::tally::Sample;
+use std::io::{self, ErrorKind};
+use std::path::Path;
+use std::process::{ExitStatus, Output};
+
+const SEED: u64 = 7;
+const FILES: u64 = 3_000;
+const JOBS: u64 = 600;
+
+fn checkers(program: Program) -> Checkers {
+    Checkers { program: Some(program), ..Checkers::two(&exact, &exact) }
+}
+
+fn writers(program: Option<Program>) -> Writers {
+    Writers {
+        subject: &exact_expand,
+        reference: &exact_expand,
+        plain: None,
+        program,
+        checkers: &[&exact],
+    }
+}
+
+/// What the comparison of files says of a program at its first difference.
+fn said_of_check(program: Program) -> Option<String> {
+    let report = compare::run(checkers(program), SEED, FILES, None).unwrap();
+    report.differences.first().map(|difference| difference.text.clone())
+}
+
+fn said_of_expand(program: Program) -> Option<String> {
+    let report = compare_writer::run(writers(Some(program)), SEED, JOBS, None).unwrap();
+    report.differences.first().map(|difference| difference.text.clone())
+}
+
+fn prints(stdout: impl Into<Vec<u8>>, stderr: impl Into<Vec<u8>>) -> io::Result<Output> {
+    Ok(Output { status: ExitStatus::default(), stdout: stdout.into(), stderr: stderr.into() })
+}
+
+/// The program check, but for what `change` makes of the answer.
+fn check_but(
+    change: impl Fn(Result<Claim, Refusal>) -> Result<Claim, Refusal>,
+) -> impl Fn(&[u8]) -> io::Result<Output> {
+    move |file| prints(line(change(check(file, &mut [0; 1024]))), "")
+}
+
+#[test]
+fn the_right_programs_agree() {
+    assert_eq!(said_of_check(&check_but(|answer| answer)), None);
+    let expand = |job: &[u8]| match written(job) {
+        Ok(file) => prints(file, ""),
+        Err(refusal) => prints("", refusal.line()),
+    };
+    assert_eq!(said_of_expand(&expand), None);
+}
+
+#[test]
+fn another_claim_or_refusal_is_noticed() {
+    let left = |answer: Result<Claim, Refusal>| {
+        answer.map(|claim| Claim { left: claim.right, right: claim.right })
+    };
+    let right =
+        |answer: Result<Claim, Refusal>| answer.map(|claim| Claim { right: claim.left, ..claim });
+    let record = |answer: Result<Claim, Refusal>| {
+        answer.map_err(|refusal| Refusal { record: refusal.record.min(7), ..refusal })
+    };
+    for (program, text) in [
+        (&check_but(left) as Program, "accepted"),
+        (&check_but(right), "accepted"),
+        (&check_but(record), "refused"),
+        (&|_: &[u8]| prints("accepted 1 1\n", ""), "refused"),
+    ] {
+        let said = said_of_check(program).expect("the program is wrong");
+        assert!(said.contains(text), "{said}");
+    }
+}
+
+#[test]
+fn another_file_or_refusal_is_noticed() {
+    let one_byte = |job: &[u8]| match written(job) {
+        Ok(mut file) => {
+            *file.last_mut().unwrap() ^= 1;
+            prints(file, "")
+        }
+        Err(refusal) => prints("", refusal.line()),
+    };
+    let silent = |job: &[u8]| prints(written(job).unwrap_or_default(), "");
+    let on_output = |job: &[u8]| match written(job) {
+        Ok(file) => prints(file, ""),
+        Err(refusal) => prints(refusal.line(), ""),
+    };
+    for program in [&one_byte as Program, &silent, &on_output] {
+        assert!(said_of_expand(program).is_some());
+    }
+}
+
+/// Programs of the system in place of ours: one that prints nothing, one that fails,
+/// one that prints its input; and none at all.
+#[test]
+fn other_programs_are_noticed() {
+    for name in ["true", "false", "cat"] {
+        let other = programs::program(Path::new("/bin"), name).unwrap();
+        assert!(said_of_check(&other).is_some(), "{name}");
+        assert!(said_of_expand(&other).is_some(), "{name}");
+    }
+    let failing = |file: &[u8]| {
+        let mut output = check_but(|answer| answer)(file)?;
+        output.status = programs::program(Path::new("/bin"), "false").unwrap()(b"")?.status;
+        Ok(output)
+    };
+    assert!(said_of_check(&failing).unwrap().contains("ends with"));
+    let gone = |_: &[u8]| Err(ErrorKind::NotFound.into());
+    assert!(said_of_check(&gone).unwrap().contains("cannot be run"));
+    let missing = programs::program(Path::new("/nowhere"), programs::CHECK).err().unwrap();
+    assert!(missing.contains("rt check check_bundle"), "{missing}");
+}
+
+/// Input and output that are longer than a pipe holds.
+#[test]
+fn long_inputs_pass_through() {
+    let input: Vec<u8> = (0..200_000).map(|place| place as u8).collect();
+    let cat = programs::program(Path::new("/bin"), "cat").unwrap();
+    assert_eq!(programs::difference(&cat, &input, &input, b""), None);
+    assert!(programs::difference(&cat, &input, &input[1..], b"").is_some());
+    // A program that does not read its input is judged by what it prints.
+    let silent = programs::program(Path::new("/bin"), "true").unwrap();
+    assert_eq!(programs::difference(&silent, &input, b"", b""), None);
+}
+
+#[test]
+fn another_plain_reading_is_noticed() {
+    for fault in [Fault::BindImagesUnread, Fault::AreaTailKept, Fault::AreaKeptOnRefusal] {
+        let broken = broken_checker(fault);
+        let checkers = Checkers { plain: Some(&broken), ..Checkers::two(&exact, &exact) };
+        let report = compare::run(checkers, SEED, 20_000, None).unwrap();
+        assert!(!report.agrees(), "{fault:?}");
+        assert!(report.to_string().contains("from the plain reading"), "{report}");
+    }
+    for fault in [Fault::ScratchKept, Fault::OutputTailKept, Fault::RightUnread] {
+        let broken = broken_writer(fault);
+        let writers = Writers { plain: Some(&broken), ..writers(None) };
+        let report = compare_writer::run(writers, SEED, JOBS, None).unwrap();
+        assert!(!report.agrees(), "{fault:?}");
+        assert!(report.to_string().contains("the plain reading"), "{report}");
+    }
+}
+
+/// Of each kind the first few, then one in so many.
+#[test]
+fn samples_have_every_kind() {
+    let mut sample = Sample::new(10);
+    let refusal = |number: u64| number << 32 | 3;
+    let taken = (1..=100).filter(|_| sample.takes('a', refusal(5))).count();
+    assert_eq!(taken, 5 + 10);
+    assert!(sample.takes('b', refusal(5)) && sample.takes('a', refusal(6)) && sample.takes('a', 0));
+    assert_eq!((sample.taken(5), sample.taken(6), sample.taken(0)), (16, 1, 1));
+    assert_eq!(sample.total(), 18);
+}
