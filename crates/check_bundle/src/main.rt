@@ -1,5 +1,5 @@
 // The program check: reads up to 65,536 bytes of standard input and prints one line: `accepted`, left, right, or `refused`, number, record.
-use checker::Answer;
+use judgement::Answer;
 
 // A word, two numbers and a newline.
 fn print_line(word: &[u8], first: usize, second: usize) {

@@ -12,11 +12,11 @@ use Rattle.bundle.specs.File.{bundleOf}
 use Rattle.sets.specs.Sets.{cleared}
 use Rattle.logic.specs.declared.Fault.{Fault}
 use Rattle.logic.specs.Free.{freeArea}
-use Rattle.checker.specs.declared.Answer.the-variants.{Accepted, Refused}
-use Rattle.checker.specs.Judge.{faultOf, judge, areaAfter}
-use Rattle.checker.proofs.Acceptance.{nothing-exactly, accepted-where, refused-where}
-use Rattle.checker.proofs.Areas.{all-cleared}
-use Rattle.checker.proofs.Demands.{area-left}
+use Rattle.judgement.specs.declared.Answer.the-variants.{Accepted, Refused}
+use Rattle.judgement.specs.Judge.{faultOf, judge, areaAfter}
+use Rattle.judgement.proofs.Acceptance.{nothing-exactly, accepted-where, refused-where}
+use Rattle.sets.proofs.Cleared.{all-cleared}
+use Rattle.judgement.proofs.Demands.{area-left}
 
 -- r is what the code finds in f, where m words are lent
 module _ (f : List ℕ) (m : ℕ) (r : Fault) (found : r ≡ faultOf f m) where

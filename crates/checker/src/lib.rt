@@ -6,22 +6,15 @@ ghost use Rattle.bundle.specs.Limits.{setWords};
 ghost use Rattle.bundle.specs.File.{Whole, bundleAt, bundleOf};
 ghost use Rattle.logic.specs.Tests.{firstFailing};
 ghost use Rattle.logic.specs.Free.{freeArea};
-ghost use Rattle.steps.specs.Given.{FreeSets};
-ghost use Rattle.steps.specs.Known.{Images, MovedSets};
-ghost use Rattle.checker.specs.Judge.{claimTests, lentFor, lateFault, faultOf, judge, areaAfter};
+ghost use Rattle.free_variables.specs.FreeSets.{FreeSets};
+ghost use Rattle.contexts.specs.Known.{Images, MovedSets};
+ghost use Rattle.judgement.specs.Judge.{claimTests, lentFor, lateFault, faultOf, judge, areaAfter};
 use bundle::Bundle;
 use bundle::records::step_field;
 use bundle::words::counts;
 use bundle::words::word_at;
+use judgement::Answer;
 use logic::Fault;
-
-// The answer to a file.
-pub enum Answer {
-    // The claim, by its two term numbers.
-    Accepted { left: usize, right: usize },
-    // The number of the first check that fails, and its record.
-    Refused { number: usize, record: usize },
-}
 
 // The words that a file's terms ask for: nothing of a file that is too short to say.
 fn lent_for(file: &[u8]) -> usize
@@ -62,7 +55,7 @@ fn late_fault_in(
     requires { ⌜ Whole (now file) b × FreeSets (now free) setWords (bundleAt (now file) b) × (64 * (b .contexts + 1) ≤ length (now images)) × (setWords * (b .contexts + 1) ≤ length (now moved)) × Images (bundleAt (now file) b) (now images) 1 × MovedSets (bundleAt (now file) b) (now moved) setWords 1 ⌝ }
     ensures { λ r. ⌜ r ≡ lateFault (bundleAt (now (file .entry)) b) ⌝ }
 {
-    let in_contexts = steps::contexts::contexts_fault(
+    let in_contexts = contexts::contexts::contexts_fault(
         file,
         b,
         free,
@@ -105,7 +98,7 @@ fn fault_of(file: &[u8], free: &mut [u64]) -> Fault
 {
     let lent = free.len();
     let required = lent_for(file);
-    let early = tables::tables_fault(file, lent, required);
+    let early = terms::tables_fault(file, lent, required);
     if early.number != 0 {
         return early;
     }

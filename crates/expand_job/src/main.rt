@@ -1,6 +1,6 @@
 // The program expand: reads a job of up to 65,536 bytes on standard input and writes the expanded file to standard output. A job that is refused gets one
 // line `refused`, number, record on standard error, and nothing on standard output.
-use writer::Answer;
+use expansion::Answer;
 
 // The first bytes of an area, so many as the file has.
 fn write_start(area: &[u8], length: usize) {

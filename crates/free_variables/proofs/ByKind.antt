@@ -25,7 +25,7 @@ use Rattle.logic.proofs.Tests.{numbers-of}
 use Rattle.logic.specs.Terms.{Kind, kindOf, variable, application, binder, letting, other}
 use Rattle.logic.specs.Free.{freesOf, freeAs, freeBy, freeAt, nothingFree}
 use Rattle.free_variables.specs.Put.{Room, Kept, Put, setBelow, listAs, listOf, ownAs, ownBy}
-use Rattle.tables.proofs.TermKinds.{termRecord, record-is, kind-binder, kind-other}
+use Rattle.logic.proofs.KindTests.{termRecord, record-is, kind-binder, kind-other}
 use Rattle.free_variables.proofs.Puts.{kept-trans, below-kept, room-kept, remove-put}
 
 put-clear : (w v : List ℕ) (n at : ℕ) → at + n ≤ length w → v ≡ cleared w at n → Put w v n at (λ x. false)

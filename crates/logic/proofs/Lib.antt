@@ -2,7 +2,10 @@
 --     Tables           tables that grow: a cell is what its record builds from the cells below it
 --     Firsts           first faults, for loops over a section
 --     Tests            tests put together and taken apart
+--     UpTo             a test of every lower number, for a loop that counts down
+--     Headers          the tests of the header and of the area, and what they say
 --     TermKinds        kinds of terms and their numbers
+--     KindTests        the kind of a term's record as code tests it, and the record by its fields
 --     Trees            trees, sorts and free variables of numbers
 --     Lets             THE LAW: a term holds a let exactly where one occurs in it
 --     Passes           what is known of a bundle in which the checks 5 to 9 find nothing
@@ -31,7 +34,10 @@
 pub mod Tables
 pub mod Firsts
 pub mod Tests
+pub mod UpTo
+pub mod Headers
 pub mod TermKinds
+pub mod KindTests
 pub mod Trees
 pub mod Lets
 pub mod Passes

@@ -2,9 +2,9 @@
 use mathlib.Core.Path.{_≡_, sym, subst, _∙_}
 use mathlib.Core.List.{List}
 use lib.ListN.{take}
-use Rattle.checker.proofs.Demands.{accepted-sound}
-use Rattle.writer.specs.Demands.{WrittenWell}
-use Rattle.writer.proofs.Demands.{expansion-right}
+use Rattle.judgement.proofs.Demands.{accepted-sound}
+use Rattle.expansion.specs.Demands.{WrittenWell}
+use Rattle.expansion.proofs.Demands.{expansion-right}
 use Rattle.nezkaldo.specs.Demand.{CheckedEqual, ExpandedAccepted, DemandThree}
 
 checked-equal : CheckedEqual

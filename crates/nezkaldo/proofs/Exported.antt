@@ -15,21 +15,21 @@ use native.Mathlib.Nat.{mod-lt, div-add-mod}
 use lib.ListN.{length, take}
 use Rattle.bundle.specs.Limits.{limits, headerWords, bytesOf}
 use Rattle.bundle.specs.File.{bundleOf}
-use Rattle.checker.specs.declared.Answer.{Answer}
-use Rattle.checker.specs.declared.Answer.the-variants.{Accepted, Refused}
-use Rattle.checker.specs.Judge.{judge}
-use Rattle.checker.proofs.Sizes.{refused-small}
-use Rattle.checker.proofs.Acceptance.{refused-where}
-use Rattle.checker.proofs.Demands.{refused-exactly, accepted-exactly, accepted-sound}
-use Rattle.writer.specs.declared.Answer.{Answer as Reply}
-use Rattle.writer.specs.declared.Answer.the-variants.{Written, Refused as Denied}
-use Rattle.writer.specs.Visit.{expanded}
-use Rattle.writer.specs.File.{fileOf}
-use Rattle.writer.specs.Expansion.{expansion}
-use Rattle.writer.specs.Demands.{LongEnough, ZerosLeft, WrittenWell}
-use Rattle.writer.proofs.JobSizes.{refused-job-small}
-use Rattle.writer.proofs.JobChecks.{job-exactly, job-answer, job-room, refused-job-where}
-use Rattle.writer.proofs.Demands.{refused-job-exactly, written-exactly, areas-left, expansion-right}
+use Rattle.judgement.specs.declared.Answer.{Answer}
+use Rattle.judgement.specs.declared.Answer.the-variants.{Accepted, Refused}
+use Rattle.judgement.specs.Judge.{judge}
+use Rattle.judgement.proofs.Sizes.{refused-small}
+use Rattle.judgement.proofs.Acceptance.{refused-where}
+use Rattle.judgement.proofs.Demands.{refused-exactly, accepted-exactly, accepted-sound}
+use Rattle.expansion.specs.declared.Answer.{Answer as Reply}
+use Rattle.expansion.specs.declared.Answer.the-variants.{Written, Refused as Denied}
+use Rattle.expansion.specs.Visit.{expanded}
+use Rattle.expansion.specs.File.{fileOf}
+use Rattle.expansion.specs.Expansion.{expansion}
+use Rattle.expansion.specs.Demands.{LongEnough, ZerosLeft, WrittenWell}
+use Rattle.expansion.proofs.JobSizes.{refused-job-small}
+use Rattle.expansion.proofs.JobChecks.{job-exactly, job-answer, job-room, refused-job-where}
+use Rattle.expansion.proofs.Demands.{refused-job-exactly, written-exactly, areas-left, expansion-right}
 use Rattle.nezkaldo.specs.Packed.{packed, packedReply}
 use Rattle.nezkaldo.specs.Exported.{Tells, TellsOne, CheckSays, CheckNumber, ExpandSays, ExpandNumber, ExportedZeros, ExportedEqual, ExportedAccepted, ExportedDemandThree}
 

@@ -8,14 +8,14 @@ use Rattle.bundle.specs.File.{countsOf, bundleOf}
 use Rattle.logic.specs.Terms.{tree}
 use Rattle.logic.specs.Free.{Closed}
 use Rattle.logic.specs.Values.{EqualValues}
-use Rattle.checker.specs.declared.Answer.{Answer}
-use Rattle.checker.specs.declared.Answer.the-variants.{Accepted}
-use Rattle.checker.specs.Judge.{judge}
-use Rattle.writer.specs.declared.Answer.{Answer as Reply}
-use Rattle.writer.specs.declared.Answer.the-variants.{Written}
-use Rattle.writer.specs.Expansion.{expansion}
-use Rattle.writer.specs.Left.{Left}
-use Rattle.writer.specs.Demands.{Bytes, JobFormed, Fits, LongEnough, WrittenWell}
+use Rattle.judgement.specs.declared.Answer.{Answer}
+use Rattle.judgement.specs.declared.Answer.the-variants.{Accepted}
+use Rattle.judgement.specs.Judge.{judge}
+use Rattle.expansion.specs.declared.Answer.{Answer as Reply}
+use Rattle.expansion.specs.declared.Answer.the-variants.{Written}
+use Rattle.expansion.specs.Expansion.{expansion}
+use Rattle.expansion.specs.Left.{Left}
+use Rattle.expansion.specs.Demands.{Bytes, JobFormed, Fits, LongEnough, WrittenWell}
 
 -- Accepted: in every finite world, under every valuation, both sides of the claim have equal value. `a` is what `check` answers.
 abbrev pub CheckedEqual : Type 0

@@ -10,13 +10,13 @@ use Rattle.bundle.specs.File.{countsOf, bundleOf}
 use Rattle.logic.specs.Terms.{tree}
 use Rattle.logic.specs.Free.{Closed}
 use Rattle.logic.specs.Values.{EqualValues}
-use Rattle.checker.specs.Judge.{judge}
-use Rattle.checker.specs.Order.{allChecks, FirstFailing}
-use Rattle.checker.specs.Demands.{Acceptable}
-use Rattle.writer.specs.declared.Answer.the-variants.{Written}
-use Rattle.writer.specs.Expansion.{Outcome, expansion}
-use Rattle.writer.specs.JobOrder.{allJobChecks}
-use Rattle.writer.specs.Demands.{Bytes, JobFormed, Fits, LongEnough, WrittenWell}
+use Rattle.judgement.specs.Judge.{judge}
+use Rattle.judgement.specs.Order.{allChecks, FirstFailing}
+use Rattle.judgement.specs.Demands.{Acceptable}
+use Rattle.expansion.specs.declared.Answer.the-variants.{Written}
+use Rattle.expansion.specs.Expansion.{Outcome, expansion}
+use Rattle.expansion.specs.JobOrder.{allJobChecks}
+use Rattle.expansion.specs.Demands.{Bytes, JobFormed, Fits, LongEnough, WrittenWell}
 use Rattle.nezkaldo.specs.Packed.{packed, packedReply}
 
 -- ---- number · 2^32 + record

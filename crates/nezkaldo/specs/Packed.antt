@@ -1,9 +1,9 @@
 -- Answers as one number, for other languages.
 use Prim.Native.Nat.{ℕ, _+_, _*_}
-use Rattle.checker.specs.declared.Answer.{Answer}
-use Rattle.checker.specs.declared.Answer.the-variants.{Accepted, Refused}
-use Rattle.writer.specs.declared.Answer.{Answer as Reply}
-use Rattle.writer.specs.declared.Answer.the-variants.{Written, Refused as Denied}
+use Rattle.judgement.specs.declared.Answer.{Answer}
+use Rattle.judgement.specs.declared.Answer.the-variants.{Accepted, Refused}
+use Rattle.expansion.specs.declared.Answer.{Answer as Reply}
+use Rattle.expansion.specs.declared.Answer.the-variants.{Written, Refused as Denied}
 
 -- 0 where the file is accepted, else number · 2^32 + record
 unfoldable pub packed : Answer → ℕ

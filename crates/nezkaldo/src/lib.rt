@@ -2,10 +2,10 @@
 ghost use mathlib.Core.Path.{_≡_};
 ghost use Prim.Native.Nat.{_+_, _*_, _≤_};
 ghost use lib.ListN.{length};
-ghost use Rattle.checker.specs.Judge.{judge, areaAfter};
-ghost use Rattle.writer.specs.Expansion.{expansion};
+ghost use Rattle.judgement.specs.Judge.{judge, areaAfter};
+ghost use Rattle.expansion.specs.Expansion.{expansion};
 ghost use Rattle.nezkaldo.specs.Packed.{packed, packedReply};
-use checker::Answer;
+use judgement::Answer;
 
 // Number and record in one word.
 fn pack(number: usize, place: usize) -> u64
@@ -45,7 +45,7 @@ pub extern "C" fn nezkaldo_expand(
 {
     let reply = writer::expand(job, out, words, sets);
     match reply {
-        writer::Answer::Written { length } => length as u64,
-        writer::Answer::Refused { number, record } => pack(number, record),
+        expansion::Answer::Written { length } => length as u64,
+        expansion::Answer::Refused { number, record } => pack(number, record),
     }
 }

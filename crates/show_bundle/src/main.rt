@@ -11,7 +11,7 @@ mod dot; // dot.rt: the graph
 use bundle::Bundle;
 use bundle::words::counts;
 use bundle::words::word_at;
-use checker::Answer;
+use judgement::Answer;
 
 // A line of the graph's text that is not the graph's is a comment.
 fn line_start(is_dot: bool) {

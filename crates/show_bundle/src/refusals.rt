@@ -136,7 +136,7 @@ fn bad_symbol(file: &[u8], b: Bundle, i: usize)
 fn bad_sort(file: &[u8], b: Bundle, i: usize)
     requires { ⌜ Whole (now file) b ⌝ }
 {
-    let in_symbols = tables::symbols::symbols_fault(file, b);
+    let in_symbols = declarations::symbols::symbols_fault(file, b);
     if in_symbols.number != 0 {
         bad_symbol(file, b, i);
     } else {

@@ -30,22 +30,22 @@ use Rattle.logic.proofs.Tests.{numbered, failing-none, numbers-of, and-left, an
 use Rattle.logic.proofs.Firsts.{orElse-on, orElse-here, next-both}
 use Rattle.logic.proofs.Formed.{tables-exactly}
 use Rattle.sets.specs.Sets.{cleared}
-use Rattle.checker.proofs.Header.{HeaderGood, tables-header}
-use Rattle.checker.proofs.Areas.{all-cleared}
-use Rattle.arena.specs.Scratch.{bundleIn}
-use Rattle.writer.specs.declared.Answer.{Answer}
-use Rattle.writer.specs.declared.Answer.the-variants.{Written, Refused}
-use Rattle.writer.specs.declared.Visited.{Visited}
-use Rattle.writer.specs.Nodes.{Node, nodeAt}
-use Rattle.writer.specs.Visit.{Visit, visit, visited, expanded, claiming}
-use Rattle.writer.specs.File.{countsIn, fileOf}
-use Rattle.writer.specs.Expansion.{longEnough, earlyTests, jobTests, jobFault, outcomeOf, expansion}
-use Rattle.writer.specs.Demands.{LongEnough, Bytes}
-use Rattle.writer.specs.Outcomes.{Holds, TooMuch, VisitOutcome, done, full, Stands, TermAsks}
-use Rattle.writer.specs.Left.{Left, Stored}
-use Rattle.writer.proofs.Files.{file-length}
-use Rattle.writer.proofs.SmallWords.{file-small, expanded-small}
-use Rattle.writer.proofs.SectionPlaces.{within-words}
+use Rattle.logic.proofs.Headers.{HeaderGood, tables-header}
+use Rattle.sets.proofs.Cleared.{all-cleared}
+use Rattle.scratch.specs.Scratch.{bundleIn}
+use Rattle.expansion.specs.declared.Answer.{Answer}
+use Rattle.expansion.specs.declared.Answer.the-variants.{Written, Refused}
+use Rattle.placing.specs.declared.Visited.{Visited}
+use Rattle.expansion.specs.Nodes.{Node, nodeAt}
+use Rattle.expansion.specs.Visit.{Visit, visit, visited, expanded, claiming}
+use Rattle.expansion.specs.File.{countsIn, fileOf}
+use Rattle.expansion.specs.Expansion.{longEnough, earlyTests, jobTests, jobFault, outcomeOf, expansion}
+use Rattle.expansion.specs.Demands.{LongEnough, Bytes}
+use Rattle.placing.specs.Outcomes.{Holds, TooMuch, VisitOutcome, done, full, Stands, TermAsks}
+use Rattle.expansion.specs.Left.{Left, Stored}
+use Rattle.expansion.proofs.Files.{file-length}
+use Rattle.expansion.proofs.SmallWords.{file-small, expanded-small}
+use Rattle.files.proofs.SectionPlaces.{within-words}
 use Rattle.writer.proofs.Rooted.{stands-at}
 
 -- ---- areas

@@ -18,8 +18,8 @@ use Rattle.sets.specs.Sets.{member}
 use Rattle.logic.specs.Tests.{passed, upTo, firstFailing}
 use Rattle.logic.specs.Free.{freeAt, freeArea}
 use Rattle.logic.proofs.Tests.{numbers-of}
-use Rattle.checker.proofs.Areas.{sets-held}
-use Rattle.writer.specs.Expansion.{earlyTests}
+use Rattle.free_variables.proofs.HeldSets.{sets-held}
+use Rattle.expansion.specs.Expansion.{earlyTests}
 
 -- w are the lent words with the free sets
 pub closed-is : (f : List ℕ) (c : Counts) (m : ℕ) (w : List ℕ) (t : ℕ) → Whole f c → setWords * c .terms ≤ m → w ≡ freeArea (bundleAt f c) setWords m

@@ -1,15 +1,12 @@
-// The checks of a job after 1 to 9, and its way into the scratch.
+// The checks of a job after 1 to 9.
 ghost use mathlib.Core.Path.{_≡_};
 ghost use mathlib.Core.Bool.{not};
 ghost use Prim.Native.Nat.{ℕ, _+_, _*_, _≤_};
 ghost use lib.ListN.{length};
-ghost use Rattle.bundle.specs.Limits.{limits, wordsOf};
 ghost use Rattle.bundle.specs.File.{Whole, bundleAt};
 ghost use Rattle.sets.specs.Sets.{member};
 ghost use Rattle.logic.specs.Tests.{upTo, firstFailing};
-ghost use Rattle.arena.specs.Scratch.{bundleIn};
-ghost use Rattle.writer.specs.Expansion.{earlyTests};
-use arena::sections::copy_section;
+ghost use Rattle.expansion.specs.Expansion.{earlyTests};
 use bundle::Bundle;
 use bundle::words::word_at;
 
@@ -54,31 +51,4 @@ pub fn job_fault(job: &[u8], b: Bundle, sets: &mut [u64]) -> usize
         return 17;
     }
     0
-}
-
-// Copies the header and every section of the job into its place in the scratch.
-pub fn copy_job(job: &[u8], b: Bundle, words: &mut [u32])
-    requires { ⌜ Whole (now job) b × (wordsOf limits ≤ length (now words)) ⌝ }
-    ensures { λ _. ⌜ (length (now (words .exit)) ≡ length (now (words .entry))) × (bundleIn (now (words .exit)) b ≡ bundleAt (now (job .entry)) b) ⌝ }
-{
-    let room = Bundle::largest();
-    copy_section(job, 0, words, 0, 9);
-    copy_section(job, b.symbols_at(), words, room.symbols_at(), 2 * b.symbols);
-    copy_section(
-        job,
-        b.variables_at(),
-        words,
-        room.variables_at(),
-        b.variables,
-    );
-    copy_section(job, b.terms_at(), words, room.terms_at(), 4 * b.terms);
-    copy_section(job, b.links_at(), words, room.links_at(), 2 * b.links);
-    copy_section(
-        job,
-        b.contexts_at(),
-        words,
-        room.contexts_at(),
-        4 * b.contexts,
-    );
-    copy_section(job, b.steps_at(), words, room.steps_at(), 5 * b.steps);
 }

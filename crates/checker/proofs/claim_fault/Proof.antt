@@ -3,7 +3,7 @@ use borrow.Author.Needs.{needs}
 use native.Mathlib.Omega.{arith}
 use Rattle.bundle.proofs.Fields.{left-is, right-is, steps-length}
 use Rattle.logic.specs.Tests.{passed, firstFailing}
-use Rattle.checker.proofs.Areas.{whole-long}
+use Rattle.logic.proofs.Headers.{whole-long}
 use Rattle.checker.proofs.claim_fault.Statement.{statement}
 use Rattle.checker.proofs.claim_fault.Tie as tie
 

@@ -9,11 +9,12 @@ use denote.Ref.{now}
 use Rattle.bundle.specs.Limits.{setWords}
 use Rattle.bundle.specs.File.{Whole, bundleAt, bundleOf}
 use Rattle.logic.specs.Checks.{tablesFault}
-use Rattle.tables.proofs.Headers.{bundle-is}
-use Rattle.checker.specs.Judge.{required, lateFault}
-use Rattle.checker.proofs.Header.{HeaderGood, tables-header}
-use Rattle.checker.proofs.Acceptance.{early-fault, late-fault}
-use Rattle.checker.proofs.Areas.{lent-is, sets-held}
+use Rattle.logic.proofs.Headers.{bundle-is}
+use Rattle.judgement.specs.Judge.{required, lateFault}
+use Rattle.logic.proofs.Headers.{HeaderGood, tables-header}
+use Rattle.judgement.proofs.Acceptance.{early-fault, late-fault}
+use Rattle.judgement.proofs.Areas.{lent-is}
+use Rattle.free_variables.proofs.HeldSets.{sets-held}
 use Rattle.checker.proofs.fault_of.Statement.{statement}
 use Rattle.checker.proofs.fault_of.Tie as tie
 

@@ -4,7 +4,7 @@ use native.Mathlib.Omega.{arith}
 use mathlib.Core.Path.{_≡_, refl, sym}
 use Rattle.logic.specs.Tests.{fault, orElse}
 use Rattle.logic.proofs.Firsts.{orElse-on, orElse-here}
-use Rattle.checker.specs.Judge.{lateFault}
+use Rattle.judgement.specs.Judge.{lateFault}
 use borrow.Author.Needs.{needs}
 use Rattle.checker.proofs.late_fault_in.Statement.{statement}
 use Rattle.checker.proofs.late_fault_in.Tie as tie

@@ -1,7 +1,7 @@
 -- `lent_for` meets its contract: the test of the length is that of `lentFor`, and word 3 is the number of terms.
 use borrow.Author.Needs.{needs}
 use borrow.Author.Tests.{le-leb, lt-leb}
-use Rattle.checker.specs.Judge.{lentFor}
+use Rattle.judgement.specs.Judge.{lentFor}
 use Rattle.checker.proofs.lent_for.Statement.{statement}
 use Rattle.checker.proofs.lent_for.Tie as tie
 

@@ -2,7 +2,7 @@
 use borrow.Author.Needs.{needs}
 use native.Mathlib.Omega.{arith}
 use mathlib.Core.Path.{sym, ap, _∙_}
-use Rattle.checker.proofs.Sizes.{refused-small}
+use Rattle.judgement.proofs.Sizes.{refused-small}
 use Rattle.nezkaldo.specs.Packed.{packed}
 use Rattle.nezkaldo.proofs.nezkaldo_check.Statement.{statement}
 use Rattle.nezkaldo.proofs.nezkaldo_check.Tie as tie

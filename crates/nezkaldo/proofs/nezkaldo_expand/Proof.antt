@@ -2,7 +2,7 @@
 use borrow.Author.Needs.{needs}
 use native.Mathlib.Omega.{arith}
 use mathlib.Core.Path.{sym, ap, _∙_}
-use Rattle.writer.proofs.JobSizes.{refused-job-small}
+use Rattle.expansion.proofs.JobSizes.{refused-job-small}
 use Rattle.nezkaldo.specs.Packed.{packedReply}
 use Rattle.nezkaldo.proofs.nezkaldo_expand.Statement.{statement}
 use Rattle.nezkaldo.proofs.nezkaldo_expand.Tie as tie

@@ -7,14 +7,14 @@ use Rattle.bundle.specs.Bundle.{Bundle}
 use Rattle.bundle.specs.File.{Whole, bundleOf}
 use Rattle.logic.specs.Tests.{firstFailing}
 use Rattle.logic.specs.WellFormed.{TablesFormed}
-use Rattle.arena.specs.Scratch.{bundleIn}
+use Rattle.scratch.specs.Scratch.{bundleIn}
 use Rattle.logic.specs.Checks.{tablesFault}
-use Rattle.tables.proofs.Headers.{bundle-is}
-use Rattle.checker.proofs.Header.{HeaderGood}
-use Rattle.writer.specs.Visit.{visited}
-use Rattle.writer.specs.Expansion.{longEnough, earlyTests}
-use Rattle.writer.specs.Demands.{LongEnough}
-use Rattle.writer.specs.Outcomes.{VisitOutcome, TermAsks}
+use Rattle.logic.proofs.Headers.{bundle-is}
+use Rattle.logic.proofs.Headers.{HeaderGood}
+use Rattle.expansion.specs.Visit.{visited}
+use Rattle.expansion.specs.Expansion.{longEnough, earlyTests}
+use Rattle.expansion.specs.Demands.{LongEnough}
+use Rattle.placing.specs.Outcomes.{VisitOutcome, TermAsks}
 use Rattle.writer.proofs.Expanding.{refused-early, header-good, areas-long, refused-late, refused-full, job-formed, visit-asks, visit-is, Told, told-done, told-full, right-small, bytes-of, stored-refused, stored-written}
 use Rattle.writer.proofs.store_job.Statement.{statement}
 use Rattle.writer.proofs.store_job.Tie as tie

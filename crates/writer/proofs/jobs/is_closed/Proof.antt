@@ -5,7 +5,7 @@ use mathlib.Core.Bool.{not}
 use native.Mathlib.Omega.{arith}
 use Rattle.sets.specs.Sets.{member}
 use Rattle.logic.specs.Tests.{upTo}
-use Rattle.tables.proofs.Earlier.{upto-on, upto-here, upto-end}
+use Rattle.logic.proofs.UpTo.{upto-on, upto-here, upto-end}
 use Rattle.writer.proofs.jobs.is_closed.Statement.{statement}
 use Rattle.writer.proofs.jobs.is_closed.Tie as tie
 

@@ -3,7 +3,7 @@ use borrow.Author.Needs.{needs}
 use mathlib.Core.Path.{refl, _∙_}
 use native.Mathlib.Omega.{arith}
 use lib.ListN.{length}
-use Rattle.checker.proofs.Areas.{whole-long}
+use Rattle.logic.proofs.Headers.{whole-long}
 use Rattle.writer.proofs.JobTests.{closed-is, not-empty, not-known, left-known, not-closed, all-hold}
 use Rattle.writer.proofs.jobs.job_fault.Statement.{statement}
 use Rattle.writer.proofs.jobs.job_fault.Tie as tie

@@ -1,0 +1,46 @@
+// Lent areas: how many are long enough, and zeros.
+ghost use mathlib.Core.Path.{_≡_};
+ghost use mathlib.Core.Bool.{true, false};
+ghost use mathlib.Core.List.{_++_};
+ghost use Prim.Native.Nat.{ℕ, _-_, _≤_};
+ghost use lib.ListN.{length, take, replicate};
+ghost use Rattle.expansion.specs.Expansion.{longEnough};
+use bundle::Bundle;
+
+fn one(p: bool) -> usize
+    ensures { λ r. ⌜ (r ≤ 1) × (p ≡ true → r ≡ 1) × (p ≡ false → r ≡ 0) ⌝ }
+{
+    if p { 1 } else { 0 }
+}
+
+// How many of the three areas are long enough.
+pub fn long_enough(out: usize, words: usize, sets: usize) -> usize
+    ensures { λ r. ⌜ r ≡ longEnough out words sets ⌝ }
+{
+    let output = one(Bundle::BYTES <= out);
+    let scratch = one(Bundle::WORDS <= words);
+    let stack = one(Bundle::TERMS <= sets);
+    output + scratch + stack
+}
+
+pub fn zero_words(words: &mut [u32])
+    ensures { λ _. ⌜ now (words .exit) ≡ replicate (length (now (words .entry))) 0 ⌝ }
+{
+    let mut i = 0;
+    while i < words.len() {
+        words[i] = 0;
+        i += 1;
+    }
+}
+
+// Zeros from place `from` on.
+pub fn zero_bytes(out: &mut [u8], from: usize)
+    requires { ⌜ from ≤ length (now out) ⌝ }
+    ensures { λ _. ⌜ now (out .exit) ≡ take from (now (out .entry)) ++ replicate (length (now (out .entry)) - from) 0 ⌝ }
+{
+    let mut i = from;
+    while i < out.len() {
+        out[i] = 0;
+        i += 1;
+    }
+}

@@ -1,9 +1,0 @@
-// The writer's scratch: a bundle in lent words of 32 bits, each section with room for its limit. Readers are total, as those of a file are;
-// appends ask for room.
-pub mod records; // records.rt: the fields of a record
-pub mod lists; // lists.rt: walks of lists of links, and lists appended
-pub mod appends; // appends.rt: one record appended
-pub mod filing; // filing.rt: terms filed by digests
-pub mod lookups; // lookups.rt: terms looked up
-pub mod images; // images.rt: images of variables
-pub mod sections; // sections.rt: sections copied in from a file, and stored into a file

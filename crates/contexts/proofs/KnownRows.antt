@@ -1,0 +1,359 @@
+-- Laws of the table of images and of the sets of moved variables.
+--     moved-few                              what holds for contexts below c holds for fewer
+--     image-zero, image-past, image-some     a place of a row, and numbers that have none
+--     images-none, moved-none                zeros are what is known of the empty context
+--     untouched-refl, untouched-trans        what stays while one context is written
+--     row-kept, set-kept                     so the rows and sets of lower contexts do
+--     image-set, agrees-set                  one image set
+--     Replacing, replacing-on                a list of variables replaced, side by side with a list of terms
+--     moved-inside                           only variables that there are can be moved
+--     inherited, set-copied, agrees-copied   the row and the set of the parent
+--     images-on, sets-on                     with the entry written over them, they are the context's own
+--     apart-settled                          a term is settled where its free set and the moved set have nothing in common
+use mathlib.Core.Path.{_≡_, refl, sym, ap, _∙_}
+use mathlib.Core.Bool.{Bool, true, false, cond, not, _&&_, _||_, false≢true}
+use mathlib.Core.Logic.{inl}
+use mathlib.Core.List.{List, [], _∷_}
+use Prim.Native.Nat.{ℕ, zero, suc, _+_, _*_, _-_, _/_, _%_, _^_, _≤_, _<_}
+use native.Mathlib.Omega.{arith}
+use native.Mathlib.Decide.{ℕ-discrete, decLe}
+use lib.ListN.{length, getD, set, replicate, length-set, length-replicate}
+use lib.Seq.{getD-set-same, getD-set-other}
+use lib.Dec.{eqb}
+use lib.Bits.{bitOr}
+use borrow.Author.Tests.{eqb-true, eq-eqb, ne-eqb}
+use Rattle.bundle.specs.Bundle.{Bundle}
+use Rattle.bundle.specs.Lists.{numbers, has, different}
+use Rattle.bundle.proofs.Fields.{record-within}
+use Rattle.sets.specs.Sets.{bitAt, holds, member, withBit, withoutBit, inserted, removed, cleared, united, disjointOf}
+use Rattle.sets.proofs.Digits.{bit-none}
+use Rattle.sets.proofs.Members.{holds-small, member-inserted, member-removed, member-cleared, member-united, member-same, changed-length, changed-out, filled-length, filled-out, disjoint-none, none-disjoint}
+use Rattle.logic.specs.declared.Mention.{Mention}
+use Rattle.logic.specs.declared.Mention.the-variants.{Fixed, Replaced, Absent}
+use Rattle.logic.specs.declared.Image.{Image}
+use Rattle.logic.specs.declared.Image.the-variants.{Own, Gives}
+use Rattle.logic.specs.Tests.{upTo}
+use Rattle.logic.specs.Free.{freeAt}
+use Rattle.logic.specs.Contexts.{lookup, first, image, movedBy, moved, settledFor, settled}
+use Rattle.logic.proofs.Images.{image-empty}
+use Rattle.logic.proofs.Tests.{numbers-in, numbers-of, and-left, and-right, both-ways, up-to, up-to-all}
+use Rattle.contexts.proofs.FreeWords.{numbers-past}
+use Rattle.contexts.specs.Known.{asImage, imageAt, imageIn, Images, MovedSets, Room, Untouched, Agrees, Entered}
+
+pub moved-few : (b : Bundle) (m : List ℕ) (n c d : ℕ) → d ≤ c → n * d ≤ n * c → MovedSets b m n c → MovedSets b m n d
+moved-few b m n c d h g i = record { long = omega (arith, i .long); same = λ k x l. i .same k x (omega arith); few = λ k x l. i .few k x (omega arith) }
+
+-- ---- a place of a row
+
+module _ (variables : ℕ) (w : List ℕ) (k x : ℕ) where
+  pub image-zero : x ≡ 0 → imageAt variables w k x ≡ Own
+  unfolding imageAt
+  image-zero e = rw e
+
+  pub image-past : variables < x → imageAt variables w k x ≡ Own
+  unfolding imageAt
+  image-past h = rw (numbers-past variables x h)
+
+  pub image-some : 1 ≤ x → x ≤ variables → imageAt variables w k x ≡ asImage (getD w (64 * k + (x - 1)) 0)
+  unfolding imageAt
+  image-some one few = rw (numbers-in variables x one few)
+
+pub as-own : (t : ℕ) → t ≡ 0 → asImage t ≡ Own
+unfolding asImage
+as-own t e = rw e
+
+pub as-gives : (t : ℕ) → (t ≡ 0 → ⊥) → asImage t ≡ Gives t
+unfolding asImage
+as-gives zero ne = absurd (ne refl)
+as-gives (suc t) ne = refl
+
+-- two tables that have the same place for x
+same-place : (b : Bundle) (w v : List ℕ) (k j x : ℕ) → (1 ≤ x → x ≤ length (b .variables) → getD w (64 * k + (x - 1)) 0 ≡ getD v (64 * j + (x - 1)) 0)
+    → imageIn b w k x ≡ imageIn b v j x
+unfolding imageAt
+same-place b w v k j x same = go (numbers (length (b .variables)) x) refl
+  where
+    go : (p : Bool) → numbers (length (b .variables)) x ≡ p → cond p (asImage (getD w (64 * k + (x - 1)) 0)) Own ≡ cond p (asImage (getD v (64 * j + (x - 1)) 0)) Own
+    go true e = let h = numbers-of (length (b .variables)) x e in ap asImage (same (h .0) (h .1))
+    go false e = refl
+
+-- zeros: nothing is replaced in the empty context, and nothing is moved
+zero-at : (n j : ℕ) → _≡_ {A = ℕ} (getD (replicate n 0) j 0) 0
+zero-at zero j = refl
+zero-at (suc n) zero = refl
+zero-at (suc n) (suc j) = zero-at n j
+
+pub images-none : (b : Bundle) (m : ℕ) → 64 ≤ m → Images b (replicate m 0) 1
+unfolding imageAt
+images-none b m h = record {
+  long = omega (arith, length-replicate {A = ℕ} m 0);
+  same = λ k x l. let z : k ≡ 0 = omega arith in rw z (go x (numbers (length (b .variables)) x) ∙ sym (image-empty b x));
+}
+  where
+    go : (x : ℕ) (p : Bool) → cond p (asImage (getD (replicate m 0) (64 * 0 + (x - 1)) 0)) Own ≡ Own
+    go x true = as-own (getD (replicate m 0) (64 * 0 + (x - 1)) 0) (zero-at m (64 * 0 + (x - 1)))
+    go x false = refl
+
+pub moved-none : (b : Bundle) (n m : ℕ) → n ≤ m → MovedSets b (replicate m 0) n 1
+unfolding member moved movedBy
+moved-none b n m h = record {
+  long = omega (arith, length-replicate {A = ℕ} m 0);
+  same = λ k x l. let z : k ≡ 0 = omega arith in rw z (go x (holds n x) ∙ sym (still x));
+  few = λ k x l e. let z : k ≡ 0 = omega arith in absurd (false≢true (sym (still x) ∙ (rw z at e)));
+}
+  where
+    still : (x : ℕ) → moved b 0 x ≡ false
+    still x = ap (λ (i : Image). movedBy b i x) (image-empty b x)
+
+    go : (x : ℕ) (p : Bool) → cond p (bitAt (getD (replicate m 0) (n * 0 + (x - 1) / 64) 0) ((x - 1) % 64)) false ≡ false
+    go x true = ap (λ (y : ℕ). bitAt y ((x - 1) % 64)) (zero-at m (n * 0 + (x - 1) / 64)) ∙ bit-none ((x - 1) % 64)
+    go x false = refl
+
+-- the row of k copied from that of j
+pub row-copied : (b : Bundle) (w v : List ℕ) (k j count : ℕ) → length (b .variables) ≡ count
+    → ((y : ℕ) → y < count → getD w (64 * k + y) 0 ≡ getD v (64 * j + y) 0) → (x : ℕ) → imageIn b w k x ≡ imageIn b v j x
+row-copied b w v k j count e same x = same-place b w v k j x (λ one few. same (x - 1) (omega (arith, e)))
+
+-- ---- what stays
+
+pub untouched-refl : (w m : List ℕ) (n k : ℕ) → Untouched w m w m n k
+untouched-refl w m n k = record { long-row = refl; long-set = refl; row = λ j h. refl; words = λ j h. refl }
+
+pub untouched-trans : (w m w′ m′ w″ m″ : List ℕ) (n k : ℕ) → Untouched w m w′ m′ n k → Untouched w′ m′ w″ m″ n k → Untouched w m w″ m″ n k
+untouched-trans w m w′ m′ w″ m″ n k p q = record {
+  long-row = q .long-row ∙ p .long-row;
+  long-set = q .long-set ∙ p .long-set;
+  row = λ j h. q .row j h ∙ p .row j h;
+  words = λ j h. q .words j h ∙ p .words j h;
+}
+
+module _ (b : Bundle) (w m w′ m′ : List ℕ) (n k : ℕ) (kept : Untouched w m w′ m′ n k) where
+  pub room-on : Room w m n k → Room w′ m′ n k
+  room-on r = record { row = omega (arith, r .row, kept .long-row); words = omega (arith, r .words, kept .long-set) }
+
+  pub row-kept : (j x : ℕ) → j < k → length (b .variables) ≤ 64 → imageIn b w′ j x ≡ imageIn b w j x
+  row-kept j x h few = same-place b w′ w j j x (λ one low. kept .row (64 * j + (x - 1)) (omega arith))
+
+  pub set-kept : (j x : ℕ) → j < k → member m′ (n * j) n x ≡ member m (n * j) n x
+  set-kept j x h =
+      let fits : n * (suc j - 1) + n ≤ n * k = record-within n k (suc j) (λ z. omega arith) h in
+      let p : suc j - 1 ≡ j = omega arith in
+      let fits′ : n * j + n ≤ n * k = rw p at fits in
+      member-same m′ m (n * j) n (λ i l. kept .words (n * j + i) (omega arith)) x
+
+-- ---- one image set
+
+cond-eqb : (x y : ℕ) (p : Bool) → eqb x y ≡ p → Dec (x ≡ y)
+cond-eqb x y true e = yes (eqb-true x y e)
+cond-eqb x y false e = no (λ q. false≢true (sym e ∙ eq-eqb x y q))
+
+module _ (b : Bundle) (w : List ℕ) (k x t : ℕ) (one : 1 ≤ x) (few : x ≤ length (b .variables)) (small : length (b .variables) ≤ 64) (room : 64 * (k + 1) ≤ length w) where
+  pub image-set : (y : ℕ) → imageIn b (set w (64 * k + (x - 1)) t) k y ≡ cond (eqb x y) (asImage t) (imageIn b w k y)
+  image-set y = go (ℕ-discrete x y)
+    where
+      go : Dec (x ≡ y) → imageIn b (set w (64 * k + (x - 1)) t) k y ≡ cond (eqb x y) (asImage t) (imageIn b w k y)
+      go (yes q) =
+          rw (eq-eqb x y q, ← q)
+          (image-some (length (b .variables)) (set w (64 * k + (x - 1)) t) k x one few ∙ ap asImage (getD-set-same w (64 * k + (x - 1)) t 0 (omega arith)))
+      go (no q) =
+          rw (ne-eqb x y q)
+          (same-place b (set w (64 * k + (x - 1)) t) w k k y (λ first low. getD-set-other w (64 * k + (x - 1)) (64 * k + (y - 1)) t 0 (λ z. q (omega arith))))
+
+  module _ (m m′ : List ℕ) (n : ℕ) (words : n * k + n ≤ length m) (bits : length (b .variables) ≤ 64 * n) (agrees : Agrees b w m n k) (moves : Bool) (same : moves ≡ movedBy b (asImage t) x) where
+    held : holds n x ≡ true
+    held = holds-small n x one (omega arith)
+
+    -- the set as the code leaves it
+    abbrev left-set : Bool → List ℕ
+    left-set p = cond p (inserted m (n * k) n x) (removed m (n * k) n x)
+
+    in-set : (p : Bool) (y : ℕ) → member (left-set p) (n * k) n y ≡ cond (eqb y x) p (member m (n * k) n y)
+    in-set true y = member-inserted m (n * k) n x words held y ∙ go (eqb y x)
+      where
+        go : (q : Bool) → (q || member m (n * k) n y) ≡ cond q true (member m (n * k) n y)
+        go true = refl
+        go false = refl
+    in-set false y = member-removed m (n * k) n x words held y ∙ go (eqb y x)
+      where
+        go : (q : Bool) → (not q && member m (n * k) n y) ≡ cond q false (member m (n * k) n y)
+        go true = refl
+        go false = refl
+
+    set-out : (p : Bool) (j : ℕ) → j < n * k → getD (left-set p) j 0 ≡ getD m j 0
+    set-out true j h = changed-out withBit m (n * k) n x j (inl h)
+    set-out false j h = changed-out withoutBit m (n * k) n x j (inl h)
+
+    set-long : (p : Bool) → length (left-set p) ≡ length m
+    set-long true = changed-length withBit m (n * k) n x
+    set-long false = changed-length withoutBit m (n * k) n x
+
+    pub entered-set : m′ ≡ left-set moves → Entered b w m (set w (64 * k + (x - 1)) t) m′ n k (λ y i. cond (eqb x y) (asImage t) i)
+    entered-set e = rw e (record {
+      lower = record {
+        long-row = length-set w (64 * k + (x - 1)) t;
+        long-set = set-long moves;
+        row = λ j h. getD-set-other w (64 * k + (x - 1)) j t 0 (λ z. omega arith);
+        words = set-out moves;
+      };
+      images = image-set;
+      agrees = λ y. in-set moves y ∙ agree y (ℕ-discrete x y);
+    })
+      where
+        agree : (y : ℕ) → Dec (x ≡ y) → cond (eqb y x) moves (member m (n * k) n y) ≡ movedBy b (imageIn b (set w (64 * k + (x - 1)) t) k y) y
+        agree y (yes q) = rw (image-set y, eq-eqb x y q, eq-eqb y x (sym q)) (same ∙ ap (movedBy b (asImage t)) q)
+        agree y (no q) = rw (image-set y, ne-eqb x y q, ne-eqb y x (λ r. q (sym r))) (agrees y)
+
+-- ---- a list of variables replaced
+
+-- a variable that is not in the list is not looked up there
+lookup-none : (vs ts : List ℕ) (x : ℕ) → has x vs ≡ false → lookup vs ts x ≡ Absent
+unfolding lookup has
+lookup-none [] ts x e = refl
+lookup-none (v ∷ vs) [] x e = refl
+lookup-none (v ∷ vs) (t ∷ ts) x e = go (ℕ-discrete v x) (lookup-none vs ts x)
+  where
+    tail : (p : Bool) → (p || has x vs) ≡ false → has x vs ≡ false
+    tail true f = absurd (false≢true (sym f))
+    tail false f = f
+
+    head : (p : Bool) → (p || has x vs) ≡ false → p ≡ false
+    head true f = f
+    head false f = refl
+
+    go : Dec (v ≡ x) → (has x vs ≡ false → lookup vs ts x ≡ Absent) → cond (eqb v x) (Replaced t) (lookup vs ts x) ≡ Absent
+    go (yes q) ih = absurd (false≢true (sym (head (eqb x v) e) ∙ eq-eqb x v (sym q)))
+    go (no q) ih = rw (ne-eqb v x q) (ih (tail (eqb x v) e))
+
+not-has : (x : ℕ) (vs : List ℕ) → different (x ∷ vs) ≡ true → has x vs ≡ false
+unfolding different
+not-has x vs e = go (has x vs) (and-left (not (has x vs)) (different vs) e)
+  where
+    go : (p : Bool) → not p ≡ true → p ≡ false
+    go true f = absurd (false≢true f)
+    go false f = refl
+
+pub different-rest : (x : ℕ) (vs : List ℕ) → different (x ∷ vs) ≡ true → different vs ≡ true
+unfolding different
+different-rest x vs e = and-right (not (has x vs)) (different vs) e
+
+-- what is left to replace, over the images so far, makes up the whole: one turn
+pub replacing-on : (x t : ℕ) (vs ts : List ℕ) (old new : ℕ → Image) → different (x ∷ vs) ≡ true → (t ≡ 0 → ⊥)
+    → ((y : ℕ) → new y ≡ cond (eqb x y) (asImage t) (old y)) → (y : ℕ) → first (lookup vs ts y) (new y) ≡ first (lookup (x ∷ vs) (t ∷ ts) y) (old y)
+unfolding lookup first
+replacing-on x t vs ts old new diff some set y = go (ℕ-discrete x y)
+  where
+    go : Dec (x ≡ y) → first (lookup vs ts y) (new y) ≡ first (cond (eqb x y) (Replaced t) (lookup vs ts y)) (old y)
+    go (yes q) =
+        rw (set y, eq-eqb x y q, as-gives t some)
+        (ap (λ (m : Mention). first m (Gives t)) (lookup-none vs ts y (ap (λ (z : ℕ). has z vs) (sym q) ∙ not-has x vs diff)))
+    go (no q) = rw (set y, ne-eqb x y q)
+
+-- ---- moved variables
+
+pub moved-inside : (b : Bundle) (w : List ℕ) (k x : ℕ) → imageIn b w k x ≡ image b k x → moved b k x ≡ true → (1 ≤ x) × (x ≤ length (b .variables))
+unfolding moved movedBy
+moved-inside b w k x same e = go (ℕ-discrete x 0) (decLe x (length (b .variables)))
+  where
+    never : {A : Type 0} → imageIn b w k x ≡ Own → A
+    never own = absurd (false≢true (sym (ap (λ (i : Image). movedBy b i x) (sym same ∙ own)) ∙ e))
+
+    go : Dec (x ≡ 0) → Dec (x ≤ length (b .variables)) → (1 ≤ x) × (x ≤ length (b .variables))
+    go (yes q) d = never (image-zero (length (b .variables)) w k x q)
+    go (no q) (yes l) = (omega arith, l)
+    go (no q) (no l) = never (image-past (length (b .variables)) w k x (omega arith))
+
+-- ---- a context: the row and the set of its parent, then its own entry
+
+module _ (b : Bundle) (w m w′ m₁ m₂ : List ℕ) (n k p : ℕ) (lower : p < k) (room : Room w m n k) where
+  own-words : n * p + n ≤ n * k
+  own-words =
+      let q : suc p - 1 ≡ p = omega arith in
+      rw q at (record-within n k (suc p) (λ z. omega arith) lower)
+
+  pub parent-words : n * p + n ≤ n * k
+  parent-words = own-words
+
+  module _ (clear : m₁ ≡ cleared m (n * k) n) (unite : m₂ ≡ united m₁ (n * k) (n * p) n) where
+    long₁ : length m₁ ≡ length m
+    long₁ = rw clear (filled-length (λ i. 0) m (n * k) n)
+
+    long₂ : length m₂ ≡ length m₁
+    long₂ = rw unite (filled-length (λ i. bitOr (getD m₁ (n * k + i) 0) (getD m₁ (n * p + i) 0)) m₁ (n * k) n)
+
+    out₁ : (j : ℕ) → j < n * k → getD m₁ j 0 ≡ getD m j 0
+    out₁ j h = rw clear (filled-out (λ i. 0) m (n * k) n j (inl h))
+
+    out₂ : (j : ℕ) → j < n * k → getD m₂ j 0 ≡ getD m₁ j 0
+    out₂ j h = rw unite (filled-out (λ i. bitOr (getD m₁ (n * k + i) 0) (getD m₁ (n * p + i) 0)) m₁ (n * k) n j (inl h))
+
+    pub inherited : length w′ ≡ length w → ((j : ℕ) → j < 64 * k → getD w′ j 0 ≡ getD w j 0) → Untouched w m w′ m₂ n k
+    inherited long row = record { long-row = long; long-set = long₂ ∙ long₁; row = row; words = λ j h. out₂ j h ∙ out₁ j h }
+
+    pub set-copied : (x : ℕ) → member m₂ (n * k) n x ≡ member m (n * p) n x
+    set-copied x =
+        ap (λ (v : List ℕ). member v (n * k) n x) unite
+        ∙ member-united m₁ (n * k) (n * p) n (omega (arith, room .words, long₁)) x
+        ∙ ap (λ (q : Bool). q || member m₁ (n * p) n x) (ap (λ (v : List ℕ). member v (n * k) n x) clear ∙ member-cleared m (n * k) n (room .words) x)
+        ∙ member-same m₁ m (n * p) n (λ i h. out₁ (n * p + i) (omega (arith, own-words))) x
+
+module _ (b : Bundle) (w m w′ m′ : List ℕ) (n k p : ℕ) (lower : p < k) (images : Images b w k) (sets : MovedSets b m n k)
+    (copied : (x : ℕ) → imageIn b w′ k x ≡ imageIn b w p x) where
+  pub agrees-copied : ((x : ℕ) → member m′ (n * k) n x ≡ member m (n * p) n x) → Agrees b w′ m′ n k
+  unfolding moved
+  agrees-copied same x = same x ∙ sets .same p x lower ∙ ap (λ (i : Image). movedBy b i x) (sym (copied x ∙ images .same p x lower))
+
+  module _ (w″ m″ : List ℕ) (room : Room w m n k) (few : length (b .variables) ≤ 64) (kept : Untouched w m w′ m′ n k) (f : ℕ → Image → Image)
+      (entered : Entered b w′ m′ w″ m″ n k f) (own : (x : ℕ) → f x (image b p x) ≡ image b k x) where
+    all : Untouched w m w″ m″ n k
+    all = untouched-trans w m w′ m′ w″ m″ n k kept (entered .lower)
+
+    here : (x : ℕ) → imageIn b w″ k x ≡ image b k x
+    here x = entered .images x ∙ ap (f x) (copied x ∙ images .same p x lower) ∙ own x
+
+    pub images-on : Images b w″ (k + 1)
+    images-on = record { long = omega (arith, room .row, all .long-row); same = λ j x h. go j x (ℕ-discrete j k) h }
+      where
+        go : (j x : ℕ) → Dec (j ≡ k) → j < k + 1 → imageIn b w″ j x ≡ image b j x
+        go j x (yes q) h = rw q (here x)
+        go j x (no q) h = row-kept b w m w″ m″ n k all j x (omega arith) few ∙ images .same j x (omega arith)
+
+    pub sets-on : MovedSets b m″ n (k + 1)
+    unfolding moved
+    sets-on = record {
+      long = omega (arith, room .words, all .long-set, distrib n k);
+      same = λ j x h. go j x (ℕ-discrete j k) h;
+      few = λ j x h. inside j x (ℕ-discrete j k) h;
+    }
+      where
+        distrib : (n k : ℕ) → n * (k + 1) ≡ n * k + n
+        distrib n k = omega arith
+
+        go : (j x : ℕ) → Dec (j ≡ k) → j < k + 1 → member m″ (n * j) n x ≡ moved b j x
+        go j x (yes q) h = rw q (entered .agrees x ∙ ap (λ (i : Image). movedBy b i x) (here x))
+        go j x (no q) h = set-kept b w m w″ m″ n k all j x (omega arith) ∙ sets .same j x (omega arith)
+
+        inside : (j x : ℕ) → Dec (j ≡ k) → j < k + 1 → moved b j x ≡ true → (1 ≤ x) × (x ≤ length (b .variables))
+        inside j x (yes q) h e = moved-inside b w″ k x (here x) (rw q at e)
+        inside j x (no q) h e = sets .few j x (omega arith) e
+
+-- ---- settled terms
+
+module _ (b : Bundle) (w m : List ℕ) (at n k t : ℕ) (free : (x : ℕ) → member w at n x ≡ freeAt b t x) (sets : MovedSets b m n (k + 1)) where
+  pub apart-settled : ((j : ℕ) → getD w (at + j) 0 < 2 ^ 64) → disjointOf w at m (n * k) n ≡ settled b k t
+  unfolding settled settledFor
+  apart-settled words =
+      both-ways (disjointOf w at m (n * k) n) (settled b k t)
+      (λ e. up-to-all (length (b .variables)) (λ x. not (freeAt b t x) || not (moved b k x)) (λ x one few. apart (freeAt b t x) (moved b k x) (rw (← free x, ← sets .same k x (omega arith)) (disjoint-none w at m (n * k) n e x))))
+      (λ e. none-disjoint w at m (n * k) n words (λ u. rw (free u, sets .same k u (omega arith)) (common e u (freeAt b t u) refl (moved b k u) refl)))
+    where
+      apart : (p q : Bool) → (p && q) ≡ false → (not p || not q) ≡ true
+      apart true true e = absurd (false≢true (sym e))
+      apart true false e = refl
+      apart false q e = refl
+
+      common : upTo (length (b .variables)) (λ x. not (freeAt b t x) || not (moved b k x)) ≡ true → (u : ℕ) → (p : Bool) → freeAt b t u ≡ p → (q : Bool) → moved b k u ≡ q → (p && q) ≡ false
+      common e u true d true f =
+          let h = sets .few k u (omega arith) f in
+          absurd (false≢true (rw (d, f) at (up-to (length (b .variables)) (λ x. not (freeAt b t x) || not (moved b k x)) e u (h .0) (h .1))))
+      common e u true d false f = refl
+      common e u false d q f = refl

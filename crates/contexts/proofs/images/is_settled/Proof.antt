@@ -1,0 +1,47 @@
+-- `images::is_settled` meets its contract: the set of the term and that of the context have nothing in common.
+use native.Mathlib.Omega.{arith}
+use mathlib.Core.Path.{sym, _∙_}
+use lib.ListN.{length}
+use Rattle.contexts.proofs.FreeWords.{settled-zero, settled-past, settled-some, set-within, row-within}
+use borrow.Author.Needs.{needs}
+use Rattle.contexts.proofs.images.is_settled.Statement.{statement}
+use Rattle.contexts.proofs.images.is_settled.Tie as tie
+
+returns : tie.Need-returns
+returns c = sym (settled-zero _ _ _ _ _ _ (c .if1 .taken))
+
+returns-2 : tie.Need-returns-2
+returns-2 c = sym (settled-past _ _ _ _ _ _ (c .if2 .taken))
+
+sub-disjoint : tie.Need-sub-disjoint
+sub-disjoint c = search needs
+
+mul-disjoint : tie.Need-mul-disjoint
+mul-disjoint c =
+    let a = c .before .before .before .before .before .args in
+    omega (arith, set-within (a .n) (a .b .terms) (a .t) (length (a .area .now)) (c .before .before .before .before .before .pre .0) (c .before .before .if1 .left) (c .if2 .left))
+
+mul-disjoint-2 : tie.Need-mul-disjoint-2
+mul-disjoint-2 c =
+    let a = c .before .before .before .before .before .args in
+    omega (arith, row-within (a .n) (a .context) (length (a .moved .now)) (c .before .before .before .before .before .pre .1))
+
+disjoint-requires : tie.Need-disjoint-requires
+disjoint-requires c κs =
+    let p = c .before .before .before .before .before .pre in
+    (set-within _ _ _ _ (p .0) (c .before .before .if1 .left) (c .if2 .left), row-within _ _ _ (p .1))
+
+returns-3 : tie.Need-returns-3
+returns-3 c = c .disjoint .ensures ∙ sym (settled-some _ _ _ _ _ _ (c .before .before .before .if1 .left) (c .before .if2 .left))
+
+pub is-settled-spec : {M : Type 1} → statement M
+is-settled-spec =
+    tie.close
+    (tie.spec
+    returns
+    returns-2
+    sub-disjoint
+    mul-disjoint
+    mul-disjoint-2
+    disjoint-requires
+    returns-3)

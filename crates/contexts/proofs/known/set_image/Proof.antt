@@ -1,0 +1,90 @@
+-- `known::set_image` meets its contract: one place of the row written, and one bit of the set.
+use native.Mathlib.Omega.{arith}
+use mathlib.Core.Path.{_≡_}
+use Prim.Native.Nat.{_+_, _*_, _-_, _≤_, _<_}
+use lib.ListN.{length}
+use Rattle.bundle.specs.File.{bundleAt}
+use Rattle.bundle.proofs.Fields.{variables-length}
+use Rattle.contexts.proofs.KnownRows.{entered-set}
+use borrow.Author.Needs.{needs}
+use Rattle.contexts.proofs.known.set_image.Statement.{statement}
+use Rattle.contexts.proofs.known.set_image.Tie as tie
+
+cast-images : tie.Need-cast-images
+cast-images c = omega (arith, c .before .before .before .pre .0 .within .terms)
+
+mul-images : tie.Need-mul-images
+mul-images c = search needs
+
+sub-images : tie.Need-sub-images
+sub-images c = search needs
+
+add-images : tie.Need-add-images
+add-images c = omega (arith, c .before .before .before .pre .0 .within .variables, c .before .before .before .pre .1 .row)
+
+mul-images-2 : tie.Need-mul-images-2
+mul-images-2 c = omega (arith, c .before .before .before .pre .0 .within .variables, c .before .before .before .pre .1 .row)
+
+slice-write-images : tie.Need-slice-write-images
+slice-write-images c = omega (arith, c .before .before .before .pre .0 .within .variables, c .before .before .before .pre .1 .row)
+
+mul-insert : tie.Need-mul-insert
+mul-insert c = omega (arith, c .before .before .before .before .before .pre .1 .words)
+
+insert-requires : tie.Need-insert-requires
+insert-requires c κs = c .before .before .before .before .before .pre .1 .words
+
+mul-remove : tie.Need-mul-remove
+mul-remove c = omega (arith, c .before .before .before .before .before .pre .1 .words)
+
+remove-requires : tie.Need-remove-requires
+remove-requires c κs = c .before .before .before .before .before .pre .1 .words
+
+same-length : tie.Need-same-length
+same-length c = search needs
+
+same-length-2 : tie.Need-same-length-2
+same-length-2 c = search needs
+
+returns : tie.Need-returns
+returns c =
+    let a = c .before .before .before .before .before .before .before .before .args in
+    let p = c .before .before .before .before .before .before .before .before .pre in
+    let v = variables-length (a .file .now) (a .b) in
+    entered-set (bundleAt (a .file .now) (a .b)) (a .images .now) (a .k) (a .x) (a .t) (p .2) (omega (arith, v, p .3)) (omega (arith, v, p .0 .within .variables)) (p .1 .row)
+    (a .moved .now) (c .before .before .insert .last .0) (a .n) (p .1 .words) (omega (arith, v, p .4)) (p .7) (a .moves) (p .6) (rw (c .before .before .before .before .if1 .taken) (c .before .before .insert .ensures))
+
+same-length-3 : tie.Need-same-length-3
+same-length-3 c = search needs
+
+same-length-4 : tie.Need-same-length-4
+same-length-4 c = search needs
+
+returns-2 : tie.Need-returns-2
+returns-2 c =
+    let a = c .before .before .before .before .before .before .before .before .args in
+    let p = c .before .before .before .before .before .before .before .before .pre in
+    let v = variables-length (a .file .now) (a .b) in
+    entered-set (bundleAt (a .file .now) (a .b)) (a .images .now) (a .k) (a .x) (a .t) (p .2) (omega (arith, v, p .3)) (omega (arith, v, p .0 .within .variables)) (p .1 .row)
+    (a .moved .now) (c .before .before .remove .last .0) (a .n) (p .1 .words) (omega (arith, v, p .4)) (p .7) (a .moves) (p .6) (rw (c .before .before .before .before .if1 .left) (c .before .before .remove .ensures))
+
+pub set-image-spec : {M : Type 1} → statement M
+set-image-spec =
+    tie.close
+    (tie.spec
+    cast-images
+    mul-images
+    sub-images
+    add-images
+    mul-images-2
+    slice-write-images
+    mul-insert
+    insert-requires
+    mul-remove
+    remove-requires
+    same-length
+    same-length-2
+    returns
+    same-length-3
+    same-length-4
+    returns-2)

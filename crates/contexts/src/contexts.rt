@@ -1,0 +1,130 @@
+// Checks 10 and 11 of a context.
+ghost use mathlib.Core.Path.{_≡_};
+ghost use mathlib.Core.Bool.{true};
+ghost use Prim.Native.Nat.{_+_, _*_, _≤_};
+ghost use lib.ListN.{length};
+ghost use Rattle.bundle.specs.Links.{items};
+ghost use Rattle.bundle.specs.Lists.{each};
+ghost use Rattle.bundle.specs.File.{Whole, bundleAt};
+ghost use Rattle.logic.specs.Contexts.{settled, contextRefers, replacementsSettled, contextFault, contextsFault};
+ghost use Rattle.free_variables.specs.FreeSets.{FreeSets};
+ghost use Rattle.contexts.specs.Known.{Images, MovedSets};
+use super::images::is_settled;
+use super::known::enter;
+use bundle::Bundle;
+use bundle::lists::all_numbers;
+use bundle::lists::first_link;
+use bundle::lists::next_link;
+use bundle::records::context_field;
+use bundle::records::link_field;
+use logic::Fault;
+use logic::no_fault;
+use sorting::sorts::lists_agree;
+
+// 10: whether the kind of context i is one, its unused field is zero, its lists agree, and it refers to variables, terms and a lower context.
+fn context_refers(file: &[u8], b: Bundle, i: usize) -> bool
+    requires { ⌜ Whole (now file) b ⌝ }
+    ensures { λ r. ⌜ r ≡ contextRefers (bundleAt (now (file .entry)) b) i ⌝ }
+{
+    let kind = context_field(file, b, i, 0);
+    let first = context_field(file, b, i, 1);
+    let second = context_field(file, b, i, 2);
+    let parent = context_field(file, b, i, 3);
+    let links = b.links;
+    let variables = b.variables;
+    if kind == 1 {
+        return (0 < first) & (first <= variables) & (second == 0) & (parent < i);
+    }
+    if kind == 2 {
+        let replaced = all_numbers(file, b, first, variables);
+        let terms = all_numbers(file, b, second, b.terms);
+        let agree = lists_agree(file, b, first, second);
+        return (first <= links) & replaced & (second <= links) & terms & agree & (parent < i);
+    }
+    false
+}
+
+// Whether each term of a list is settled in a context.
+fn all_settled(
+    file: &[u8],
+    b: Bundle,
+    area: &[u64],
+    n: usize,
+    moved: &[u64],
+    context: usize,
+    terms: usize,
+) -> bool
+    requires { ⌜ Whole (now file) b × FreeSets (now area) n (bundleAt (now file) b) × MovedSets (bundleAt (now file) b) (now moved) n (context + 1) ⌝ }
+    ensures { λ r. ⌜ r ≡ each (settled (bundleAt (now (file .entry)) b) context) (items (bundleAt (now (file .entry)) b) terms) ⌝ }
+{
+    let mut i = first_link(b, terms);
+    while i != 0 {
+        let t = link_field(file, b, i, 0);
+        if !is_settled(b, area, n, moved, context, t) {
+            return false;
+        }
+        i = next_link(file, b, i);
+    }
+    true
+}
+
+// 11: whether the terms of context i, if it replaces, are settled in its parent.
+fn replacements_settled(
+    file: &[u8],
+    b: Bundle,
+    area: &[u64],
+    n: usize,
+    moved: &[u64],
+    i: usize,
+) -> bool
+    requires { ⌜ Whole (now file) b × FreeSets (now area) n (bundleAt (now file) b) × MovedSets (bundleAt (now file) b) (now moved) n i × (contextRefers (bundleAt (now file) b) i ≡ true) ⌝ }
+    ensures { λ r. ⌜ r ≡ replacementsSettled (bundleAt (now (file .entry)) b) i ⌝ }
+{
+    let kind = context_field(file, b, i, 0);
+    let terms = context_field(file, b, i, 2);
+    let parent = context_field(file, b, i, 3);
+    if kind == 2 {
+        return all_settled(file, b, area, n, moved, parent, terms);
+    }
+    true
+}
+
+// What is wrong with context i.
+fn context_fault(file: &[u8], b: Bundle, area: &[u64], n: usize, moved: &[u64], i: usize) -> usize
+    requires { ⌜ Whole (now file) b × FreeSets (now area) n (bundleAt (now file) b) × MovedSets (bundleAt (now file) b) (now moved) n i ⌝ }
+    ensures { λ r. ⌜ r ≡ contextFault (bundleAt (now (file .entry)) b) i ⌝ }
+{
+    if !context_refers(file, b, i) {
+        return 10;
+    }
+    if !replacements_settled(file, b, area, n, moved, i) {
+        return 11;
+    }
+    0
+}
+
+// The first bad context. Where there is none, all that is to be known of contexts is written.
+pub fn contexts_fault(
+    file: &[u8],
+    b: Bundle,
+    area: &[u64],
+    n: usize,
+    images: &mut [u16],
+    moved: &mut [u64],
+) -> Fault
+    requires { ⌜ Whole (now file) b × FreeSets (now area) n (bundleAt (now file) b) × (b .variables ≤ 64 * n) × (64 * (b .contexts + 1) ≤ length (now images)) × (n * (b .contexts + 1) ≤ length (now moved)) × Images (bundleAt (now file) b) (now images) 1 × MovedSets (bundleAt (now file) b) (now moved) n 1 ⌝ }
+    ensures { λ r. ⌜ r ≡ contextsFault (bundleAt (now (file .entry)) b) ⌝ }
+    ensures { λ r. ⌜ (r .number ≡ 0 → Images (bundleAt (now (file .entry)) b) (now (images .exit)) (b .contexts + 1) × MovedSets (bundleAt (now (file .entry)) b) (now (moved .exit)) n (b .contexts + 1)) ⌝ }
+{
+    let contexts = b.contexts;
+    let mut i = 1;
+    while i <= contexts {
+        let number = context_fault(file, b, area, n, moved, i);
+        if number != 0 {
+            return Fault { number, record: i };
+        }
+        enter(file, b, images, moved, n, i);
+        i += 1;
+    }
+    no_fault()
+}

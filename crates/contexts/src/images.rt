@@ -1,0 +1,81 @@
+// Images of variables in contexts, free variables, settled terms: as the lent memory has them, whatever it holds.
+ghost use mathlib.Core.Path.{_≡_};
+ghost use Prim.Native.Nat.{ℕ, _+_, _*_, _≤_};
+ghost use lib.ListN.{length};
+ghost use Rattle.bundle.specs.File.{Whole, bundleAt};
+ghost use Rattle.logic.specs.Contexts.{isVariable};
+ghost use Rattle.contexts.specs.Known.{imageAt};
+ghost use Rattle.contexts.specs.Lent.{freeIn, settledIn};
+use bundle::Bundle;
+use bundle::records::term_field;
+use logic::Image;
+
+// A place of the table of images as a number.
+fn wide(x: u16) -> usize
+    ensures { λ r. ⌜ r ≡ x ⌝ }
+{
+    x as usize
+}
+
+// The image of variable x in a context.
+pub fn image_of(b: Bundle, images: &[u16], context: usize, x: usize) -> Image
+    requires { ⌜ (b .variables ≤ 64) × (64 * (context + 1) ≤ length (now images)) ⌝ }
+    ensures { λ r. ⌜ r ≡ imageAt (b .variables) (now (images .entry)) context x ⌝ }
+{
+    if x == 0 {
+        return Image::Own;
+    }
+    if x > b.variables {
+        return Image::Own;
+    }
+    let t = wide(images[Bundle::VARIABLES * context + (x - 1)]);
+    if t == 0 {
+        return Image::Own;
+    }
+    Image::Gives(t)
+}
+
+// Whether term t is the variable x.
+pub fn is_variable(file: &[u8], b: Bundle, t: usize, x: usize) -> bool
+    requires { ⌜ Whole (now file) b ⌝ }
+    ensures { λ r. ⌜ r ≡ isVariable (bundleAt (now (file .entry)) b) t x ⌝ }
+{
+    let kind = term_field(file, b, t, 0);
+    let a = term_field(file, b, t, 1);
+    (kind == 1) & (a == x)
+}
+
+// Whether variable v is free in term t. A number that is no term's has no free variables.
+pub fn is_free(b: Bundle, area: &[u64], n: usize, t: usize, v: usize) -> bool
+    requires { ⌜ n * b .terms ≤ length (now area) ⌝ }
+    ensures { λ r. ⌜ r ≡ freeIn (b .terms) (now (area .entry)) n t v ⌝ }
+{
+    if t == 0 {
+        return false;
+    }
+    if t > b.terms {
+        return false;
+    }
+    sets::member(area, n * (t - 1), n, v)
+}
+
+// Whether term t is settled in the context: no free variable of it is moved there.
+pub fn is_settled(
+    b: Bundle,
+    area: &[u64],
+    n: usize,
+    moved: &[u64],
+    context: usize,
+    t: usize,
+) -> bool
+    requires { ⌜ (n * b .terms ≤ length (now area)) × (n * (context + 1) ≤ length (now moved)) ⌝ }
+    ensures { λ r. ⌜ r ≡ settledIn (b .terms) (now (area .entry)) (now (moved .entry)) n context t ⌝ }
+{
+    if t == 0 {
+        return true;
+    }
+    if t > b.terms {
+        return true;
+    }
+    sets::disjoint(area, n * (t - 1), moved, n * context, n)
+}

@@ -1,0 +1,125 @@
+// What is known of each context, written once: the images of all variables, and the set of those that are moved. The row and the set of a
+// context start as its parent's; then its entry is written over them.
+ghost use mathlib.Core.Path.{_≡_};
+ghost use mathlib.Core.Bool.{Bool, true, cond};
+ghost use Prim.Native.Nat.{ℕ, _+_, _*_, _≤_, _<_};
+ghost use lib.ListN.{length, getD};
+ghost use lib.Dec.{eqb};
+ghost use Rattle.bundle.specs.Links.{items};
+ghost use Rattle.bundle.specs.Lists.{numbers, each, different};
+ghost use Rattle.bundle.specs.File.{Whole, bundleAt};
+ghost use Rattle.sets.specs.Sets.{member};
+ghost use Rattle.logic.specs.declared.Image.{Image};
+ghost use Rattle.logic.specs.Contexts.{lookup, first, movedBy, contextRefers};
+ghost use Rattle.contexts.specs.Known.{asImage, imageIn, Images, MovedSets, Room, Untouched, Agrees, Entered};
+use super::images::is_variable;
+use bundle::Bundle;
+use bundle::lists::first_link;
+use bundle::lists::next_link;
+use bundle::records::context_field;
+use bundle::records::link_field;
+
+// Copies the first `count` places of the row that starts at `from` to that which starts at `to`.
+fn copy_row(images: &mut [u16], from: usize, to: usize, count: usize)
+    requires { ⌜ (from + count ≤ to) × (to + count ≤ length (now images)) ⌝ }
+    ensures { λ _. ⌜ (length (now (images .exit)) ≡ length (now (images .entry))) × ((x : ℕ) → x < count → getD (now (images .exit)) (to + x) 0 ≡ getD (now (images .entry)) (from + x) 0) × ((j : ℕ) → j < to → getD (now (images .exit)) j 0 ≡ getD (now (images .entry)) j 0) ⌝ }
+{
+    let mut x = 0;
+    while x < count {
+        images[to + x] = images[from + x];
+        x += 1;
+    }
+}
+
+// Gives context k the row and the set of its parent.
+fn inherit(
+    file: &[u8],
+    b: Bundle,
+    images: &mut [u16],
+    moved: &mut [u64],
+    n: usize,
+    k: usize,
+    parent: usize,
+)
+    requires { ⌜ Whole (now file) b × Room (now images) (now moved) n k × (parent < k) ⌝ }
+    ensures { λ _. ⌜ Untouched (now (images .entry)) (now (moved .entry)) (now (images .exit)) (now (moved .exit)) n k × ((x : ℕ) → imageIn (bundleAt (now (file .entry)) b) (now (images .exit)) k x ≡ imageIn (bundleAt (now (file .entry)) b) (now (images .entry)) parent x) × ((x : ℕ) → member (now (moved .exit)) (n * k) n x ≡ member (now (moved .entry)) (n * parent) n x) ⌝ }
+{
+    let count = b.variables;
+    copy_row(
+        images,
+        Bundle::VARIABLES * parent,
+        Bundle::VARIABLES * k,
+        count,
+    );
+    sets::clear(moved, n * k, n);
+    sets::unite(moved, n * k, n * parent, n);
+}
+
+// Sets the image of variable x in context k to the term t, or with 0 to x itself.
+fn set_image(
+    file: &[u8],
+    b: Bundle,
+    images: &mut [u16],
+    moved: &mut [u64],
+    n: usize,
+    k: usize,
+    x: usize,
+    t: usize,
+    moves: bool,
+)
+    requires { ⌜ Whole (now file) b × Room (now images) (now moved) n k × (1 ≤ x) × (x ≤ b .variables) × (b .variables ≤ 64 * n) × (t ≤ b .terms) × (moves ≡ movedBy (bundleAt (now file) b) (asImage t) x) × Agrees (bundleAt (now file) b) (now images) (now moved) n k ⌝ }
+    ensures { λ _. ⌜ Entered (bundleAt (now (file .entry)) b) (now (images .entry)) (now (moved .entry)) (now (images .exit)) (now (moved .exit)) n k (λ y i. cond (eqb x y) (asImage t) i) ⌝ }
+{
+    images[Bundle::VARIABLES * k + (x - 1)] = t as u16;
+    if moves {
+        sets::insert(moved, n * k, n, x);
+    } else {
+        sets::remove(moved, n * k, n, x);
+    }
+}
+
+// Replaces the variables of a list by the terms of another, side by side, in context k.
+fn replace(
+    file: &[u8],
+    b: Bundle,
+    images: &mut [u16],
+    moved: &mut [u64],
+    n: usize,
+    k: usize,
+    variables: usize,
+    terms: usize,
+)
+    requires { ⌜ Whole (now file) b × Room (now images) (now moved) n k × (b .variables ≤ 64 * n) × (each (numbers (b .variables)) (items (bundleAt (now file) b) variables) ≡ true) × (each (numbers (b .terms)) (items (bundleAt (now file) b) terms) ≡ true) × (different (items (bundleAt (now file) b) variables) ≡ true) × Agrees (bundleAt (now file) b) (now images) (now moved) n k ⌝ }
+    ensures { λ _. ⌜ Entered (bundleAt (now (file .entry)) b) (now (images .entry)) (now (moved .entry)) (now (images .exit)) (now (moved .exit)) n k (λ x i. first (lookup (items (bundleAt (now (file .entry)) b) variables) (items (bundleAt (now (file .entry)) b) terms) x) i) ⌝ }
+{
+    let mut i = first_link(b, variables);
+    let mut j = first_link(b, terms);
+    while i != 0 {
+        if j == 0 {
+            return;
+        }
+        let x = link_field(file, b, i, 0);
+        let t = link_field(file, b, j, 0);
+        let own = is_variable(file, b, t, x);
+        set_image(file, b, images, moved, n, k, x, t, !own);
+        i = next_link(file, b, i);
+        j = next_link(file, b, j);
+    }
+}
+
+// Writes what is known of context k, where that of the lower ones is written.
+pub fn enter(file: &[u8], b: Bundle, images: &mut [u16], moved: &mut [u64], n: usize, k: usize)
+    requires { ⌜ Whole (now file) b × Images (bundleAt (now file) b) (now images) k × MovedSets (bundleAt (now file) b) (now moved) n k × Room (now images) (now moved) n k × (b .variables ≤ 64 * n) × (contextRefers (bundleAt (now file) b) k ≡ true) ⌝ }
+    ensures { λ _. ⌜ (length (now (images .exit)) ≡ length (now (images .entry))) × (length (now (moved .exit)) ≡ length (now (moved .entry))) × Images (bundleAt (now (file .entry)) b) (now (images .exit)) (k + 1) × MovedSets (bundleAt (now (file .entry)) b) (now (moved .exit)) n (k + 1) ⌝ }
+{
+    let kind = context_field(file, b, k, 0);
+    let first = context_field(file, b, k, 1);
+    let second = context_field(file, b, k, 2);
+    let parent = context_field(file, b, k, 3);
+    inherit(file, b, images, moved, n, k, parent);
+    if kind == 1 {
+        set_image(file, b, images, moved, n, k, first, 0, false);
+    } else {
+        replace(file, b, images, moved, n, k, first, second);
+    }
+}

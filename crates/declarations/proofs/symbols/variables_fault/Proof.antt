@@ -1,0 +1,62 @@
+-- `symbols::variables_fault` meets its contract. The invariant: the first bad variable of all is the first from variable i on.
+-- The measure is how many are left.
+use borrow.Author.Needs.{needs}
+use native.Mathlib.Omega.{arith}
+use Prim.Native.Nat.{_+_, _-_, _≤_}
+use mathlib.Core.Path.{_≡_, sym, _∙_}
+use Rattle.bundle.specs.File.{bundleAt}
+use Rattle.bundle.proofs.Fields.{variables-length}
+use Rattle.logic.specs.Checks.{variableFault, variablesFault}
+use Rattle.logic.proofs.Firsts.{restFault, rest-start, rest-on, rest-here, rest-end}
+use Rattle.declarations.proofs.symbols.variables_fault.Statement.{statement}
+use Rattle.declarations.proofs.symbols.variables_fault.Tie as tie
+
+abbrev Inv-loop : tie.InvT-loop
+Inv-loop file b variables i₀ i = (i ≤ variables + 1) × (variablesFault (bundleAt file b) ≡ restFault (variableFault (bundleAt file b)) variables i)
+
+abbrev μ-loop : tie.MeasureT-loop
+μ-loop file b variables i₀ i = variables + 1 - i
+
+loop-holds : tie.Need-loop-holds Inv-loop μ-loop
+unfolding variablesFault
+loop-holds c = (omega arith, rw variables-length (rest-start _ _))
+
+variable-fault-requires : tie.Need-variable-fault-requires Inv-loop μ-loop
+variable-fault-requires c κs = search needs
+
+returns : tie.Need-returns Inv-loop μ-loop
+returns c =
+    let l = c .before .before .before .loop in
+    sym (l .inv .1 ∙ rest-here _ _ _ (c .before .variable-fault .ensures) (c .before .before .loop-test .taken) (c .if1 .taken))
+
+add-i : tie.Need-add-i Inv-loop μ-loop
+add-i c = omega arith
+
+loop-less : tie.Need-loop-less Inv-loop μ-loop
+loop-less c = omega arith
+
+loop-again : tie.Need-loop-again Inv-loop μ-loop
+loop-again c =
+    let l = c .before .before .before .loop in
+    (omega arith, l .inv .1 ∙ rest-on _ _ _ (c .before .variable-fault .ensures) (c .before .before .loop-test .taken) (c .if1 .left))
+
+no-fault-requires : tie.Need-no-fault-requires Inv-loop μ-loop
+no-fault-requires c κs = search needs
+
+returns-2 : tie.Need-returns-2 Inv-loop μ-loop
+returns-2 c = c .no-fault .ensures ∙ sym (c .before .before .loop .inv .1 ∙ rest-end _ _ _ (c .before .loop-test .left))
+
+pub variables-fault-spec : {M : Type 1} → statement M
+variables-fault-spec =
+    tie.close
+    (tie.spec
+    Inv-loop
+    μ-loop
+    loop-holds
+    variable-fault-requires
+    returns
+    add-i
+    loop-less
+    loop-again
+    no-fault-requires
+    returns-2)

@@ -1,0 +1,99 @@
+-- `lookups::find_binder` meets its contract. The invariant: the walk stands at 0 or a term, `found` is the lowest match so far, and whatever else
+-- matches is on the chain from there. Chains fall, so the measure is where it stands.
+use borrow.Author.Needs.{needs}
+use mathlib.Core.Logic.{⊎-elim}
+use native.Mathlib.Omega.{arith}
+use Prim.Native.Nat.{ℕ, _+_, _≤_}
+use mathlib.Core.Path.{_≡_, sym, ap, _∙_}
+use lib.ListN.{getD}
+use Rattle.logic.specs.Terms.{Binder, binder, numberOf}
+use Rattle.logic.specs.Lookup.{sameBinder}
+use Rattle.filing.specs.Filing.{rootDigest}
+use Rattle.scratch.specs.Scratch.{bundleIn}
+use Rattle.scratch.proofs.ScratchFields.{terms-length}
+use Rattle.filing.proofs.Filed.{binder-digest, Sought, sought-start, sought-hit, sought-miss, sought-end}
+use Rattle.filing.proofs.lookups.find_binder.Statement.{statement}
+use Rattle.filing.proofs.lookups.find_binder.Tie as tie
+
+abbrev Inv-loop : tie.InvT-loop
+Inv-loop words c index d kind y body found₀ t₀ found t = (t ≤ c .terms) × ((q : Binder) → kind ≡ numberOf (binder q) → Sought (bundleIn words c) index (sameBinder q y body) t found)
+
+abbrev μ-loop : tie.MeasureT-loop
+μ-loop words c index d kind y body found₀ t₀ found t = t
+
+mul-wide : tie.Need-mul-wide Inv-loop μ-loop
+mul-wide c = search needs
+
+element-copy-out-wide : tie.Need-element-copy-out-wide Inv-loop μ-loop
+element-copy-out-wide c = search needs
+
+wide-requires : tie.Need-wide-requires Inv-loop μ-loop
+wide-requires c κs = search needs
+
+loop-holds : tie.Need-loop-holds Inv-loop μ-loop
+loop-holds c =
+    let a = c .before .before .before .args in
+    let e : c .wide .result ≡ getD (a .index .now) (a .d) 0 = c .wide .ensures in (
+      omega (arith, c .before .before .before .pre .1 .low (a .d) (c .before .before .before .pre .2), terms-length (a .words .now) (a .c)),
+      λ q f. sought-start (bundleIn (a .words .now) (a .c)) (a .index .now) (sameBinder q (a .y) (a .body)) (c .before .before .before .pre .1) (a .d) (c .wide .result) (c .before .before .before .pre .2)
+          (λ r t. binder-digest (bundleIn (a .words .now) (a .c)) q (a .y) (a .body) r t ∙ ap (λ (k : ℕ). rootDigest k (a .y)) (sym f) ∙ sym (c .before .before .before .pre .3)) e,
+    )
+
+is-binder-requires : tie.Need-is-binder-requires Inv-loop μ-loop
+is-binder-requires c κs = search needs
+
+add-wide : tie.Need-add-wide Inv-loop μ-loop
+add-wide c = omega (arith, c .before .before .before .loop .inv .0, c .before .before .before .before .before .before .before .pre .0 .within .terms)
+
+mul-wide-2 : tie.Need-mul-wide-2 Inv-loop μ-loop
+mul-wide-2 c = omega (arith, c .before .before .before .loop .inv .0, c .before .before .before .before .before .before .before .pre .0 .within .terms)
+
+element-copy-out-wide-2 : tie.Need-element-copy-out-wide-2 Inv-loop μ-loop
+element-copy-out-wide-2 c = omega (arith, c .before .before .before .loop .inv .0, c .before .before .before .before .before .before .before .pre .0 .within .terms)
+
+wide-requires-2 : tie.Need-wide-requires-2 Inv-loop μ-loop
+wide-requires-2 c κs = search needs
+
+loop-less : tie.Need-loop-less Inv-loop μ-loop
+loop-less c =
+    let a = c .before .before .before .before .before .before .before .before .before .args in
+    let l = c .before .before .before .before .before .loop in
+    let e : c .wide2 .result ≡ getD (a .index .now) (1024 + l .t) 0 = c .wide2 .ensures in
+    omega (arith, c .before .before .before .before .before .before .before .before .before .pre .1 .falls (l .t) (omega (arith, c .before .before .before .before .loop-test .taken)))
+
+loop-again : tie.Need-loop-again Inv-loop μ-loop
+loop-again c =
+    let a = c .before .before .before .before .before .before .before .before .before .args in
+    let l = c .before .before .before .before .before .loop in
+    let e : c .wide2 .result ≡ getD (a .index .now) (1024 + l .t) 0 = c .wide2 .ensures in (
+      omega (arith, l .inv .0, c .before .before .before .before .before .before .before .before .before .pre .1 .falls (l .t) (omega (arith, c .before .before .before .before .loop-test .taken))),
+      λ q f. ⊎-elim
+          (λ w. sought-hit (bundleIn (a .words .now) (a .c)) (a .index .now) (sameBinder q (a .y) (a .body)) (c .before .before .before .before .before .before .before .before .before .pre .1) (l .t) (l .found) (c .wide2 .result) (l .inv .1 q f) (c .before .before .before .before .loop-test .taken) e (c .before .before .before .is-binder .ensures q f) (c .before .before .if1 .found) (w .0 .taken) (w .1))
+          (λ w. sought-miss (bundleIn (a .words .now) (a .c)) (a .index .now) (sameBinder q (a .y) (a .body)) (c .before .before .before .before .before .before .before .before .before .pre .1) (l .t) (l .found) (c .wide2 .result) (l .inv .1 q f) (c .before .before .before .before .loop-test .taken) e (c .before .before .before .is-binder .ensures q f) (c .before .before .if1 .found) (w .0 .left) (w .1))
+          (c .before .before .if1 .came),
+    )
+
+returns : tie.Need-returns Inv-loop μ-loop
+returns c q f =
+    let a = c .before .before .before .before .before .args in
+    let l = c .before .loop in
+    sought-end (bundleIn (a .words .now) (a .c)) (a .index .now) (sameBinder q (a .y) (a .body)) (c .before .before .before .before .before .pre .1) (l .t) (l .found) (l .inv .1 q f) (c .loop-test .left)
+
+pub find-binder-spec : {M : Type 1} → statement M
+find-binder-spec =
+    tie.close
+    (tie.spec
+    Inv-loop
+    μ-loop
+    mul-wide
+    element-copy-out-wide
+    wide-requires
+    loop-holds
+    is-binder-requires
+    add-wide
+    mul-wide-2
+    element-copy-out-wide-2
+    wide-requires-2
+    loop-less
+    loop-again
+    returns)

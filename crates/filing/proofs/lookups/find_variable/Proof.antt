@@ -1,0 +1,97 @@
+-- `lookups::find_variable` meets its contract. The invariant: the walk stands at 0 or a term, `found` is the lowest match so far, and whatever else
+-- matches is on the chain from there. Chains fall, so the measure is where it stands.
+use borrow.Author.Needs.{needs}
+use mathlib.Core.Logic.{⊎-elim}
+use native.Mathlib.Omega.{arith}
+use Prim.Native.Nat.{_+_, _≤_}
+use mathlib.Core.Path.{_≡_, sym, _∙_}
+use lib.ListN.{getD}
+use Rattle.logic.specs.Lookup.{sameVariable}
+use Rattle.scratch.specs.Scratch.{bundleIn}
+use Rattle.scratch.proofs.ScratchFields.{terms-length}
+use Rattle.filing.proofs.Filed.{variable-digest, Sought, sought-start, sought-hit, sought-miss, sought-end}
+use Rattle.filing.proofs.lookups.find_variable.Statement.{statement}
+use Rattle.filing.proofs.lookups.find_variable.Tie as tie
+
+abbrev Inv-loop : tie.InvT-loop
+Inv-loop words c index d y found₀ t₀ found t = (t ≤ c .terms) × Sought (bundleIn words c) index (sameVariable y) t found
+
+abbrev μ-loop : tie.MeasureT-loop
+μ-loop words c index d y found₀ t₀ found t = t
+
+mul-wide : tie.Need-mul-wide Inv-loop μ-loop
+mul-wide c = search needs
+
+element-copy-out-wide : tie.Need-element-copy-out-wide Inv-loop μ-loop
+element-copy-out-wide c = search needs
+
+wide-requires : tie.Need-wide-requires Inv-loop μ-loop
+wide-requires c κs = search needs
+
+loop-holds : tie.Need-loop-holds Inv-loop μ-loop
+loop-holds c =
+    let a = c .before .before .before .args in
+    let e : c .wide .result ≡ getD (a .index .now) (a .d) 0 = c .wide .ensures in (
+      omega (arith, c .before .before .before .pre .1 .low (a .d) (c .before .before .before .pre .2), terms-length (a .words .now) (a .c)),
+      sought-start (bundleIn (a .words .now) (a .c)) (a .index .now) (sameVariable (a .y)) (c .before .before .before .pre .1) (a .d) (c .wide .result) (c .before .before .before .pre .2)
+          (λ r t. variable-digest (bundleIn (a .words .now) (a .c)) (a .y) r t ∙ sym (c .before .before .before .pre .3)) e,
+    )
+
+is-variable-requires : tie.Need-is-variable-requires Inv-loop μ-loop
+is-variable-requires c κs = search needs
+
+add-wide : tie.Need-add-wide Inv-loop μ-loop
+add-wide c = omega (arith, c .before .before .before .loop .inv .0, c .before .before .before .before .before .before .before .pre .0 .within .terms)
+
+mul-wide-2 : tie.Need-mul-wide-2 Inv-loop μ-loop
+mul-wide-2 c = omega (arith, c .before .before .before .loop .inv .0, c .before .before .before .before .before .before .before .pre .0 .within .terms)
+
+element-copy-out-wide-2 : tie.Need-element-copy-out-wide-2 Inv-loop μ-loop
+element-copy-out-wide-2 c = omega (arith, c .before .before .before .loop .inv .0, c .before .before .before .before .before .before .before .pre .0 .within .terms)
+
+wide-requires-2 : tie.Need-wide-requires-2 Inv-loop μ-loop
+wide-requires-2 c κs = search needs
+
+loop-less : tie.Need-loop-less Inv-loop μ-loop
+loop-less c =
+    let a = c .before .before .before .before .before .before .before .before .before .args in
+    let l = c .before .before .before .before .before .loop in
+    let e : c .wide2 .result ≡ getD (a .index .now) (1024 + l .t) 0 = c .wide2 .ensures in
+    omega (arith, c .before .before .before .before .before .before .before .before .before .pre .1 .falls (l .t) (omega (arith, c .before .before .before .before .loop-test .taken)))
+
+loop-again : tie.Need-loop-again Inv-loop μ-loop
+loop-again c =
+    let a = c .before .before .before .before .before .before .before .before .before .args in
+    let l = c .before .before .before .before .before .loop in
+    let e : c .wide2 .result ≡ getD (a .index .now) (1024 + l .t) 0 = c .wide2 .ensures in (
+      omega (arith, l .inv .0, c .before .before .before .before .before .before .before .before .before .pre .1 .falls (l .t) (omega (arith, c .before .before .before .before .loop-test .taken))),
+      ⊎-elim
+          (λ w. sought-hit (bundleIn (a .words .now) (a .c)) (a .index .now) (sameVariable (a .y)) (c .before .before .before .before .before .before .before .before .before .pre .1) (l .t) (l .found) (c .wide2 .result) (l .inv .1) (c .before .before .before .before .loop-test .taken) e (c .before .before .before .is-variable .ensures) (c .before .before .if1 .found) (w .0 .taken) (w .1))
+          (λ w. sought-miss (bundleIn (a .words .now) (a .c)) (a .index .now) (sameVariable (a .y)) (c .before .before .before .before .before .before .before .before .before .pre .1) (l .t) (l .found) (c .wide2 .result) (l .inv .1) (c .before .before .before .before .loop-test .taken) e (c .before .before .before .is-variable .ensures) (c .before .before .if1 .found) (w .0 .left) (w .1))
+          (c .before .before .if1 .came),
+    )
+
+returns : tie.Need-returns Inv-loop μ-loop
+returns c =
+    let a = c .before .before .before .before .before .args in
+    let l = c .before .loop in
+    sought-end (bundleIn (a .words .now) (a .c)) (a .index .now) (sameVariable (a .y)) (c .before .before .before .before .before .pre .1) (l .t) (l .found) (l .inv .1) (c .loop-test .left)
+
+pub find-variable-spec : {M : Type 1} → statement M
+find-variable-spec =
+    tie.close
+    (tie.spec
+    Inv-loop
+    μ-loop
+    mul-wide
+    element-copy-out-wide
+    wide-requires
+    loop-holds
+    is-variable-requires
+    add-wide
+    mul-wide-2
+    element-copy-out-wide-2
+    wide-requires-2
+    loop-less
+    loop-again
+    returns)

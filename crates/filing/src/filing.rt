@@ -1,0 +1,105 @@
+// Terms of the scratch filed by a digest, in an index: the newest term of each digest, then, from place 1024 on, the term before each term among
+// those with its digest; 0 for none. The digest is made of what terms are looked up by.
+ghost use mathlib.Core.Path.{_≡_};
+ghost use mathlib.Core.Bool.{true};
+ghost use Prim.Native.Nat.{_+_, _≤_, _<_};
+ghost use lib.ListN.{length, getD, set, replicate};
+ghost use Rattle.bundle.specs.Bundle.{termOf};
+ghost use Rattle.bundle.specs.Links.{items};
+ghost use Rattle.logic.specs.WellFormed.{TablesFormed};
+ghost use Rattle.scratch.specs.Scratch.{bundleIn, Roomy};
+ghost use Rattle.scratch.specs.Stack.{halves};
+ghost use Rattle.filing.specs.Filing.{mix, mixAll, rootDigest, digestOf, Indexed};
+use scratch::lists::half;
+use scratch::lists::next_link;
+use scratch::records::link_field;
+use scratch::records::term_field;
+use bundle::Bundle;
+use bundle::lists::first_link;
+
+// A digest and one number more.
+fn mixed(d: usize, x: usize) -> usize
+    requires { ⌜ (d < 1024) × (x ≤ 4294967295) ⌝ }
+    ensures { λ r. ⌜ (r ≡ mix d x) × (r < 1024) ⌝ }
+{
+    (d * 31 + x) % 1024
+}
+
+// The digest of a kind and a first field.
+pub fn root_digest(kind: usize, first: usize) -> usize
+    requires { ⌜ (kind ≤ 4294967295) × (first ≤ 4294967295) ⌝ }
+    ensures { λ r. ⌜ (r ≡ rootDigest kind first) × (r < 1024) ⌝ }
+{
+    let d = mixed(0, kind);
+    mixed(d, first)
+}
+
+// A digest and the results of the pairs from `from` to before `to`.
+pub fn mixed_results(d: usize, stack: &[u64], from: usize, to: usize) -> usize
+    requires { ⌜ (d < 1024) × (from ≤ to) × (to ≤ length (now stack)) ⌝ }
+    ensures { λ r. ⌜ (r ≡ mixAll d (halves true (now (stack .entry)) from to)) × (r < 1024) ⌝ }
+{
+    let mut sum = d;
+    let mut at = from;
+    while at < to {
+        let pair = stack[at];
+        let x = half(pair, true);
+        sum = mixed(sum, x);
+        at += 1;
+    }
+    sum
+}
+
+// A digest and the items of a list.
+fn mixed_items(words: &[u32], c: Bundle, d: usize, list: usize) -> usize
+    requires { ⌜ Roomy (now words) c × (d < 1024) ⌝ }
+    ensures { λ r. ⌜ (r ≡ mixAll d (items (bundleIn (now (words .entry)) c) list)) × (r < 1024) ⌝ }
+{
+    let mut sum = d;
+    let mut i = first_link(c, list);
+    while i != 0 {
+        let x = link_field(words, c, i, 0);
+        sum = mixed(sum, x);
+        i = next_link(words, c, i);
+    }
+    sum
+}
+
+// The digest of the record of term t.
+fn digest(words: &[u32], c: Bundle, t: usize) -> usize
+    requires { ⌜ Roomy (now words) c ⌝ }
+    ensures { λ r. ⌜ (r ≡ digestOf (bundleIn (now (words .entry)) c) (termOf (bundleIn (now (words .entry)) c) t)) × (r < 1024) ⌝ }
+{
+    let kind = term_field(words, c, t, 0);
+    let first = term_field(words, c, t, 1);
+    let second = term_field(words, c, t, 2);
+    let d = root_digest(kind, first);
+    if kind == 2 {
+        mixed_items(words, c, d, second)
+    } else {
+        d
+    }
+}
+
+// Files term t, whose digest is d.
+pub fn file_term(index: &mut [u16; 2049], d: usize, t: usize)
+    requires { ⌜ (d < 1024) × (1 ≤ t) × (t ≤ 1024) ⌝ }
+    ensures { λ _. ⌜ now (index .exit) ≡ set (set (now (index .entry)) (1024 + t) (getD (now (index .entry)) d 0)) d t ⌝ }
+{
+    index[1024 + t] = index[d];
+    index[d] = t as u16;
+}
+
+// Files all terms, where none is filed yet.
+pub fn file_terms(words: &[u32], c: Bundle, index: &mut [u16; 2049])
+    requires { ⌜ Roomy (now words) c × TablesFormed (bundleIn (now words) c) × (now index ≡ replicate 2049 0) ⌝ }
+    ensures { λ _. ⌜ Indexed (bundleIn (now (words .entry)) c) (now (index .exit)) ⌝ }
+{
+    let terms = c.terms;
+    let mut t = 1;
+    while t <= terms {
+        let d = digest(words, c, t);
+        file_term(index, d, t);
+        t += 1;
+    }
+}

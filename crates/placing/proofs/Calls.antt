@@ -1,0 +1,234 @@
+-- The outcome of each opener and closer, by the outcomes of its calls. In each law w and c are what the call before left.
+--     add-asks, fixed-asks, application-asks, binder-asks, fresh-asks     where a call was done: ready for more, and its number is a word
+--     no-list                                    the list of no value
+--     step-on, context-on, term-on               a step, a context, a term after its list
+--     step-full, context-full, term-full         the same where the list was full
+--     found-is                                   a term that the lookup found
+--     concluded-on, renaming-on                  a step, the contexts of a quantifier, after a term
+--     concluded-full, renaming-full              the same where the term was full
+--     leaf-own, leaf-gives                       the visit to a variable, by its image
+--     fresh-on, variable-full                    the term of a new variable; where there was no room for the variable
+--     fixed-full, listed-full, opened-on         the contexts of a quantifier, by its calls
+--     binder-of                                  the binder of a kind
+--     renaming-longer                            the contexts of a quantifier only append
+use mathlib.Core.Path.{_≡_, refl, sym, ap, subst, _∙_}
+use mathlib.Core.List.{List, [], _∷_}
+use Prim.Native.Nat.{ℕ, zero, suc, _≤_}
+use native.Mathlib.Decide.{decLe}
+use native.Mathlib.Omega.{arith}
+use lib.ListN.{length, length-append}
+use Rattle.bundle.specs.declared.Bundle.{Bundle as Counts}
+use Rattle.bundle.specs.Bundle.{Bundle, TermRecord, Context, sortOfVariable}
+use Rattle.logic.specs.declared.Image.the-variants.{Own, Gives}
+use Rattle.logic.specs.Terms.{Binder, forAll, exists, binder, numberOf}
+use Rattle.logic.specs.Contexts.{image}
+use Rattle.logic.specs.Lookup.{seek, sameVariable, sameApplication, sameBinder}
+use Rattle.logic.specs.Longer.{Longer, withVariables, withTerms, withContexts, withSteps, addList, listStart}
+use Rattle.logic.proofs.Longer.{longer-trans, list-longer, terms-longer, contexts-longer, steps-longer}
+use Rattle.scratch.specs.Scratch.{bundleIn}
+use Rattle.scratch.proofs.ScratchFields.{contexts-count}
+use Rattle.filing.proofs.Seeks.{seek-le}
+use Rattle.scratch.proofs.Pushed.{add-none}
+use Rattle.placing.specs.declared.Visited.{Visited}
+use Rattle.placing.specs.declared.Opened.{Opened}
+use Rattle.placing.specs.declared.Placed.{Placed}
+use Rattle.placing.specs.declared.Added.{Added}
+use Rattle.expansion.specs.Nodes.{leaf}
+use Rattle.expansion.specs.Visit.{Visit, placed, placeVariable, placeApplication, placeBinder, concluded, replacing, fixing, newVariable, fresh, renaming, visit}
+use Rattle.expansion.specs.Visit as unlimited
+use Rattle.placing.specs.Outcomes.{Ready, TooMuch, VisitOutcome, OpenOutcome, PlaceOutcome, AddOutcome}
+use Rattle.expansion.proofs.Grown.{variable-longer, replacing-longer, concluded-longer}
+use Rattle.placing.proofs.Closing.{add-is, place-is, add-done, place-done, open-done, add-full, place-full, open-full, variable-over, longer-over, start-word, placed-word}
+
+-- ---- one record appended
+
+abbrev pub stepped : Bundle → (rule context left right premises : ℕ) → Visit
+stepped b k x l r p = record {
+  bundle = withSteps b (record { rule = k; context = x; left = l; right = r; premises = p } ∷ []);
+  result = r;
+  step = suc (length (b .steps));
+}
+
+abbrev pub opened : Bundle → Context → unlimited.Opened
+opened b r = record { bundle = withContexts b (r ∷ []); context = suc (length (b .contexts)) }
+
+abbrev pub termed : Bundle → TermRecord → unlimited.Placed
+termed b r = record { bundle = withTerms b (r ∷ []); term = suc (length (b .terms)) }
+
+-- ---- the contexts of a quantifier only append
+
+listed-longer : (b : Bundle) (x y t v : ℕ) → Longer (addList (fixing b y v .bundle) (x ∷ [])) (renaming b x y t v .bundle)
+listed-longer b x y t v =
+    let f : unlimited.Opened = fixing b y v in
+    replacing-longer (addList (f .bundle) (x ∷ [])) (listStart (f .bundle) (x ∷ [])) (f .context) (t ∷ [])
+
+fixed-longer : (b : Bundle) (x y t v : ℕ) → Longer (fixing b y v .bundle) (renaming b x y t v .bundle)
+fixed-longer b x y t v = longer-trans (list-longer (fixing b y v .bundle) (x ∷ [])) (listed-longer b x y t v)
+
+pub renaming-longer : (b : Bundle) (x y t v : ℕ) → Longer b (renaming b x y t v .bundle)
+renaming-longer b x y t v = longer-trans (contexts-longer b _) (fixed-longer b x y t v)
+
+-- ---- after a list of values
+
+module _ {b : Bundle} {vs w : List ℕ} {a : Added} {c : Counts} {s : ℕ} (o : AddOutcome b vs w a) (e : a ≡ Added.Done c s) where
+  pub add-asks : Ready w c × (s ≤ 4294967295)
+  add-asks = let k = add-done o e in (k .0 .ready, omega (arith, k .1, start-word w c b vs (k .0)))
+
+  module _ {w′ : List ℕ} where
+    pub step-on : {r : Visited} (u x l t : ℕ) → VisitOutcome (stepped (bundleIn w c) u x l t s) w′ r → VisitOutcome (concluded b u x l t vs) w′ r
+    step-on {r} u x l t h =
+        let k = add-done o e in
+        subst (λ (n : ℕ). VisitOutcome (stepped (addList b vs) u x l t n) w′ r) (k .1)
+        (subst (λ (B : Bundle). VisitOutcome (stepped B u x l t s) w′ r) (k .0 .bundle) h)
+
+    pub context-on : {r : Opened} (x p : ℕ) → OpenOutcome (opened (bundleIn w c) (record { kind = 2; a = x; b = s; parent = p })) w′ r
+        → OpenOutcome (replacing b x p vs) w′ r
+    context-on {r} x p h =
+        let k = add-done o e in
+        subst (λ (n : ℕ). OpenOutcome (opened (addList b vs) (record { kind = 2; a = x; b = n; parent = p })) w′ r) (k .1)
+        (subst (λ (B : Bundle). OpenOutcome (opened B (record { kind = 2; a = x; b = s; parent = p })) w′ r) (k .0 .bundle) h)
+
+    -- m is what the lookup found: 0
+    pub term-on : {r : Placed} (f : ℕ → TermRecord) (n m : ℕ) → m ≡ n → m ≡ 0 → PlaceOutcome (termed (bundleIn w c) (f s)) w′ r
+        → PlaceOutcome (placed b vs f n) w′ r
+    term-on {r} f n m d z h =
+        let k = add-done o e in
+        subst (λ (i : ℕ). PlaceOutcome (placed b vs f i) w′ r) (sym z ∙ d)
+        (subst (λ (i : ℕ). PlaceOutcome (termed (addList b vs) (f i)) w′ r) (k .1)
+        (subst (λ (B : Bundle). PlaceOutcome (termed B (f s)) w′ r) (k .0 .bundle) h))
+
+module _ {b : Bundle} {vs w : List ℕ} {a : Added} (o : AddOutcome b vs w a) (e : a ≡ Added.Full) {w′ : List ℕ} where
+  pub step-full : (u x l t : ℕ) → VisitOutcome (concluded b u x l t vs) w′ Visited.Full
+  step-full u x l t = VisitOutcome.full (longer-over (steps-longer (addList b vs) _) (add-full o e)) refl
+
+  pub context-full : (x p : ℕ) → OpenOutcome (replacing b x p vs) w′ Opened.Full
+  context-full x p = OpenOutcome.full (longer-over (contexts-longer (addList b vs) _) (add-full o e)) refl
+
+  pub term-full : (f : ℕ → TermRecord) (n m : ℕ) → m ≡ n → m ≡ 0 → PlaceOutcome (placed b vs f n) w′ Placed.Full
+  term-full f n m d z =
+      subst (λ (i : ℕ). PlaceOutcome (placed b vs f i) w′ Placed.Full) (sym z ∙ d)
+      (PlaceOutcome.full (longer-over (terms-longer (addList b vs) _) (add-full o e)) refl)
+
+-- ---- no list, no new term
+
+pub no-list : {w : List ℕ} {c : Counts} → Ready w c → AddOutcome (bundleIn w c) [] w (Added.Done c 0)
+no-list {w} {c} r = add-is w c (r .room) (r .version) (bundleIn w c) [] 0 (sym (add-none (bundleIn w c))) refl
+
+-- m is what the lookup found, a term
+pub found-is : {w : List ℕ} {c : Counts} → Ready w c → (vs : List ℕ) (f : ℕ → TermRecord) (n m : ℕ) → m ≡ n → (m ≡ 0 → ⊥)
+    → PlaceOutcome (placed (bundleIn w c) vs f n) w (Placed.Done c m)
+found-is r vs f zero m e h = absurd (h e)
+found-is {w} {c} r vs f (suc n) m e h = place-is w c (r .room) (r .version) (placed (bundleIn w c) vs f (suc n)) m refl e
+
+-- ---- after a term
+
+module _ {p : unlimited.Placed} {w : List ℕ} {a : Placed} {c : Counts} {t : ℕ} (o : PlaceOutcome p w a) (e : a ≡ Placed.Done c t) {w′ : List ℕ} where
+  pub concluded-on : {r : Visited} (u x l : ℕ) (vs : List ℕ) → VisitOutcome (concluded (bundleIn w c) u x l t vs) w′ r
+      → VisitOutcome (concluded (p .bundle) u x l (p .term) vs) w′ r
+  concluded-on {r} u x l vs h =
+      let k = place-done o e in
+      subst (λ (n : ℕ). VisitOutcome (concluded (p .bundle) u x l n vs) w′ r) (k .1)
+      (subst (λ (B : Bundle). VisitOutcome (concluded B u x l t vs) w′ r) (k .0 .bundle) h)
+
+  pub renaming-on : {r : Opened} (x y z v : ℕ) → y ≡ z → OpenOutcome (renaming (bundleIn w c) x y t v) w′ r
+      → OpenOutcome (renaming (p .bundle) x z (p .term) v) w′ r
+  renaming-on {r} x y z v d h =
+      let k = place-done o e in
+      subst (λ (i : ℕ). OpenOutcome (renaming (p .bundle) x i (p .term) v) w′ r) d
+      (subst (λ (i : ℕ). OpenOutcome (renaming (p .bundle) x y i v) w′ r) (k .1)
+      (subst (λ (B : Bundle). OpenOutcome (renaming B x y t v) w′ r) (k .0 .bundle) h))
+
+module _ {p : unlimited.Placed} {w : List ℕ} {a : Placed} (o : PlaceOutcome p w a) (e : a ≡ Placed.Full) {w′ : List ℕ} where
+  pub concluded-full : (u x l t : ℕ) (vs : List ℕ) → VisitOutcome (concluded (p .bundle) u x l t vs) w′ Visited.Full
+  concluded-full u x l t vs = VisitOutcome.full (longer-over (concluded-longer (p .bundle) u x l t vs) (place-full o e)) refl
+
+  pub renaming-full : (x y t v : ℕ) → OpenOutcome (renaming (p .bundle) x y t v) w′ Opened.Full
+  renaming-full x y t v = OpenOutcome.full (longer-over (renaming-longer (p .bundle) x y t v) (place-full o e)) refl
+
+-- ---- Variable
+
+module _ (b : Bundle) (x t y : ℕ) {w : List ℕ} {r : Visited} where
+  pub leaf-own : image b x y ≡ Own → VisitOutcome (concluded b 1 x t t []) w r → VisitOutcome (visit (leaf t y) x b) w r
+  unfolding visit
+  leaf-own e o = rw e o
+
+  pub leaf-gives : (s : ℕ) → image b x y ≡ Gives s → VisitOutcome (concluded b 1 x t s []) w r → VisitOutcome (visit (leaf t y) x b) w r
+  unfolding visit
+  leaf-gives s e o = rw e o
+
+-- ---- the new variable of a quantifier
+
+-- w and c are those after the variable y, of sort s, was appended
+pub fresh-on : (w : List ℕ) (c : Counts) (b : Bundle) (x s y : ℕ) → bundleIn w c ≡ withVariables b (s ∷ []) → s ≡ sortOfVariable b x → y ≡ newVariable b
+    → {w′ : List ℕ} {r : Placed} → PlaceOutcome (placeVariable (bundleIn w c) y) w′ r → PlaceOutcome (fresh b x) w′ r
+fresh-on w c b x s y e d n {w′} {r} o =
+    subst (λ (i : ℕ). PlaceOutcome (placeVariable (withVariables b (sortOfVariable b x ∷ [])) i) w′ r) n
+    (subst (λ (B : Bundle). PlaceOutcome (placeVariable B y) w′ r) (e ∙ ap (λ (i : ℕ). withVariables b (i ∷ [])) d) o)
+
+pub variable-full : (w : List ℕ) (c : Counts) (x : ℕ) → 64 ≤ c .variables → {w′ : List ℕ} → PlaceOutcome (fresh (bundleIn w c) x) w′ Placed.Full
+variable-full w c x l =
+    let b : Bundle = bundleIn w c in
+    let v : Bundle = withVariables b (sortOfVariable b x ∷ []) in
+    PlaceOutcome.full (longer-over (variable-longer v (newVariable b)) (variable-over w c (sortOfVariable b x) l)) refl
+
+-- ---- the contexts of a quantifier
+
+-- w, c and i are what fixing y left
+module _ (b : Bundle) (y v : ℕ) {w : List ℕ} {a : Opened} (o : OpenOutcome (fixing b y v) w a) where
+  pub fixed-full : a ≡ Opened.Full → (x t : ℕ) {w′ : List ℕ} → OpenOutcome (renaming b x y t v) w′ Opened.Full
+  fixed-full e x t = OpenOutcome.full (longer-over (fixed-longer b x y t v) (open-full o e)) refl
+
+  module _ {c : Counts} {i : ℕ} (e : a ≡ Opened.Done c i) where
+    pub fixed-asks : Ready w c × (i ≤ 4294967295)
+    fixed-asks =
+        let k = open-done o e in (
+          k .0 .ready,
+          omega (arith, k .1, k .0 .ready .room .within .contexts, contexts-count w c (k .0 .bundle), length-append (b .contexts) (record { kind = 1; a = y; b = 0; parent = v } ∷ [])),
+        )
+
+    -- w₂, d and s are what the list of x left
+    module _ (x t : ℕ) {w₂ : List ℕ} {g : Added} (h : AddOutcome (bundleIn w c) (x ∷ []) w₂ g) {w′ : List ℕ} where
+      pub listed-full : g ≡ Added.Full → OpenOutcome (renaming b x y t v) w′ Opened.Full
+      listed-full z =
+          OpenOutcome.full
+          (longer-over (listed-longer b x y t v) (subst (λ (B : Bundle). TooMuch (addList B (x ∷ []))) (open-done o e .0 .bundle) (add-full h z)))
+          refl
+
+      pub opened-on : {d : Counts} {s : ℕ} → g ≡ Added.Done d s → {r : Opened} → OpenOutcome (replacing (bundleIn w₂ d) s i (t ∷ [])) w′ r
+          → OpenOutcome (renaming b x y t v) w′ r
+      opened-on {d} {s} z {r} q =
+          let k = open-done o e in
+          let l = add-done h z in
+          let f : unlimited.Opened = fixing b y v in
+          subst (λ (j : ℕ). OpenOutcome (replacing (addList (f .bundle) (x ∷ [])) (listStart (f .bundle) (x ∷ [])) j (t ∷ [])) w′ r) (k .1)
+          (subst (λ (B : Bundle). OpenOutcome (replacing (addList B (x ∷ [])) (listStart B (x ∷ [])) i (t ∷ [])) w′ r) (k .0 .bundle)
+          (subst (λ (j : ℕ). OpenOutcome (replacing (addList (bundleIn w c) (x ∷ [])) j i (t ∷ [])) w′ r) (l .1)
+          (subst (λ (B : Bundle). OpenOutcome (replacing B s i (t ∷ [])) w′ r) (l .0 .bundle) q)))
+
+-- ---- terms placed are words of 32 bits
+
+module _ (b : Bundle) {w : List ℕ} {a : Placed} {c : Counts} {n : ℕ} where
+  pub application-asks : (f : ℕ) (vs : List ℕ) → PlaceOutcome (placeApplication b f vs) w a → a ≡ Placed.Done c n → Ready w c × (n ≤ 4294967295)
+  application-asks f vs o e =
+      let k = place-done o e in
+      (k .0 .ready, omega (arith, k .1, placed-word w c b vs (λ s. record { kind = 2; a = f; b = s; c = 0 }) (seek (sameApplication b f vs) (b .terms)) (seek-le (sameApplication b f vs) (b .terms)) (k .0)))
+
+  pub binder-asks : (q : Binder) (y t : ℕ) → PlaceOutcome (placeBinder b q y t) w a → a ≡ Placed.Done c n → Ready w c × (n ≤ 4294967295)
+  binder-asks q y t o e =
+      let k = place-done o e in
+      (k .0 .ready, omega (arith, k .1, placed-word w c b [] (λ s. record { kind = numberOf (binder q); a = y; b = t; c = 0 }) (seek (sameBinder q y t) (b .terms)) (seek-le (sameBinder q y t) (b .terms)) (k .0)))
+
+  pub fresh-asks : (x : ℕ) → PlaceOutcome (fresh b x) w a → a ≡ Placed.Done c n → Ready w c × (n ≤ 4294967295)
+  fresh-asks x o e =
+      let k = place-done o e in
+      let v : Bundle = withVariables b (sortOfVariable b x ∷ []) in
+      let p = sameVariable (newVariable b) in
+      (k .0 .ready, omega (arith, k .1, placed-word w c v [] (λ s. record { kind = 1; a = newVariable b; b = 0; c = 0 }) (seek p (b .terms)) (seek-le p (b .terms)) (k .0)))
+
+-- the binder of a kind
+pub binder-of : (k : ℕ) → 3 ≤ k → k ≤ 4 → (q : Binder) × (k ≡ numberOf (binder q))
+binder-of k l h = go (decLe k 3)
+  where
+    go : Dec (k ≤ 3) → (q : Binder) × (k ≡ numberOf (binder q))
+    go (yes e) = (forAll, omega arith)
+    go (no e) = (exists, omega arith)

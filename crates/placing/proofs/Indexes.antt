@@ -1,0 +1,110 @@
+-- The index after each opener and closer: where it was done, the index holds all terms again.
+--     place-holds, list-holds                    nothing was appended
+--     full-visit, full-open, full-place, full-list     the call was full: nothing is said
+--     list-indexed, variable-indexed, step-indexed, leaf-indexed, let-indexed, renaming-indexed     no term was appended
+--     plain-filed, application-filed, term-indexed     a term was: its digest stays, and it was filed
+use mathlib.Core.Path.{_≡_, refl, sym, ap, _∙_, subst}
+use mathlib.Core.List.{List, [], _∷_}
+use Prim.Native.Nat.{ℕ, suc, _+_, _<_}
+use native.Mathlib.Omega.{arith}
+use lib.ListN.{length, getD, set, length-append}
+use Rattle.bundle.specs.declared.Bundle.{Bundle as Counts}
+use Rattle.bundle.specs.Bundle.{Bundle, TermRecord, termOf}
+use Rattle.logic.specs.Longer.{Longer, withVariables, withTerms}
+use Rattle.logic.proofs.Longer.{longer-trans, list-longer, variables-longer, terms-longer, term-added}
+use Rattle.scratch.specs.Scratch.{bundleIn}
+use Rattle.filing.specs.Filing.{mixAll, rootDigest, digestOf, Digested, Filed, Indexed}
+use Rattle.filing.proofs.Filed.{plain-digested, application-digested, filed-on, filed-longer, indexed-on}
+use Rattle.placing.specs.declared.Visited.{Visited}
+use Rattle.placing.specs.declared.Listed.{Listed}
+use Rattle.placing.specs.declared.Opened.{Opened}
+use Rattle.placing.specs.declared.Placed.{Placed}
+use Rattle.placing.specs.declared.Added.{Added}
+use Rattle.expansion.specs.Nodes.{leaf}
+use Rattle.expansion.specs.Visit as unlimited
+use Rattle.expansion.specs.Visit.{concluded, replacing, renaming, visit}
+use Rattle.placing.specs.Outcomes.{VisitOutcome, OpenOutcome, AddOutcome, VisitIndexed, OpenIndexed, PlaceIndexed, ListIndexed}
+use Rattle.expansion.proofs.Grown.{concluded-longer, replacing-longer, visit-longer}
+use Rattle.placing.proofs.Closing.{add-done}
+use Rattle.placing.proofs.Calls.{renaming-longer}
+use Rattle.placing.proofs.Told.{visit-done, open-done}
+
+-- ---- nothing was appended
+
+same-counts : (w : List ℕ) {ix : List ℕ} {c d : Counts} → c ≡ d → Indexed (bundleIn w c) ix → Indexed (bundleIn w d) ix
+same-counts w {ix} e indexed = subst (λ (k : Counts). Indexed (bundleIn w k) ix) e indexed
+
+pub place-holds : {w ix : List ℕ} {c : Counts} {t : ℕ} → Indexed (bundleIn w c) ix → PlaceIndexed w ix (Placed.Done c t)
+place-holds {w} indexed = record { held = λ d n e. same-counts w (cc) indexed }
+
+pub list-holds : {w ix : List ℕ} {c : Counts} {h : ℕ} → Indexed (bundleIn w c) ix → ListIndexed w ix (Listed.Done c h)
+list-holds {w} indexed = record { held = λ d n e. same-counts w (cc) indexed }
+
+-- ---- the call was full
+
+module _ {w ix : List ℕ} where
+  pub full-visit : VisitIndexed w ix Visited.Full
+  full-visit = record { held = λ c t s e. let z : _≡_ {A = ℕ} 0 1 = cc in absurd (omega arith) }
+
+  pub full-open : OpenIndexed w ix Opened.Full
+  full-open = record { held = λ c n e. let z : _≡_ {A = ℕ} 0 1 = cc in absurd (omega arith) }
+
+  pub full-place : PlaceIndexed w ix Placed.Full
+  full-place = record { held = λ c t e. let z : _≡_ {A = ℕ} 0 1 = cc in absurd (omega arith) }
+
+  pub full-list : ListIndexed w ix Listed.Full
+  full-list = record { held = λ c h e. let z : _≡_ {A = ℕ} 0 1 = cc in absurd (omega arith) }
+
+-- ---- no term was appended
+
+module _ {b : Bundle} {ix : List ℕ} (indexed : Indexed b ix) where
+  still : (w : List ℕ) (c : Counts) {b′ : Bundle} → Longer b b′ → length (b′ .terms) ≡ length (b .terms) → bundleIn w c ≡ b′ → Indexed (bundleIn w c) ix
+  still w c longer same e = subst (λ (B : Bundle). Indexed B ix) (sym e) (indexed-on longer same indexed)
+
+  pub variable-indexed : (w : List ℕ) (c : Counts) (s : ℕ) → bundleIn w c ≡ withVariables b (s ∷ []) → Indexed (bundleIn w c) ix
+  variable-indexed w c s e = still w c (variables-longer b (s ∷ [])) refl e
+
+  module _ {w : List ℕ} where
+    pub list-indexed : {vs : List ℕ} {a : Added} {c : Counts} {s : ℕ} → AddOutcome b vs w a → a ≡ Added.Done c s → Indexed (bundleIn w c) ix
+    list-indexed {vs} {a} {c} o e = still w c (list-longer b vs) refl (add-done o e .0 .bundle)
+
+    pub step-indexed : {r : Visited} (u x l t : ℕ) (vs : List ℕ) → VisitOutcome (concluded b u x l t vs) w r → VisitIndexed w ix r
+    step-indexed u x l t vs o = record { held = λ c n s e. still w c (concluded-longer b u x l t vs) refl (visit-done o e .now .bundle) }
+
+    pub leaf-indexed : {r : Visited} (t y x : ℕ) → VisitOutcome (visit (leaf t y) x b) w r → VisitIndexed w ix r
+    unfolding visit
+    leaf-indexed t y x o = record { held = λ c n s e. still w c (visit-longer (leaf t y) x b) refl (visit-done o e .now .bundle) }
+
+    pub let-indexed : {r : Opened} (x p : ℕ) (vs : List ℕ) → OpenOutcome (replacing b x p vs) w r → OpenIndexed w ix r
+    let-indexed x p vs o = record { held = λ c n e. still w c (replacing-longer b x p vs) refl (open-done o e .now .bundle) }
+
+    pub renaming-indexed : {r : Opened} (x y t v : ℕ) → OpenOutcome (renaming b x y t v) w r → OpenIndexed w ix r
+    renaming-indexed x y t v o = record { held = λ c n e. still w c (renaming-longer b x y t v) refl (open-done o e .now .bundle) }
+
+-- ---- a term was appended, and filed
+
+pub plain-filed : (b : Bundle) (k f x d : ℕ) → (k ≡ 2 → ⊥) → d ≡ rootDigest k f → Digested b (record { kind = k; a = f; b = x; c = 0 }) d
+plain-filed b k f x d h e B more = plain-digested b (record { kind = k; a = f; b = x; c = 0 }) h B more ∙ sym e
+
+-- w and c are those after the list was appended, and s is where it starts
+pub application-filed : {b : Bundle} {vs w : List ℕ} {a : Added} {c : Counts} {s : ℕ} → AddOutcome b vs w a → a ≡ Added.Done c s
+    → (f d : ℕ) → d ≡ mixAll (rootDigest 2 f) vs → Digested (bundleIn w c) (record { kind = 2; a = f; b = s; c = 0 }) d
+application-filed {b} {vs} {w} {a} {c} {s} o e f d own B more =
+    let k = add-done o e in
+    ap (λ (n : ℕ). digestOf B (record { kind = 2; a = f; b = n; c = 0 })) (k .1)
+    ∙ application-digested b f vs B (subst (λ (x : Bundle). Longer x B) (k .0 .bundle) more)
+    ∙ sym own
+
+-- w and c are those after the term t was appended, and ix′ is the index after it was filed
+pub term-indexed : {b : Bundle} {ix : List ℕ} → Indexed b ix → (r : TermRecord) (d : ℕ) → Digested b r d → d < 1024 → length (b .terms) < 1024
+    → {t : ℕ} → t ≡ suc (length (b .terms)) → (w : List ℕ) (c : Counts) → bundleIn w c ≡ withTerms b (r ∷ [])
+    → {ix′ : List ℕ} → ix′ ≡ set (set ix (1024 + t) (getD ix d 0)) d t → Indexed (bundleIn w c) ix′
+term-indexed {b} {ix} indexed r d digested small room {t} next w c e {ix′} f =
+    let b′ : Bundle = withTerms b (r ∷ []) in
+    let longer : Longer b b′ = terms-longer b (r ∷ []) in
+    let own : (B : Bundle) → Longer b′ B → digestOf B (termOf B t) ≡ d =
+    λ B more. ap (λ (n : ℕ). digestOf B (termOf B n)) next ∙ ap (digestOf B) (term-added b r more) ∙ digested B (longer-trans longer more) in
+    let filed : Filed b′ (set (set ix (1024 + t) (getD ix d 0)) d t) t =
+    filed-on b′ ix (length (b .terms)) d (filed-longer longer indexed) t next own small (omega arith) in
+    let all : t ≡ length (b′ .terms) = omega (arith, length-append (b .terms) (r ∷ [])) in
+    subst (λ (B : Bundle). Indexed B ix′) (sym e) (subst (Filed b′ ix′) all (subst (λ (x : List ℕ). Filed b′ x t) (sym f) filed))

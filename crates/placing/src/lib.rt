@@ -1,0 +1,248 @@
+// Records and lists appended where their section has room, and terms looked up before they are appended, each against its definition without
+// limits. `Full` as soon as a section would pass its limit. The index holds all terms; a term that is appended is filed in it.
+ghost use mathlib.Core.Path.{_≡_};
+ghost use mathlib.Core.List.{[], _∷_};
+ghost use Prim.Native.Nat.{ℕ, suc, _≤_, _<_};
+ghost use lib.ListN.{length};
+ghost use Rattle.logic.specs.Terms.{Binder, binder, numberOf};
+ghost use Rattle.logic.specs.Longer.{withTerms, withContexts, withSteps};
+ghost use Rattle.scratch.specs.Scratch.{bundleIn};
+ghost use Rattle.scratch.specs.Stack.{halves};
+ghost use Rattle.filing.specs.Filing.{Digested, Indexed};
+ghost use Rattle.expansion.specs.Visit.{placeApplication, placeBinder, fresh};
+ghost use Rattle.placing.specs.Outcomes.{Ready, VisitOutcome, OpenOutcome, PlaceOutcome, AddOutcome, PlaceIndexed};
+use scratch::appends::append_context;
+use scratch::appends::append_step;
+use scratch::appends::append_term;
+use scratch::appends::append_variable;
+use filing::filing::file_term;
+use filing::filing::mixed_results;
+use filing::filing::root_digest;
+use scratch::lists::push_halves;
+use scratch::lists::push_one;
+use filing::lookups::find_application;
+use filing::lookups::find_binder;
+use filing::lookups::find_variable;
+use scratch::records::variable_sort;
+use bundle::Bundle;
+
+// What a visit to a term answers: the counts, the result's term and the step that carries the term to it; or that a section would pass its
+// limit.
+pub enum Visited {
+    Done {
+        counts: Bundle,
+        result: usize,
+        step: usize,
+    },
+    Full,
+}
+
+// What a visit to a list answers: the counts, and where the stack of pairs ends.
+pub enum Listed {
+    Done { counts: Bundle, height: usize },
+    Full,
+}
+
+// A context opened, or that a section would pass its limit.
+pub enum Opened {
+    Done { counts: Bundle, context: usize },
+    Full,
+}
+
+// A term looked up or appended, or that a section would pass its limit.
+pub enum Placed {
+    Done { counts: Bundle, term: usize },
+    Full,
+}
+
+// A list appended, with its first link, or that the links would pass their limit.
+pub enum Added {
+    Done { counts: Bundle, start: usize },
+    Full,
+}
+
+// ---- One list or one record appended, where its section has room.
+
+// The results, or the steps, of the pairs from `from` to before `to`, as a list.
+pub fn add_halves(
+    words: &mut [u32],
+    c: Bundle,
+    stack: &[u64],
+    upper: bool,
+    from: usize,
+    to: usize,
+) -> Added
+    requires { ⌜ Ready (now words) c × (from ≤ to) × (to ≤ length (now stack)) ⌝ }
+    ensures { λ r. ⌜ (length (now (words .exit)) ≡ length (now (words .entry))) × AddOutcome (bundleIn (now (words .entry)) c) (halves upper (now (stack .entry)) from to) (now (words .exit)) r ⌝ }
+{
+    let n = to - from;
+    let links = c.links;
+    if n > Bundle::LINKS - links {
+        return Added::Full;
+    }
+    let start = scratch::lists::list_start(c, n);
+    let counts = push_halves(words, c, stack, upper, from, to);
+    Added::Done { counts, start }
+}
+
+// One value, as a list.
+pub fn add_value(words: &mut [u32], c: Bundle, value: usize) -> Added
+    requires { ⌜ Ready (now words) c × (value ≤ 4294967295) ⌝ }
+    ensures { λ r. ⌜ (length (now (words .exit)) ≡ length (now (words .entry))) × AddOutcome (bundleIn (now (words .entry)) c) (value ∷ []) (now (words .exit)) r ⌝ }
+{
+    let links = c.links;
+    if links >= Bundle::LINKS {
+        return Added::Full;
+    }
+    let counts = push_one(words, c, value);
+    Added::Done {
+        counts,
+        start: links + 1,
+    }
+}
+
+// A term, filed by its digest, which is d.
+pub fn add_term(
+    words: &mut [u32],
+    c: Bundle,
+    kind: usize,
+    first: usize,
+    second: usize,
+    index: &mut [u16; 2049],
+    d: usize,
+) -> Placed
+    requires { ⌜ Ready (now words) c × (kind ≤ 4294967295) × (first ≤ 4294967295) × (second ≤ 4294967295) × Indexed (bundleIn (now words) c) (now index) × (d < 1024) × Digested (bundleIn (now words) c) (record { kind = kind; a = first; b = second; c = 0 }) d ⌝ }
+    ensures { λ r. ⌜ (length (now (words .exit)) ≡ length (now (words .entry))) × PlaceOutcome (record { bundle = withTerms (bundleIn (now (words .entry)) c) (record { kind = kind; a = first; b = second; c = 0 } ∷ []); term = suc (length (bundleIn (now (words .entry)) c .terms)) }) (now (words .exit)) r × PlaceIndexed (now (words .exit)) (now (index .exit)) r ⌝ }
+{
+    let terms = c.terms;
+    if terms >= Bundle::TERMS {
+        return Placed::Full;
+    }
+    let counts = append_term(words, c, kind, first, second, 0);
+    file_term(index, d, terms + 1);
+    Placed::Done {
+        counts,
+        term: terms + 1,
+    }
+}
+
+pub fn add_context(
+    words: &mut [u32],
+    c: Bundle,
+    kind: usize,
+    first: usize,
+    second: usize,
+    parent: usize,
+) -> Opened
+    requires { ⌜ Ready (now words) c × (kind ≤ 4294967295) × (first ≤ 4294967295) × (second ≤ 4294967295) × (parent ≤ 4294967295) ⌝ }
+    ensures { λ r. ⌜ (length (now (words .exit)) ≡ length (now (words .entry))) × OpenOutcome (record { bundle = withContexts (bundleIn (now (words .entry)) c) (record { kind = kind; a = first; b = second; parent = parent } ∷ []); context = suc (length (bundleIn (now (words .entry)) c .contexts)) }) (now (words .exit)) r ⌝ }
+{
+    let contexts = c.contexts;
+    if contexts >= Bundle::CONTEXTS {
+        return Opened::Full;
+    }
+    let counts = append_context(words, c, kind, first, second, parent);
+    Opened::Done {
+        counts,
+        context: contexts + 1,
+    }
+}
+
+pub fn add_step(
+    words: &mut [u32],
+    c: Bundle,
+    rule: usize,
+    context: usize,
+    left: usize,
+    right: usize,
+    premises: usize,
+) -> Visited
+    requires { ⌜ Ready (now words) c × (rule ≤ 4294967295) × (context ≤ 4294967295) × (left ≤ 4294967295) × (right ≤ 4294967295) × (premises ≤ 4294967295) ⌝ }
+    ensures { λ r. ⌜ (length (now (words .exit)) ≡ length (now (words .entry))) × VisitOutcome (record { bundle = withSteps (bundleIn (now (words .entry)) c) (record { rule = rule; context = context; left = left; right = right; premises = premises } ∷ []); result = right; step = suc (length (bundleIn (now (words .entry)) c .steps)) }) (now (words .exit)) r ⌝ }
+{
+    let steps = c.steps;
+    if steps >= Bundle::STEPS {
+        return Visited::Full;
+    }
+    let counts = append_step(words, c, rule, context, left, right, premises);
+    Visited::Done {
+        counts,
+        result: right,
+        step: steps + 1,
+    }
+}
+
+// The term of a symbol at the results of the pairs from `from` to before `to`, looked up before it is appended.
+pub fn place_application(
+    words: &mut [u32],
+    c: Bundle,
+    symbol: usize,
+    stack: &[u64],
+    from: usize,
+    to: usize,
+    index: &mut [u16; 2049],
+) -> Placed
+    requires { ⌜ Ready (now words) c × (symbol ≤ 4294967295) × (from ≤ to) × (to ≤ length (now stack)) × Indexed (bundleIn (now words) c) (now index) ⌝ }
+    ensures { λ r. ⌜ (length (now (words .exit)) ≡ length (now (words .entry))) × PlaceOutcome (placeApplication (bundleIn (now (words .entry)) c) symbol (halves true (now (stack .entry)) from to)) (now (words .exit)) r × PlaceIndexed (now (words .exit)) (now (index .exit)) r ⌝ }
+{
+    let root = root_digest(2, symbol);
+    let d = mixed_results(root, stack, from, to);
+    let found = find_application(words, c, index, d, symbol, stack, from, to);
+    if found != 0 {
+        return Placed::Done {
+            counts: c,
+            term: found,
+        };
+    }
+    let listed = add_halves(words, c, stack, true, from, to);
+    match listed {
+        Added::Full => Placed::Full,
+        Added::Done { counts, start } => add_term(words, counts, 2, symbol, start, index, d),
+    }
+}
+
+// A new variable of the sort of x, and its term.
+pub fn place_fresh(words: &mut [u32], c: Bundle, x: usize, index: &mut [u16; 2049]) -> Placed
+    requires { ⌜ Ready (now words) c × Indexed (bundleIn (now words) c) (now index) ⌝ }
+    ensures { λ r. ⌜ (length (now (words .exit)) ≡ length (now (words .entry))) × PlaceOutcome (fresh (bundleIn (now (words .entry)) c) x) (now (words .exit)) r × PlaceIndexed (now (words .exit)) (now (index .exit)) r ⌝ }
+{
+    let sort = variable_sort(words, c, x);
+    let variables = c.variables;
+    if variables >= Bundle::VARIABLES {
+        return Placed::Full;
+    }
+    let y = variables + 1;
+    let more = append_variable(words, c, sort);
+    let d = root_digest(1, y);
+    let found = find_variable(words, more, index, d, y);
+    if found != 0 {
+        return Placed::Done {
+            counts: more,
+            term: found,
+        };
+    }
+    add_term(words, more, 1, y, 0, index, d)
+}
+
+// The term of a binder of y in the term `body`, looked up before it is appended.
+pub fn place_binder(
+    words: &mut [u32],
+    c: Bundle,
+    kind: usize,
+    y: usize,
+    body: usize,
+    index: &mut [u16; 2049],
+) -> Placed
+    requires { ⌜ Ready (now words) c × (3 ≤ kind) × (kind ≤ 4) × (y ≤ 4294967295) × (body ≤ 4294967295) × Indexed (bundleIn (now words) c) (now index) ⌝ }
+    ensures { λ r. ⌜ (length (now (words .exit)) ≡ length (now (words .entry))) × ((q : Binder) → kind ≡ numberOf (binder q) → PlaceOutcome (placeBinder (bundleIn (now (words .entry)) c) q y body) (now (words .exit)) r) × PlaceIndexed (now (words .exit)) (now (index .exit)) r ⌝ }
+{
+    let d = root_digest(kind, y);
+    let found = find_binder(words, c, index, d, kind, y, body);
+    if found != 0 {
+        return Placed::Done {
+            counts: c,
+            term: found,
+        };
+    }
+    add_term(words, c, kind, y, body, index, d)
+}

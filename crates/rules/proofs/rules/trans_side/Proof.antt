@@ -1,0 +1,27 @@
+-- `rules::trans_side` meets its contract: the middle is read, then tested.
+use borrow.Author.Tests.{le-leb}
+use Rattle.contexts.proofs.FreeWords.{known-room}
+use Rattle.logic.specs.Rules.{transSideBy}
+use borrow.Author.Needs.{needs}
+use Rattle.rules.proofs.rules.trans_side.Statement.{statement}
+use Rattle.rules.proofs.rules.trans_side.Tie as tie
+
+first-item-requires : tie.Need-first-item-requires
+first-item-requires c κs = search needs
+
+taken-field-requires : tie.Need-taken-field-requires
+taken-field-requires c κs = search needs
+
+is-settled-requires : tie.Need-is-settled-requires
+is-settled-requires c κs =
+    let p = c .before .before .before .before .before .before .pre in
+    (p .1, known-room _ _ _ _ (p .3) (p .2))
+
+returns : tie.Need-returns
+unfolding transSideBy
+returns c =
+    rw (le-leb _ _ (c .before .before .before .before .before .before .before .pre .3), c .is-settled .ensures, c .before .taken-field .ensures, c .before .before .first-item .ensures)
+
+pub trans-side-spec : {M : Type 1} → statement M
+trans-side-spec =
+    tie.close (tie.spec first-item-requires taken-field-requires is-settled-requires returns)

@@ -1,0 +1,159 @@
+-- `terms::term_refers` meets its contract: in each branch the kind is known, and the tests are those that `refersAs` lists for it. Where they hold,
+-- so does that of the items of a list, and what is noted with it.
+use borrow.Author.Needs.{needs}
+use mathlib.Core.Bool.{_&&_}
+use lib.Dec.{eqb, leb}
+use Rattle.bundle.proofs.Fields.{symbols-length, variables-length, links-length}
+use Rattle.logic.specs.Checks.{refers}
+use Rattle.logic.proofs.Tests.{and-left, and-right}
+use Rattle.logic.proofs.KindTests.{kind-binder, kind-none, kind-let}
+use Rattle.terms.proofs.terms.term_refers.Statement.{statement}
+use Rattle.terms.proofs.terms.term_refers.Tie as tie
+
+term-field-requires : tie.Need-term-field-requires
+term-field-requires c κs = search needs
+
+term-field-requires-2 : tie.Need-term-field-requires-2
+term-field-requires-2 c κs = search needs
+
+term-field-requires-3 : tie.Need-term-field-requires-3
+term-field-requires-3 c κs = search needs
+
+term-field-requires-4 : tie.Need-term-field-requires-4
+term-field-requires-4 c κs = search needs
+
+sub-below : tie.Need-sub-below
+sub-below c = search needs
+
+is-number-requires : tie.Need-is-number-requires
+is-number-requires c κs = search needs
+
+returns : tie.Need-returns
+unfolding refers
+returns c = (
+  rw (
+    ← c .before .before .before .before .before .term-field .ensures,
+    c .before .if1 .taken,
+    ← c .before .before .before .before .term-field2 .ensures,
+    ← c .before .before .before .term-field3 .ensures,
+    ← c .before .before .term-field4 .ensures,
+    variables-length,
+    ← c .is-number .ensures,
+  ),
+  λ e. c .before .before .before .before .before .before .before .before .pre .1,
+)
+
+is-number-requires-2 : tie.Need-is-number-requires-2
+is-number-requires-2 c κs = search needs
+
+is-number-requires-3 : tie.Need-is-number-requires-3
+is-number-requires-3 c κs = search needs
+
+returns-2 : tie.Need-returns-2
+unfolding refers
+returns-2 c =
+    let q = kind-binder (c .before .before .before .before .before .before .before .term-field .result) (c .before .before .if2 .taken) in (
+      rw (
+        ← c .before .before .before .before .before .before .before .term-field .ensures,
+        q .1,
+        ← c .before .before .before .before .before .before .term-field2 .ensures,
+        ← c .before .before .before .before .before .term-field3 .ensures,
+        ← c .before .before .before .before .term-field4 .ensures,
+        variables-length,
+        ← c .before .is-number2 .ensures,
+        ← c .is-number3 .ensures,
+      ),
+      λ e. c .before .before .before .before .before .before .before .before .before .before .pre .1,
+    )
+
+returns-3 : tie.Need-returns-3
+unfolding refers
+returns-3 c = (rw (← c .before .before .before .before .before .before .term-field .ensures, kind-none (c .before .before .before .before .before .before .term-field .result) (c .before .before .if1 .left) (c .before .if2 .left) (c .if3 .taken)), λ e. c .before .before .before .before .before .before .before .before .before .pre .1)
+
+all-lower-requires : tie.Need-all-lower-requires
+all-lower-requires c κs = search needs
+
+signature-of-requires : tie.Need-signature-of-requires
+signature-of-requires c κs = search needs
+
+is-known-requires : tie.Need-is-known-requires
+is-known-requires c κs = search needs
+
+same-length : tie.Need-same-length
+same-length c = search needs
+
+returns-4 : tie.Need-returns-4
+unfolding refers
+returns-4 c =
+    let known = c .is-known .result in
+    let starts = leb (c .before .before .before .before .before .before .before .before .before .before .before .term-field3 .result) (c .before .before .before .before .before .before .before .before .before .before .before .before .before .before .before .before .args .b .links) in
+    let all = c .before .before .before .before .before .all-lower .result in
+    let none = eqb (c .before .before .before .before .before .before .before .before .before .before .term-field4 .result) 0 in (
+      rw (
+        ← c .before .before .before .before .before .before .before .before .before .before .before .before .before .term-field .ensures,
+        c .before .before .if4 .taken,
+        ← c .before .before .before .before .before .before .before .before .before .before .before .before .term-field2 .ensures,
+        ← c .before .before .before .before .before .before .before .before .before .before .before .term-field3 .ensures,
+        ← c .before .before .before .before .before .before .before .before .before .before .term-field4 .ensures,
+        symbols-length,
+        ← c .before .signature-of .ensures,
+        ← c .is-known .ensures,
+        ← c .before .before .before .before .before .all-lower .ensures .0,
+        links-length,
+      ),
+      λ e. c .before .before .before .before .before .all-lower .ensures .1 (and-right (known && starts) all (and-left (known && starts && all) none e)),
+    )
+
+all-numbers-requires : tie.Need-all-numbers-requires
+all-numbers-requires c κs = search needs
+
+is-number-requires-4 : tie.Need-is-number-requires-4
+is-number-requires-4 c κs = search needs
+
+same-length-2 : tie.Need-same-length-2
+same-length-2 c = search needs
+
+returns-5 : tie.Need-returns-5
+unfolding refers
+returns-5 c =
+    let first = leb (c .before .before .before .before .before .before .before .before .before .before .before .before .term-field2 .result) (c .before .before .before .before .before .before .before .before .before .before .before .before .before .before .before .before .args .b .links) && c .before .all-numbers .result && leb (c .before .before .before .before .before .before .before .before .before .before .before .term-field3 .result) (c .before .before .before .before .before .before .before .before .before .before .before .before .before .before .before .before .args .b .links) in
+    let all = c .before .before .before .before .before .all-lower .result in (
+      rw (
+        ← c .before .before .before .before .before .before .before .before .before .before .before .before .before .term-field .ensures,
+        kind-let (c .before .before .before .before .before .before .before .before .before .before .before .before .before .term-field .result) (c .before .before .if4 .left) (c .before .before .before .before .before .before .before .if3 .left),
+        ← c .before .before .before .before .before .before .before .before .before .before .before .before .term-field2 .ensures,
+        ← c .before .before .before .before .before .before .before .before .before .before .before .term-field3 .ensures,
+        ← c .before .before .before .before .before .before .before .before .before .before .term-field4 .ensures,
+        variables-length,
+        ← c .before .all-numbers .ensures,
+        ← c .before .before .before .before .before .all-lower .ensures .0,
+        ← c .is-number4 .ensures,
+        links-length,
+      ),
+      λ e. c .before .before .before .before .before .all-lower .ensures .1 (and-right first all (and-left (first && all) (c .is-number4 .result) e)),
+    )
+
+pub term-refers-spec : {M : Type 1} → statement M
+term-refers-spec =
+    tie.close
+    (tie.spec
+    term-field-requires
+    term-field-requires-2
+    term-field-requires-3
+    term-field-requires-4
+    sub-below
+    is-number-requires
+    returns
+    is-number-requires-2
+    is-number-requires-3
+    returns-2
+    returns-3
+    all-lower-requires
+    signature-of-requires
+    is-known-requires
+    same-length
+    returns-4
+    all-numbers-requires
+    is-number-requires-4
+    same-length-2
+    returns-5)

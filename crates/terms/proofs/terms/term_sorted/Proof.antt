@@ -1,0 +1,99 @@
+-- `terms::term_sorted` meets its contract: in each branch the kind is known, and the callee says what `sortedAs` asks for it.
+use borrow.Author.Needs.{needs}
+use mathlib.Core.Path.{_≡_, refl}
+use mathlib.Core.Bool.{Bool, true, false, cond}
+use lib.Dec.{eqb}
+use Rattle.bundle.specs.Bundle.{Bundle, TermRecord}
+use Rattle.bundle.proofs.Fields.{symbols-length}
+use Rattle.logic.specs.Terms.{variable, other}
+use Rattle.logic.specs.Checks.{sortedAs, sorted}
+use Rattle.logic.proofs.KindTests.{kind-binder, kind-rest}
+use Rattle.terms.proofs.terms.term_sorted.Statement.{statement}
+use Rattle.terms.proofs.terms.term_sorted.Tie as tie
+
+-- of a variable, and of a record of no kind, nothing is asked
+nothing-asked : (b : Bundle) (r : TermRecord) (p : Bool) → true ≡ sortedAs b (cond p variable other) r
+unfolding sortedAs
+nothing-asked b r true = refl
+nothing-asked b r false = refl
+
+term-field-requires : tie.Need-term-field-requires
+term-field-requires c κs = search needs
+
+term-field-requires-2 : tie.Need-term-field-requires-2
+term-field-requires-2 c κs = search needs
+
+term-field-requires-3 : tie.Need-term-field-requires-3
+term-field-requires-3 c κs = search needs
+
+signature-of-requires : tie.Need-signature-of-requires
+signature-of-requires c κs = search needs
+
+arguments-fit-requires : tie.Need-arguments-fit-requires
+arguments-fit-requires c κs = search needs
+
+same-length : tie.Need-same-length
+same-length c = search needs
+
+returns : tie.Need-returns
+unfolding sorted
+returns c = (
+  rw (
+    ← c .before .before .before .before .before .before .before .before .term-field .ensures,
+    c .before .before .before .before .before .if1 .taken,
+    ← c .before .before .before .before .before .before .before .term-field2 .ensures,
+    ← c .before .before .before .before .before .before .term-field3 .ensures,
+    symbols-length,
+    ← c .before .before .before .signature-of .ensures,
+    ← c .before .before .arguments-fit .ensures .0,
+  ),
+  c .before .before .arguments-fit .ensures .1,
+)
+
+sort-in-requires : tie.Need-sort-in-requires
+sort-in-requires c κs = search needs
+
+returns-2 : tie.Need-returns-2
+unfolding sorted
+returns-2 c =
+    let q = kind-binder (c .before .before .before .before .before .term-field .result) (c .before .if2 .taken) in
+    (rw (← c .before .before .before .before .before .term-field .ensures, q .1, ← c .before .before .before .term-field3 .ensures, ← c .before .before .before .before .before .before .before .before .before .pre .1 .noted (c .before .before .before .term-field3 .result), ← c .sort-in .ensures), λ e. c .before .before .before .before .before .before .before .before .before .pre .2)
+
+let-agrees-requires : tie.Need-let-agrees-requires
+let-agrees-requires c κs = search needs
+
+returns-3 : tie.Need-returns-3
+unfolding sorted
+returns-3 c = (
+  rw (
+    ← c .before .before .before .before .before .before .term-field .ensures,
+    c .before .if3 .taken,
+    ← c .before .before .before .before .before .term-field2 .ensures,
+    ← c .before .before .before .before .term-field3 .ensures,
+    ← c .let-agrees .ensures,
+  ),
+  λ e. c .before .before .before .before .before .before .before .before .before .before .pre .2,
+)
+
+returns-4 : tie.Need-returns-4
+unfolding sorted
+returns-4 c =
+    let k = c .before .before .before .before .before .term-field in
+    (rw (← k .ensures, kind-rest (k .result) (c .before .before .if1 .left) (c .before .if2 .left) (c .if3 .left)) (nothing-asked _ _ (eqb (k .result) 1)), λ e. c .before .before .before .before .before .before .before .before .before .pre .2)
+
+pub term-sorted-spec : {M : Type 1} → statement M
+term-sorted-spec =
+    tie.close
+    (tie.spec
+    term-field-requires
+    term-field-requires-2
+    term-field-requires-3
+    signature-of-requires
+    arguments-fit-requires
+    same-length
+    returns
+    sort-in-requires
+    returns-2
+    let-agrees-requires
+    returns-3
+    returns-4)

@@ -1,0 +1,175 @@
+// Checks 7, 8 and 9: a term's references, its sorts, and whether it is equal to an earlier one.
+ghost use mathlib.Core.Path.{_≡_};
+ghost use mathlib.Core.Bool.{true};
+ghost use Prim.Native.Nat.{_-_, _≤_, _<_};
+ghost use lib.ListN.{length};
+ghost use Rattle.bundle.specs.Bundle.{termOf};
+ghost use Rattle.bundle.specs.Lists.{numbers};
+ghost use Rattle.bundle.specs.File.{Whole, bundleAt};
+ghost use Rattle.logic.specs.Checks.{refers, sorted, termFault, termsFault};
+ghost use Rattle.terms.specs.Digests.{digestOf, Filed};
+ghost use Rattle.sorting.specs.Notes.{Zeros, Sorted, Lower, Fitting};
+use super::duplicates::digest;
+use super::duplicates::is_new;
+use sorting::notes::all_lower;
+use sorting::notes::note_sorts;
+use sorting::sorts::arguments_fit;
+use sorting::sorts::is_known;
+use sorting::sorts::let_agrees;
+use sorting::sorts::signature_of;
+use sorting::sorts::sort_in;
+use bundle::Bundle;
+use bundle::lists::all_numbers;
+use bundle::records::term_field;
+use logic::Fault;
+use logic::no_fault;
+
+// Whether x is a record's number in a section of n.
+fn is_number(n: usize, x: usize) -> bool
+    ensures { λ r. ⌜ r ≡ numbers n x ⌝ }
+{
+    (0 < x) & (x <= n)
+}
+
+// 7: whether the kind of term i is one, its unused fields are zero, and it refers to variables, symbols, links and lower terms.
+pub fn term_refers(file: &[u8], b: Bundle, lower: &mut [u8], i: usize) -> bool
+    requires { ⌜ Whole (now file) b × Lower (now file) b (i - 1) (now lower) × (1 ≤ i) ⌝ }
+    ensures { λ r. ⌜ (r ≡ refers (bundleAt (now (file .entry)) b) i) × (r ≡ true → Lower (now (file .entry)) b (i - 1) (now (lower .exit))) ⌝ }
+{
+    let kind = term_field(file, b, i, 0);
+    let first = term_field(file, b, i, 1);
+    let second = term_field(file, b, i, 2);
+    let third = term_field(file, b, i, 3);
+    let links = b.links;
+    let variables = b.variables;
+    let below = i - 1;
+    if kind == 1 {
+        return is_number(variables, first) & (second == 0) & (third == 0);
+    }
+    if (kind == 3) | (kind == 4) {
+        return is_number(variables, first) & is_number(below, second) & (third == 0);
+    }
+    if (kind != 2) & (kind != 5) {
+        return false;
+    }
+    let terms = all_lower(file, b, lower, second, below);
+    if kind == 2 {
+        let symbol = is_known(signature_of(b, first));
+        return symbol & (second <= links) & terms & (third == 0);
+    }
+    let bound = all_numbers(file, b, first, variables);
+    (first <= links) & bound & (second <= links) & terms & is_number(below, third)
+}
+
+// 8: whether the counts and sorts of term i are right.
+pub fn term_sorted(file: &[u8], b: Bundle, sorts: &[usize], fitting: &mut [u16], i: usize) -> bool
+    requires { ⌜ Whole (now file) b × Sorted (now file) b (now sorts) × Fitting (now file) b (now fitting) ⌝ }
+    ensures { λ r. ⌜ (r ≡ sorted (bundleAt (now (file .entry)) b) i) × (r ≡ true → Fitting (now (file .entry)) b (now (fitting .exit))) ⌝ }
+{
+    let kind = term_field(file, b, i, 0);
+    let first = term_field(file, b, i, 1);
+    let second = term_field(file, b, i, 2);
+    if kind == 2 {
+        return arguments_fit(file, b, sorts, fitting, signature_of(b, first), second);
+    }
+    if (kind == 3) | (kind == 4) {
+        return sort_in(sorts, second) == 0;
+    }
+    if kind == 5 {
+        return let_agrees(file, b, sorts, first, second);
+    }
+    true
+}
+
+// What is wrong with term i, where the terms below it are filed, and d is its digest. A later test is made where the earlier ones hold.
+fn term_fault(
+    file: &[u8],
+    b: Bundle,
+    sorts: &[usize],
+    lower: &mut [u8],
+    fitting: &mut [u16],
+    heads: &[u16; 2048],
+    next: &[u16],
+    i: usize,
+    d: usize,
+) -> usize
+    requires { ⌜ Whole (now file) b × Sorted (now file) b (now sorts) × Lower (now file) b (i - 1) (now lower) × Fitting (now file) b (now fitting) ⌝ }
+    requires { ⌜ Filed (bundleAt (now file) b) (now heads) (now next) i × (1 ≤ i) × (i < length (now next)) × (d < 2048) × (d ≡ digestOf (bundleAt (now file) b) (termOf (bundleAt (now file) b) i)) ⌝ }
+    ensures { λ r. ⌜ (r ≡ termFault (bundleAt (now (file .entry)) b) i) × (r ≡ 0 → Lower (now (file .entry)) b (i - 1) (now (lower .exit)) × Fitting (now (file .entry)) b (now (fitting .exit))) ⌝ }
+{
+    if !term_refers(file, b, lower, i) {
+        return 7;
+    }
+    if !term_sorted(file, b, sorts, fitting, i) {
+        return 8;
+    }
+    if !is_new(file, b, heads, next, i, d) {
+        return 9;
+    }
+    0
+}
+
+// The first bad term, by what is noted. Terms that are good are filed by their digests.
+fn noted_fault(
+    file: &[u8],
+    b: Bundle,
+    sorts: &[usize],
+    lower: &mut [u8],
+    fitting: &mut [u16],
+    next: &mut [u16],
+) -> Fault
+    requires { ⌜ Whole (now file) b × Sorted (now file) b (now sorts) × (b .links < length (now lower)) × Zeros (now lower) × (b .links < length (now fitting)) × Zeros (now fitting) × (b .terms < length (now next)) × Zeros (now next) ⌝ }
+    ensures { λ r. ⌜ r ≡ termsFault (bundleAt (now (file .entry)) b) ⌝ }
+{
+    let terms = b.terms;
+    let mut heads = [0u16; 2048];
+    let mut i = 1;
+    while i <= terms {
+        let d = digest(file, b, i);
+        let number = term_fault(file, b, sorts, lower, fitting, &heads, next, i, d);
+        if number != 0 {
+            return Fault { number, record: i };
+        }
+        next[i] = heads[d];
+        heads[d] = i as u16;
+        i += 1;
+    }
+    no_fault()
+}
+
+// The first bad term of a small file: arrays for all that a file can have take longer to clear than such a file takes to check.
+fn small_fault(file: &[u8], b: Bundle) -> Fault
+    requires { ⌜ Whole (now file) b × (b .terms < 256) × (b .links < 512) ⌝ }
+    ensures { λ r. ⌜ r ≡ termsFault (bundleAt (now (file .entry)) b) ⌝ }
+{
+    let mut sorts = [0usize; 256];
+    let mut lower = [0u8; 512];
+    let mut fitting = [0u16; 512];
+    let mut next = [0u16; 256];
+    note_sorts(file, b, &mut sorts);
+    noted_fault(file, b, &sorts, &mut lower, &mut fitting, &mut next)
+}
+
+// The first bad term of any file.
+fn large_fault(file: &[u8], b: Bundle) -> Fault
+    requires { ⌜ Whole (now file) b ⌝ }
+    ensures { λ r. ⌜ r ≡ termsFault (bundleAt (now (file .entry)) b) ⌝ }
+{
+    let mut sorts = [0usize; 1025];
+    let mut lower = [0u8; 2049];
+    let mut fitting = [0u16; 2049];
+    let mut next = [0u16; 1025];
+    note_sorts(file, b, &mut sorts);
+    noted_fault(file, b, &sorts, &mut lower, &mut fitting, &mut next)
+}
+
+// The first bad term.
+pub fn terms_fault(file: &[u8], b: Bundle) -> Fault
+    requires { ⌜ Whole (now file) b ⌝ }
+    ensures { λ r. ⌜ r ≡ termsFault (bundleAt (now (file .entry)) b) ⌝ }
+{
+    if (b.terms < 256) & (b.links < 512) {
+        return small_fault(file, b);
+    }
+    large_fault(file, b)
+}

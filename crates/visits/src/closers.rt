@@ -1,0 +1,239 @@
+// What a visit opens and closes with, each against its definition without limits. `Full` as soon as a section would pass its limit.
+// The index holds all terms; a term that is appended is filed in it.
+ghost use mathlib.Core.Path.{_≡_};
+ghost use mathlib.Core.Bool.{true, false};
+ghost use mathlib.Core.List.{[], _∷_};
+ghost use Prim.Native.Nat.{ℕ, suc, _≤_};
+ghost use lib.ListN.{length};
+ghost use Rattle.logic.specs.Terms.{Binder, binder, numberOf};
+ghost use Rattle.scratch.specs.Scratch.{bundleIn};
+ghost use Rattle.scratch.specs.Stack.{halves};
+ghost use Rattle.filing.specs.Filing.{Indexed};
+ghost use Rattle.expansion.specs.Nodes.{leaf};
+ghost use Rattle.expansion.specs.Visit.{visit, concluded, replacing, renaming, openBinder, closeApplication, closeBinder};
+ghost use Rattle.placing.specs.Outcomes.{Ready, VisitOutcome, OpenOutcome, VisitIndexed, OpenIndexed};
+use scratch::images::image_in;
+use bundle::Bundle;
+use logic::Image;
+use placing::Added;
+use placing::Opened;
+use placing::Placed;
+use placing::Visited;
+use placing::add_context;
+use placing::add_halves;
+use placing::add_step;
+use placing::add_value;
+use placing::place_application;
+use placing::place_binder;
+use placing::place_fresh;
+
+// ---- A list, and then a record
+
+// The step of a visit with no premises.
+fn conclude_alone(
+    words: &mut [u32],
+    c: Bundle,
+    rule: usize,
+    context: usize,
+    left: usize,
+    right: usize,
+) -> Visited
+    requires { ⌜ Ready (now words) c × (rule ≤ 5) × (context ≤ 4294967295) × (left ≤ 4294967295) × (right ≤ 4294967295) ⌝ }
+    ensures { λ r. ⌜ (length (now (words .exit)) ≡ length (now (words .entry))) × VisitOutcome (concluded (bundleIn (now (words .entry)) c) rule context left right []) (now (words .exit)) r ⌝ }
+{
+    add_step(words, c, rule, context, left, right, 0)
+}
+
+// The step of a visit with one premise.
+fn conclude_one(
+    words: &mut [u32],
+    c: Bundle,
+    rule: usize,
+    context: usize,
+    left: usize,
+    right: usize,
+    premise: usize,
+) -> Visited
+    requires { ⌜ Ready (now words) c × (rule ≤ 5) × (context ≤ 4294967295) × (left ≤ 4294967295) × (right ≤ 4294967295) × (premise ≤ 4294967295) ⌝ }
+    ensures { λ r. ⌜ (length (now (words .exit)) ≡ length (now (words .entry))) × VisitOutcome (concluded (bundleIn (now (words .entry)) c) rule context left right (premise ∷ [])) (now (words .exit)) r ⌝ }
+{
+    let listed = add_value(words, c, premise);
+    match listed {
+        Added::Full => Visited::Full,
+        Added::Done { counts, start } => {
+            add_step(words, counts, rule, context, left, right, start)
+        }
+    }
+}
+
+// The step of a visit whose premises are the steps of the pairs from `from` to before `to`.
+pub fn conclude(
+    words: &mut [u32],
+    c: Bundle,
+    rule: usize,
+    context: usize,
+    left: usize,
+    right: usize,
+    stack: &[u64],
+    from: usize,
+    to: usize,
+) -> Visited
+    requires { ⌜ Ready (now words) c × (rule ≤ 5) × (context ≤ 4294967295) × (left ≤ 4294967295) × (right ≤ 4294967295) × (from ≤ to) × (to ≤ length (now stack)) ⌝ }
+    ensures { λ r. ⌜ (length (now (words .exit)) ≡ length (now (words .entry))) × VisitOutcome (concluded (bundleIn (now (words .entry)) c) rule context left right (halves false (now (stack .entry)) from to)) (now (words .exit)) r ⌝ }
+{
+    let listed = add_halves(words, c, stack, false, from, to);
+    match listed {
+        Added::Full => Visited::Full,
+        Added::Done { counts, start } => {
+            add_step(words, counts, rule, context, left, right, start)
+        }
+    }
+}
+
+// A context that replaces the variables of a list by the results of the pairs from `from` to before `to`.
+pub fn open_let(
+    words: &mut [u32],
+    c: Bundle,
+    variables: usize,
+    parent: usize,
+    stack: &[u64],
+    from: usize,
+    to: usize,
+) -> Opened
+    requires { ⌜ Ready (now words) c × (variables ≤ 4294967295) × (parent ≤ 4294967295) × (from ≤ to) × (to ≤ length (now stack)) ⌝ }
+    ensures { λ r. ⌜ (length (now (words .exit)) ≡ length (now (words .entry))) × OpenOutcome (replacing (bundleIn (now (words .entry)) c) variables parent (halves true (now (stack .entry)) from to)) (now (words .exit)) r ⌝ }
+{
+    let listed = add_halves(words, c, stack, true, from, to);
+    match listed {
+        Added::Full => Opened::Full,
+        Added::Done { counts, start } => add_context(words, counts, 2, variables, start, parent),
+    }
+}
+
+// A context that replaces the variables of a list by one term.
+fn open_one(words: &mut [u32], c: Bundle, variables: usize, parent: usize, term: usize) -> Opened
+    requires { ⌜ Ready (now words) c × (variables ≤ 4294967295) × (parent ≤ 4294967295) × (term ≤ 4294967295) ⌝ }
+    ensures { λ r. ⌜ (length (now (words .exit)) ≡ length (now (words .entry))) × OpenOutcome (replacing (bundleIn (now (words .entry)) c) variables parent (term ∷ [])) (now (words .exit)) r ⌝ }
+{
+    let listed = add_value(words, c, term);
+    match listed {
+        Added::Full => Opened::Full,
+        Added::Done { counts, start } => add_context(words, counts, 2, variables, start, parent),
+    }
+}
+
+// ---- Variable
+
+// REFL from the term, which is variable x, to the image of x.
+pub fn close_variable(
+    words: &mut [u32],
+    c: Bundle,
+    context: usize,
+    term: usize,
+    x: usize,
+) -> Visited
+    requires { ⌜ Ready (now words) c × (context ≤ 4294967295) × (term ≤ 4294967295) ⌝ }
+    ensures { λ r. ⌜ (length (now (words .exit)) ≡ length (now (words .entry))) × VisitOutcome (visit (leaf term x) context (bundleIn (now (words .entry)) c)) (now (words .exit)) r ⌝ }
+{
+    let image = image_in(words, c, context, x);
+    match image {
+        Image::Own => conclude_alone(words, c, 1, context, term, term),
+        Image::Gives(t) => conclude_alone(words, c, 1, context, term, t),
+    }
+}
+
+pub fn close_application(
+    words: &mut [u32],
+    c: Bundle,
+    context: usize,
+    term: usize,
+    symbol: usize,
+    stack: &[u64],
+    from: usize,
+    to: usize,
+    index: &mut [u16; 2049],
+) -> Visited
+    requires { ⌜ Ready (now words) c × (context ≤ 4294967295) × (term ≤ 4294967295) × (symbol ≤ 4294967295) × (from ≤ to) × (to ≤ length (now stack)) × Indexed (bundleIn (now words) c) (now index) ⌝ }
+    ensures { λ r. ⌜ (length (now (words .exit)) ≡ length (now (words .entry))) × VisitOutcome (closeApplication context term symbol (record { bundle = bundleIn (now (words .entry)) c; results = halves true (now (stack .entry)) from to; steps = halves false (now (stack .entry)) from to })) (now (words .exit)) r × VisitIndexed (now (words .exit)) (now (index .exit)) r ⌝ }
+{
+    let placed = place_application(words, c, symbol, stack, from, to, index);
+    match placed {
+        Placed::Full => Visited::Full,
+        Placed::Done {
+            counts,
+            term: right,
+        } => conclude(words, counts, 2, context, term, right, stack, from, to),
+    }
+}
+
+// The contexts of a quantifier over x whose new variable is y, with the term t: y fixed, then x replaced by t.
+fn open_renaming(
+    words: &mut [u32],
+    c: Bundle,
+    x: usize,
+    y: usize,
+    t: usize,
+    parent: usize,
+) -> Opened
+    requires { ⌜ Ready (now words) c × (x ≤ 4294967295) × (y ≤ 4294967295) × (t ≤ 4294967295) × (parent ≤ 4294967295) ⌝ }
+    ensures { λ r. ⌜ (length (now (words .exit)) ≡ length (now (words .entry))) × OpenOutcome (renaming (bundleIn (now (words .entry)) c) x y t parent) (now (words .exit)) r ⌝ }
+{
+    let fixed = add_context(words, c, 1, y, 0, parent);
+    match fixed {
+        Opened::Full => Opened::Full,
+        Opened::Done {
+            counts: with_y,
+            context,
+        } => {
+            let listed = add_value(words, with_y, x);
+            match listed {
+                Added::Full => Opened::Full,
+                Added::Done { counts, start } => open_one(words, counts, start, context, t),
+            }
+        }
+    }
+}
+
+// The new variable, its term and the contexts of a quantifier over x.
+pub fn open_quantifier(
+    words: &mut [u32],
+    c: Bundle,
+    x: usize,
+    context: usize,
+    index: &mut [u16; 2049],
+) -> Opened
+    requires { ⌜ Ready (now words) c × (x ≤ 4294967295) × (context ≤ 4294967295) × Indexed (bundleIn (now words) c) (now index) ⌝ }
+    ensures { λ r. ⌜ (length (now (words .exit)) ≡ length (now (words .entry))) × OpenOutcome (openBinder (bundleIn (now (words .entry)) c) x context) (now (words .exit)) r × OpenIndexed (now (words .exit)) (now (index .exit)) r ⌝ }
+{
+    let y = c.variables + 1;
+    let placed = place_fresh(words, c, x, index);
+    match placed {
+        Placed::Full => Opened::Full,
+        Placed::Done { counts, term } => open_renaming(words, counts, x, y, term, context),
+    }
+}
+
+// The result of a quantifier's visit, and BIND, whose premise is the step.
+pub fn close_quantifier(
+    words: &mut [u32],
+    c: Bundle,
+    context: usize,
+    term: usize,
+    kind: usize,
+    y: usize,
+    result: usize,
+    step: usize,
+    index: &mut [u16; 2049],
+) -> Visited
+    requires { ⌜ Ready (now words) c × (context ≤ 4294967295) × (term ≤ 4294967295) × (3 ≤ kind) × (kind ≤ 4) × (y ≤ 4294967295) × (result ≤ 4294967295) × (step ≤ 4294967295) × Indexed (bundleIn (now words) c) (now index) ⌝ }
+    ensures { λ r. ⌜ (length (now (words .exit)) ≡ length (now (words .entry))) × ((q : Binder) → kind ≡ numberOf (binder q) → VisitOutcome (closeBinder context term q y (record { bundle = bundleIn (now (words .entry)) c; result = result; step = step })) (now (words .exit)) r) × VisitIndexed (now (words .exit)) (now (index .exit)) r ⌝ }
+{
+    let placed = place_binder(words, c, kind, y, result, index);
+    match placed {
+        Placed::Full => Visited::Full,
+        Placed::Done {
+            counts,
+            term: right,
+        } => conclude_one(words, counts, 4, context, term, right, step),
+    }
+}
