@@ -5,18 +5,17 @@
 --     refused-job-where       the job is refused with number n, not 0, and record i exactly where that is the fault
 --     job-answer, job-file, job-room     where no check fails: the answer is the file's length, the output up to that is the file, and has room for it
 --     zeros-left              what is left in the areas
-use Prim.Native.Nat.{ℕ, zero, suc, _-_, _≤_}
+use Prim.Native.Nat.{ℕ, zero, suc, _+_, _-_, _≤_}
 use mathlib.Core.Path.{_≡_, refl, ap, _∙_}
 use mathlib.Core.Logic.{_↔_}
 use mathlib.Core.Bool.{Bool, true, false, cond, not}
 use mathlib.Core.List.{List, [], _∷_}
 use native.Mathlib.Omega.{arith}
-use lib.Dec.{leb}
 use lib.ListN.{length, take, replicate}
 use lib.Seq.{drop-append-seam}
 use borrow.Author.Tests.{eqb-true, eq-eqb, leb-true, le-leb}
 use Rattle.bundle.specs.Bundle.{Bundle}
-use Rattle.bundle.specs.Limits.{limits, headerWords, wordsOf, bytesOf, Within}
+use Rattle.bundle.specs.Limits.{headerWords, Within}
 use Rattle.bundle.specs.File.{bundleOf}
 use Rattle.bundle.proofs.Limits.{within-all, within-true}
 use Rattle.logic.specs.declared.Fault.{Fault}
@@ -45,14 +44,16 @@ use Rattle.expansion.proofs.JobOrder.{lastFault, last-find}
 
 -- ---- 4
 
--- a test that counts for 1
-at-most-one : (p : Bool) → cond p 1 0 ≤ 1
-at-most-one true = omega arith
-at-most-one false = omega arith
-
-counts : (p : Bool) → 1 ≤ cond p 1 0 → p ≡ true
-counts true l = refl
-counts false l = absurd (omega arith)
+-- three tests count for 3 only where all hold
+three-of : (p q s : Bool) → 3 ≤ cond p 1 0 + cond q 1 0 + cond s 1 0 → (p ≡ true) × (q ≡ true) × (s ≡ true)
+three-of true true true h = (refl, refl, refl)
+three-of true true false h = absurd (omega arith)
+three-of true false true h = absurd (omega arith)
+three-of true false false h = absurd (omega arith)
+three-of false true true h = absurd (omega arith)
+three-of false true false h = absurd (omega arith)
+three-of false false true h = absurd (omega arith)
+three-of false false false h = absurd (omega arith)
 
 pub long-exactly : (out words sets : ℕ) → (3 ≤ longEnough out words sets) ↔ LongEnough out words sets
 unfolding longEnough
@@ -60,20 +61,11 @@ long-exactly out words sets = (there, back)
   where
     there : 3 ≤ longEnough out words sets → LongEnough out words sets
     there l =
-        let p : Bool = leb (bytesOf limits) out in
-        let q : Bool = leb (wordsOf limits) words in
-        let r : Bool = leb 1024 sets in
-        let x = at-most-one p in
-        let y = at-most-one q in
-        let z = at-most-one r in
-        record {
-          output = leb-true (bytesOf limits) out (counts p (omega arith));
-          scratch = leb-true (wordsOf limits) words (counts q (omega arith));
-          stack = leb-true 1024 sets (counts r (omega arith));
-        }
+        let t = three-of _ _ _ l in
+        record { output = leb-true _ _ (t .0); scratch = leb-true _ _ (t .1); stack = leb-true _ _ (t .2) }
 
     back : LongEnough out words sets → 3 ≤ longEnough out words sets
-    back h = rw (le-leb (bytesOf limits) out (h .output), le-leb (wordsOf limits) words (h .scratch), le-leb 1024 sets (h .stack)) (omega arith)
+    back h = rw (le-leb _ _ (h .output), le-leb _ _ (h .scratch), le-leb _ _ (h .stack)) (omega arith)
 
 -- ---- 18 and 17
 

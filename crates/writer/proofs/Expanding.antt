@@ -1,5 +1,4 @@
 -- The answer of the expansion, as the code comes to it.
---     long-areas                              the three areas are long enough
 --     refused-early, refused-late             a check of 1 to 9 fails; 18, 15 or 17 does
 --     job-formed, visit-asks, visit-is        what the visit to the rule asks for, and what it gives, where none of those fails
 --     Told, told-done, told-full              what the visit's answer says
@@ -7,18 +6,18 @@
 --     bytes-of, right-small                   the result's term is a word of 32 bits
 --     stored-refused, stored-written          what is left before the zeros are written
 --     left-refused, left-written              and after
-use Prim.Native.Nat.{ℕ, zero, suc, _+_, _-_, _≤_, _<_}
+use Prim.Native.Nat.{ℕ, zero, suc, _-_, _≤_, _<_}
 use mathlib.Core.Path.{_≡_, refl, sym, ap, _∙_}
 use mathlib.Core.Bool.{Bool, true, false, cond}
 use mathlib.Core.List.{List, [], _∷_, _++_}
 use native.Mathlib.Omega.{arith}
 use lib.ListN.{length, getD, take, replicate}
-use lib.Dec.{leb, ltb}
-use borrow.Author.Tests.{leb-true, ltb-true}
+use lib.Dec.{ltb}
+use borrow.Author.Tests.{ltb-true}
 use Rattle.bundle.specs.declared.Bundle.{Bundle as Counts}
 use Rattle.bundle.specs.Bundle.{Bundle}
 use Rattle.bundle.specs.Words.{wordAt}
-use Rattle.bundle.specs.Limits.{limits, wordsOf, bytesOf, Within, withinOf}
+use Rattle.bundle.specs.Limits.{bytesOf, Within, withinOf}
 use Rattle.bundle.specs.File.{bundleAt, bundleOf, countsOf}
 use Rattle.bundle.proofs.Limits.{within-all, within-true}
 use Rattle.logic.specs.declared.Fault.{Fault}
@@ -47,24 +46,7 @@ use Rattle.expansion.proofs.Files.{file-length}
 use Rattle.expansion.proofs.SmallWords.{file-small, expanded-small}
 use Rattle.files.proofs.SectionPlaces.{within-words}
 use Rattle.writer.proofs.Rooted.{stands-at}
-
--- ---- areas
-
-three-of : (p q s : Bool) → 3 ≤ cond p 1 0 + cond q 1 0 + cond s 1 0 → (p ≡ true) × (q ≡ true) × (s ≡ true)
-three-of true true true h = (refl, refl, refl)
-three-of true true false h = absurd (omega arith)
-three-of true false true h = absurd (omega arith)
-three-of true false false h = absurd (omega arith)
-three-of false true true h = absurd (omega arith)
-three-of false true false h = absurd (omega arith)
-three-of false false true h = absurd (omega arith)
-three-of false false false h = absurd (omega arith)
-
-pub long-areas : (out words sets : ℕ) → 3 ≤ longEnough out words sets → LongEnough out words sets
-unfolding longEnough
-long-areas out words sets h =
-    let t = three-of (leb (bytesOf limits) out) (leb (wordsOf limits) words) (leb 1024 sets) h in
-    record { output = leb-true _ _ (t .0); scratch = leb-true _ _ (t .1); stack = leb-true _ _ (t .2) }
+use Rattle.writer.proofs.JobChecks.{long-exactly}
 
 -- ---- tests in a row
 
@@ -146,7 +128,7 @@ module _ (f : List ℕ) (out words sets : ℕ) where
     header-good = tables-header f (longEnough out words sets) 3 none
 
     pub areas-long : LongEnough out words sets
-    areas-long = long-areas out words sets (header-good .area)
+    areas-long = long-exactly out words sets .0 (header-good .area)
 
     tables-formed : TablesFormed (bundleOf f)
     unfolding tablesFault
@@ -200,10 +182,13 @@ module _ (f : List ℕ) (out words sets : ℕ) where
         pub job-formed : TablesFormed (bundleIn w c)
         job-formed = rw bundle-is tables-formed
 
-        pub visit-asks : wordsOf limits ≤ length w → 1024 ≤ length s → TermAsks w s c 0 0 left
-        visit-asks long places = record {
-          ready = record { room = record { within = rw counted (header-good .whole .within); long = long }; version = rw counted (header-good .version) };
-          pending = record { places = places; height = omega arith };
+        pub visit-asks : length w ≡ words → length s ≡ sets → TermAsks w s c 0 0 left
+        visit-asks scratch stack = record {
+          ready = record {
+            room = record { within = rw counted (header-good .whole .within); long = omega (arith, areas-long .scratch, scratch) };
+            version = rw counted (header-good .version);
+          };
+          pending = record { places = omega (arith, areas-long .stack, stack); height = omega arith };
           context = omega arith;
           standing = nodeAt (bundleIn w c) left;
           stands = visit-stands;

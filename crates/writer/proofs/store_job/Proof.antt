@@ -58,7 +58,7 @@ asks c =
     visit-asks (a .job .now) (length (a .out .now)) (length (a .words .now)) (length (a .sets .now)) (none (c .before .before .before .before .before .before .before .before .before .before .before)) (early (c .before .before .before .before .before))
     (c .before .before .before .copy-job .last .1 .1 .0) (c .before .before .before .before .before .before .before .before .job-fault .last .1 .1 .0) (c .before .before .before .before .before .before .before .before .before .before .counts .result) (c .word-at .result)
     (c .before .before .before .before .before .before .before .before .before .before .counts .ensures) (c .word-at .ensures .0) (c .before .before .before .copy-job .ensures .1)
-    (rw (c .before .before .words .given) (areas (c .before .before .before .before .before .before .before .before .before .before .before) .scratch)) (rw (c .before .before .before .before .before .before .before .sets .given) (areas (c .before .before .before .before .before .before .before .before .before .before .before) .stack))
+    (c .before .before .words .given) (c .before .before .before .before .before .before .before .sets .given)
 
 formed : (c : tie.After-word-at) → TablesFormed (bundleIn (c .before .before .before .copy-job .last .1 .1 .0) (c .before .before .before .before .before .before .before .before .before .before .counts .result))
 formed c =
@@ -109,7 +109,7 @@ returns-2 c =
     _ _ (refused-late (a .job .now) (length (a .out .now)) (length (a .words .now)) (length (a .sets .now)) (none (c .before .before .before .before .before .before)) (c .before .before .before .job-fault .result) (late (c .before .before .before)) (c .if2 .taken))
 
 copy-job-requires : tie.Need-copy-job-requires
-copy-job-requires c κs = (whole (c .before .before .before .before .before .before), areas (c .before .before .before .before .before .before .before) .scratch)
+copy-job-requires c κs = (whole (c .before .before .before .before .before .before), omega (arith, areas (c .before .before .before .before .before .before .before) .scratch))
 
 word-at-requires : tie.Need-word-at-requires
 word-at-requires c κs = omega (arith, good (c .before .before .before .before .before .before .before .before .before .before) .header)
