@@ -46,7 +46,7 @@ use Rattle.expansion.proofs.Files.{file-length}
 use Rattle.expansion.proofs.SmallWords.{file-small, expanded-small}
 use Rattle.files.proofs.SectionPlaces.{within-words}
 use Rattle.writer.proofs.Rooted.{stands-at}
-use Rattle.writer.proofs.JobChecks.{long-exactly}
+use Rattle.expansion.proofs.JobChecks.{long-exactly}
 
 -- ---- tests in a row
 
