@@ -1,4 +1,4 @@
-// Images of variables in contexts of the scratch, as steps::images has them for a file.
+// Images of variables in contexts of the scratch, by a walk towards the empty context.
 ghost use mathlib.Core.Path.{_≡_};
 ghost use Rattle.bundle.specs.Bundle.{contextOf};
 ghost use Rattle.bundle.specs.Links.{items};
