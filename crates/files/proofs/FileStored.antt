@@ -23,7 +23,7 @@ use Rattle.scratch.proofs.Encoded.{encode-append}
 use Rattle.scratch.proofs.ScratchFields.{symbols-length, variables-length, terms-length, links-length, contexts-length, steps-length, symbols-fit, variables-fit, terms-fit, links-fit, contexts-fit, steps-fit}
 use Rattle.expansion.specs.Visit.{claiming}
 use Rattle.expansion.specs.File.{flat, symbolWords, variableWords, termWords, linkWords, contextWords, stepWords, headerWordsOf, fileWords, fileOf}
-use Rattle.placing.specs.Outcomes.{HeaderWritten}
+use Rattle.files.specs.HeaderWritten.{HeaderWritten}
 
 -- ---- the words of a section
 

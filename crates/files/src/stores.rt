@@ -1,14 +1,14 @@
 // The file stored: each section into the part of the output that starts at its place.
 ghost use mathlib.Core.Path.{_≡_};
 ghost use mathlib.Core.List.{_++_};
-ghost use Prim.Native.Nat.{ℕ, _+_, _*_, _≤_};
+ghost use Prim.Native.Nat.{_+_, _*_, _≤_};
 ghost use lib.ListN.{length, take, drop};
 ghost use Rattle.bundle.specs.Words.{encode};
 ghost use Rattle.bundle.specs.Limits.{limits, bytesOf};
-ghost use Rattle.scratch.specs.Scratch.{bundleIn, Roomy};
+ghost use Rattle.scratch.specs.Scratch.{bundleIn, Ready};
 ghost use Rattle.expansion.specs.Visit.{claiming};
 ghost use Rattle.expansion.specs.File.{fileOf};
-ghost use Rattle.placing.specs.Outcomes.{Ready, HeaderWritten};
+ghost use Rattle.files.specs.HeaderWritten.{HeaderWritten};
 use scratch::sections::store_section;
 use bundle::Bundle;
 

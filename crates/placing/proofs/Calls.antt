@@ -25,7 +25,7 @@ use Rattle.logic.specs.Contexts.{image}
 use Rattle.logic.specs.Lookup.{seek, sameVariable, sameApplication, sameBinder}
 use Rattle.logic.specs.Longer.{Longer, withVariables, withTerms, withContexts, withSteps, addList, listStart}
 use Rattle.logic.proofs.Longer.{longer-trans, list-longer, terms-longer, contexts-longer, steps-longer}
-use Rattle.scratch.specs.Scratch.{bundleIn}
+use Rattle.scratch.specs.Scratch.{bundleIn, Ready}
 use Rattle.scratch.proofs.ScratchFields.{contexts-count}
 use Rattle.filing.proofs.Seeks.{seek-le}
 use Rattle.scratch.proofs.Pushed.{add-none}
@@ -36,7 +36,7 @@ use Rattle.placing.specs.declared.Added.{Added}
 use Rattle.expansion.specs.Nodes.{leaf}
 use Rattle.expansion.specs.Visit.{Visit, placed, placeVariable, placeApplication, placeBinder, concluded, replacing, fixing, newVariable, fresh, renaming, visit}
 use Rattle.expansion.specs.Visit as unlimited
-use Rattle.placing.specs.Outcomes.{Ready, TooMuch, VisitOutcome, OpenOutcome, PlaceOutcome, AddOutcome}
+use Rattle.placing.specs.Outcomes.{TooMuch, VisitOutcome, OpenOutcome, PlaceOutcome, AddOutcome}
 use Rattle.expansion.proofs.Grown.{variable-longer, replacing-longer, concluded-longer}
 use Rattle.placing.proofs.Closing.{add-is, place-is, add-done, place-done, open-done, add-full, place-full, open-full, variable-over, longer-over, start-word, placed-word}
 

@@ -22,7 +22,7 @@ use Rattle.logic.specs.Lists.{All}
 use Rattle.logic.specs.Contexts.{image}
 use Rattle.logic.specs.Longer.{Longer, withVariables, withTerms, withContexts, withSteps, consecutive, addList, listStart}
 use Rattle.logic.proofs.Longer.{sizes, consecutive-length}
-use Rattle.scratch.specs.Scratch.{wordIn, bundleIn, Roomy}
+use Rattle.scratch.specs.Scratch.{wordIn, bundleIn, Roomy, Ready}
 use Rattle.scratch.proofs.ScratchFields.{symbols-count, variables-count, terms-count, links-count, contexts-count, steps-count, variables-length, terms-length, links-length, contexts-length, steps-length}
 use Rattle.placing.specs.declared.Visited.{Visited}
 use Rattle.placing.specs.declared.Opened.{Opened}
@@ -31,7 +31,7 @@ use Rattle.placing.specs.declared.Added.{Added}
 use Rattle.expansion.specs.File.{countsIn, symbolWords, variableWords, termWords, linkWords, contextWords, stepWords}
 use Rattle.expansion.specs.Visit.{Visit, placed, imageTerm}
 use Rattle.expansion.specs.Visit as unlimited
-use Rattle.placing.specs.Outcomes.{Ready, Holds, TooMuch, VisitOutcome, OpenOutcome, PlaceOutcome, AddOutcome}
+use Rattle.placing.specs.Outcomes.{Holds, TooMuch, VisitOutcome, OpenOutcome, PlaceOutcome, AddOutcome}
 use Rattle.expansion.proofs.Small.{Word, Small, all-tab}
 use Rattle.expansion.proofs.SmallWords.{image-small}
 

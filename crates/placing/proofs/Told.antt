@@ -18,7 +18,7 @@ use Rattle.bundle.specs.File.{tab}
 use Rattle.bundle.specs.Limits.{Within, limits, stepsAt}
 use Rattle.logic.specs.Longer.{Longer}
 use Rattle.logic.proofs.Longer.{sizes}
-use Rattle.scratch.specs.Scratch.{bundleIn, wordIn}
+use Rattle.scratch.specs.Scratch.{bundleIn, wordIn, Ready}
 use Rattle.scratch.specs.Stack.{halves}
 use Rattle.scratch.proofs.ScratchFields.{symbols-length, variables-length, terms-length, links-length, contexts-length, steps-length, step-is}
 use Rattle.placing.specs.declared.Visited.{Visited}
@@ -27,7 +27,7 @@ use Rattle.placing.specs.declared.Opened.{Opened}
 use Rattle.expansion.specs.Visit as unlimited
 use Rattle.expansion.specs.Visit.{Visit, Visits}
 use Rattle.expansion.specs.File.{countsIn}
-use Rattle.placing.specs.Outcomes.{Ready, Holds, TooMuch, VisitOutcome, OpenOutcome, ListOutcome}
+use Rattle.placing.specs.Outcomes.{Holds, TooMuch, VisitOutcome, OpenOutcome, ListOutcome}
 use Rattle.expansion.proofs.Small.{all-at, all-tab}
 use Rattle.placing.proofs.Carried.{Ends}
 

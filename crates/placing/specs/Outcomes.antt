@@ -3,16 +3,15 @@
 use Rattle.logic.specs.Terms.{binder, numberOf}
 use mathlib.Core.Path.{_≡_}
 use mathlib.Core.Bool.{true, false}
-use mathlib.Core.List.{List, [], _∷_}
+use mathlib.Core.List.{List}
 use Prim.Native.Nat.{ℕ, _+_, _≤_, _<_}
 use mathlib.Core.Logic.{_⊎_}
-use lib.ListN.{length, take, drop}
+use lib.ListN.{length, take}
 use Rattle.bundle.specs.declared.Bundle.{Bundle as Counts}
 use Rattle.bundle.specs.Bundle.{Bundle, linkOf, termOf}
-use Rattle.bundle.specs.Links.{items}
 use Rattle.bundle.specs.Limits.{Within}
 use Rattle.logic.specs.Lists.{Number}
-use Rattle.scratch.specs.Scratch.{bundleIn, Roomy}
+use Rattle.scratch.specs.Scratch.{bundleIn, Ready}
 use Rattle.scratch.specs.Stack.{halves}
 use Rattle.filing.specs.Filing.{Indexed}
 use Rattle.logic.specs.Longer.{addList, listStart}
@@ -25,11 +24,6 @@ use Rattle.expansion.specs.Nodes.{Node, Nodes, leaf, node, scope, block, nil, c
 use Rattle.expansion.specs.Visit.{Visit, Visits, visit, visitAll}
 use Rattle.expansion.specs.Visit as unlimited
 use Rattle.expansion.specs.File.{countsIn}
-
--- the words and counts of a bundle of version 1
-pub record Ready (w : List ℕ) (c : Counts) : Type 0 where
-  pub room : Roomy w c
-  pub version : c .version ≡ 1
 
 -- the words w, after the call, stand for the bundle b, which is within the limits
 pub record Holds (w : List ℕ) (b : Bundle) : Type 0 where
@@ -77,12 +71,6 @@ pub record PlaceIndexed (w ix : List ℕ) (r : Placed) : Type 0 where
 
 pub record ListIndexed (w ix : List ℕ) (r : Listed) : Type 0 where
   pub held : (c : Counts) (h : ℕ) → r ≡ Listed.Done c h → Indexed (bundleIn w c) ix
-
--- the words v are w with the header of these counts and this claim
-pub record HeaderWritten (w : List ℕ) (c : Counts) (left right : ℕ) (v : List ℕ) : Type 0 where
-  pub long : length v ≡ length w
-  pub header : take 9 v ≡ 1 ∷ c .symbols ∷ c .variables ∷ c .terms ∷ c .links ∷ c .contexts ∷ c .steps ∷ left ∷ right ∷ []
-  pub rest : drop 9 v ≡ drop 9 w
 
 -- ---- what the visits ask
 

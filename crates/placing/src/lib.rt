@@ -1,16 +1,17 @@
 // Records and lists appended where their section has room, and terms looked up before they are appended, each against its definition without
 // limits. `Full` as soon as a section would pass its limit. The index holds all terms; a term that is appended is filed in it.
 ghost use mathlib.Core.Path.{_≡_};
+ghost use mathlib.Core.Bool.{true};
 ghost use mathlib.Core.List.{[], _∷_};
-ghost use Prim.Native.Nat.{ℕ, suc, _≤_, _<_};
+ghost use Prim.Native.Nat.{suc, _≤_, _<_};
 ghost use lib.ListN.{length};
 ghost use Rattle.logic.specs.Terms.{Binder, binder, numberOf};
 ghost use Rattle.logic.specs.Longer.{withTerms, withContexts, withSteps};
-ghost use Rattle.scratch.specs.Scratch.{bundleIn};
+ghost use Rattle.scratch.specs.Scratch.{bundleIn, Ready};
 ghost use Rattle.scratch.specs.Stack.{halves};
 ghost use Rattle.filing.specs.Filing.{Digested, Indexed};
 ghost use Rattle.expansion.specs.Visit.{placeApplication, placeBinder, fresh};
-ghost use Rattle.placing.specs.Outcomes.{Ready, VisitOutcome, OpenOutcome, PlaceOutcome, AddOutcome, PlaceIndexed};
+ghost use Rattle.placing.specs.Outcomes.{VisitOutcome, OpenOutcome, PlaceOutcome, AddOutcome, PlaceIndexed};
 use scratch::appends::append_context;
 use scratch::appends::append_step;
 use scratch::appends::append_term;

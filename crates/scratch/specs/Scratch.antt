@@ -1,6 +1,6 @@
 -- THE TIE: the bundle that the lent words of 32 bits stand for. Each section has room for its limit, so its place is the one that the limits
 -- give: field k of record j, counted from 0, stands at a constant plus size times j plus k. Words 7 and 8 are the claim, as in a file.
-use Prim.Native.Nat.{ℕ, _+_, _*_, _≤_, _<_}
+use Prim.Native.Nat.{ℕ, _+_, _*_, _≤_}
 use mathlib.Core.Path.{_≡_}
 use mathlib.Core.List.{List}
 use lib.ListN.{length, getD}
@@ -31,3 +31,8 @@ bundleIn w c = record {
 pub record Roomy (w : List ℕ) (c : Counts) : Type 0 where
   pub within : Within c
   pub long : wordsOf limits ≤ length w
+
+-- the words and counts of a bundle of version 1
+pub record Ready (w : List ℕ) (c : Counts) : Type 0 where
+  pub room : Roomy w c
+  pub version : c .version ≡ 1

@@ -2,14 +2,14 @@
 ghost use mathlib.Core.Path.{_≡_};
 ghost use mathlib.Core.Bool.{true};
 ghost use mathlib.Core.List.{map};
-ghost use lib.ListN.{replicate, length, getD};
+ghost use lib.ListN.{replicate, getD};
 ghost use Prim.Native.Nat.{_≤_};
 ghost use Rattle.bundle.specs.Bundle.{sortOfVariable, termOf};
 ghost use Rattle.bundle.specs.Links.{items};
 ghost use Rattle.bundle.specs.Lists.{sameList};
 ghost use Rattle.bundle.specs.File.{Whole, bundleAt};
 ghost use Rattle.logic.specs.declared.Signature.the-variants.{BuiltIn};
-ghost use Rattle.logic.specs.Symbols.{truthSort, symbolKind, signature, signatureOf, known, argumentSorts, resultSort};
+ghost use Rattle.logic.specs.Symbols.{truthSort, symbolKind, signature, known, argumentSorts, resultSort};
 ghost use Rattle.logic.specs.Sorts.{sortAt};
 ghost use Rattle.logic.specs.Checks.{listsAgree};
 ghost use Rattle.sorting.specs.Notes.{Sorted, Fitting};

@@ -1,12 +1,12 @@
 // Check 9: whether a term is equal to an earlier one. Earlier terms are filed by a digest of their records: `heads` has the newest term of each
 // digest, `next` the one before each term among those with its digest, 0 for none. So a term is compared with those of its digest alone.
 ghost use mathlib.Core.Path.{_≡_};
-ghost use Prim.Native.Nat.{_≤_, _<_};
+ghost use Prim.Native.Nat.{_<_};
 ghost use lib.ListN.{length};
 ghost use Rattle.bundle.specs.Bundle.{termOf};
 ghost use Rattle.bundle.specs.Links.{items};
 ghost use Rattle.bundle.specs.File.{Whole, bundleAt};
-ghost use Rattle.logic.specs.Checks.{firstIsList, secondIsList, sameField, sameTerm, isNew};
+ghost use Rattle.logic.specs.Checks.{sameField, sameTerm, isNew};
 ghost use Rattle.terms.specs.Digests.{mix, mixItems, mixField, digestOf, Filed};
 use bundle::Bundle;
 use bundle::lists::first_link;

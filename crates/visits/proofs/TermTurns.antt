@@ -20,7 +20,7 @@ use Rattle.logic.specs.Lists.{Number}
 use Rattle.logic.specs.Terms.{Binder, forAll, exists, binder, numberOf}
 use Rattle.logic.specs.Longer.{Longer}
 use Rattle.logic.proofs.Longer.{longer-trans}
-use Rattle.scratch.specs.Scratch.{bundleIn}
+use Rattle.scratch.specs.Scratch.{bundleIn, Ready}
 use Rattle.scratch.specs.Stack.{halves}
 use Rattle.scratch.proofs.ScratchFields.{variables-length, terms-length, steps-length}
 use Rattle.placing.specs.declared.Visited.{Visited}
@@ -29,7 +29,7 @@ use Rattle.placing.specs.declared.Opened.{Opened}
 use Rattle.expansion.specs.Nodes.{Node, Nodes, leaf, node, scope, block}
 use Rattle.expansion.specs.Visit as unlimited
 use Rattle.expansion.specs.Visit.{Visit, visit, visitAll, concluded, closeApplication, closeBinder, openBinder, replacing, newVariable}
-use Rattle.placing.specs.Outcomes.{Ready, VisitOutcome, OpenOutcome, Stands, StandAll, TermAsks, TermGives, ListAsks, ListGives}
+use Rattle.placing.specs.Outcomes.{VisitOutcome, OpenOutcome, Stands, StandAll, TermAsks, TermGives, ListAsks, ListGives}
 use Rattle.expansion.proofs.Grown.{open-longer, visit-longer, visitAll-longer}
 use Rattle.placing.proofs.Carried.{stands-on, visit-ends, visitAll-steps, replacing-context, open-context, opening, opening-longer, scope-longer, node-longer, body-longer, block-longer}
 use Rattle.visits.proofs.Pairs.{Pair, below-same, below-trans, below-set, halves-then}

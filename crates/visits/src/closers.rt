@@ -3,15 +3,15 @@
 ghost use mathlib.Core.Path.{_≡_};
 ghost use mathlib.Core.Bool.{true, false};
 ghost use mathlib.Core.List.{[], _∷_};
-ghost use Prim.Native.Nat.{ℕ, suc, _≤_};
+ghost use Prim.Native.Nat.{_≤_};
 ghost use lib.ListN.{length};
 ghost use Rattle.logic.specs.Terms.{Binder, binder, numberOf};
-ghost use Rattle.scratch.specs.Scratch.{bundleIn};
+ghost use Rattle.scratch.specs.Scratch.{bundleIn, Ready};
 ghost use Rattle.scratch.specs.Stack.{halves};
 ghost use Rattle.filing.specs.Filing.{Indexed};
 ghost use Rattle.expansion.specs.Nodes.{leaf};
 ghost use Rattle.expansion.specs.Visit.{visit, concluded, replacing, renaming, openBinder, closeApplication, closeBinder};
-ghost use Rattle.placing.specs.Outcomes.{Ready, VisitOutcome, OpenOutcome, VisitIndexed, OpenIndexed};
+ghost use Rattle.placing.specs.Outcomes.{VisitOutcome, OpenOutcome, VisitIndexed, OpenIndexed};
 use scratch::images::image_in;
 use bundle::Bundle;
 use logic::Image;

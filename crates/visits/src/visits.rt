@@ -1,6 +1,4 @@
 // The visit to a term and the visit to a list of terms, which call on each other: the term number falls, ties by links left.
-ghost use mathlib.Core.Path.{_≡_};
-ghost use lib.ListN.{length};
 ghost use Rattle.logic.specs.WellFormed.{TablesFormed};
 ghost use Rattle.scratch.specs.Scratch.{bundleIn};
 ghost use Rattle.filing.specs.Filing.{Indexed};

@@ -1,7 +1,7 @@
 // The checks of a job after 1 to 9.
 ghost use mathlib.Core.Path.{_≡_};
 ghost use mathlib.Core.Bool.{not};
-ghost use Prim.Native.Nat.{ℕ, _+_, _*_, _≤_};
+ghost use Prim.Native.Nat.{_+_, _*_, _≤_};
 ghost use lib.ListN.{length};
 ghost use Rattle.bundle.specs.File.{Whole, bundleAt};
 ghost use Rattle.sets.specs.Sets.{member};

@@ -1,10 +1,7 @@
 // THE PUBLIC EXPANSION: the lets of a job's rule expanded, with the derivation.
 pub mod jobs; // jobs.rt: the checks of a job after 1 to 9
 
-ghost use mathlib.Core.Path.{_≡_};
-ghost use Prim.Native.Nat.{ℕ, _≤_};
-ghost use lib.ListN.{length, take};
-ghost use Rattle.bundle.specs.File.{bundleOf};
+ghost use lib.ListN.{length};
 ghost use Rattle.expansion.specs.Expansion.{expansion};
 ghost use Rattle.expansion.specs.Left.{Left, Stored};
 use expansion::Answer;

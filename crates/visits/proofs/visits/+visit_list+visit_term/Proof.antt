@@ -6,9 +6,8 @@ use native.Mathlib.Omega.{arith}
 use borrow.Author.Needs.{needs}
 use mathlib.Core.Bool.{true, false}
 use lib.ListN.{length, set, length-set}
-use Rattle.scratch.specs.Scratch.{bundleIn}
+use Rattle.scratch.specs.Scratch.{bundleIn, Ready}
 use Rattle.scratch.specs.Stack.{halves}
-use Rattle.placing.specs.Outcomes.{Ready}
 use Rattle.visits.proofs.Pairs.{Pair}
 use Rattle.visits.proofs.ListTurns.{left, left-le, LinkReads, list-none, first-asks, first-full, first-words, first-height, rest-asks, list-more}
 use Rattle.visits.proofs.TermTurns.{Reads, quantified, not-quantified, term-words, term-variable, binder-closed, binder-asks, binder-full, binder-ready, binder-done, args-asks, args-full, args-ready, apply-done, let-closed, body-asks, body-full, body-words, body-ready, body-done}

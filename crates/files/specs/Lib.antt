@@ -1,0 +1,3 @@
+-- What the contracts cite.
+--     HeaderWritten   the header written into the scratch
+pub mod HeaderWritten
