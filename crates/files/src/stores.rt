@@ -9,8 +9,8 @@ ghost use Rattle.scratch.specs.Scratch.{bundleIn, Ready};
 ghost use Rattle.expansion.specs.Visit.{claiming};
 ghost use Rattle.expansion.specs.File.{fileOf};
 ghost use Rattle.files.specs.HeaderWritten.{HeaderWritten};
-use scratch::sections::store_section;
 use bundle::Bundle;
+use scratch::sections::store_section;
 
 // A number as a word.
 fn as_word(x: usize) -> u32

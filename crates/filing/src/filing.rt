@@ -10,12 +10,12 @@ ghost use Rattle.logic.specs.WellFormed.{TablesFormed};
 ghost use Rattle.scratch.specs.Scratch.{bundleIn, Roomy};
 ghost use Rattle.scratch.specs.Stack.{halves};
 ghost use Rattle.filing.specs.Filing.{mix, mixAll, rootDigest, digestOf, Indexed};
+use bundle::Bundle;
+use bundle::lists::first_link;
 use scratch::lists::half;
 use scratch::lists::next_link;
 use scratch::records::link_field;
 use scratch::records::term_field;
-use bundle::Bundle;
-use bundle::lists::first_link;
 
 // A digest and one number more.
 fn mixed(d: usize, x: usize) -> usize

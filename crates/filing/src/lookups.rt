@@ -10,9 +10,9 @@ ghost use Rattle.logic.specs.Lookup.{seek, sameVariable, sameApplication, sameB
 ghost use Rattle.scratch.specs.Scratch.{bundleIn, Roomy};
 ghost use Rattle.scratch.specs.Stack.{halves};
 ghost use Rattle.filing.specs.Filing.{mixAll, rootDigest, Indexed};
+use bundle::Bundle;
 use scratch::lists::same_results;
 use scratch::records::term_field;
-use bundle::Bundle;
 
 // A filed term's number as a number that can be an index.
 fn wide(x: u16) -> usize

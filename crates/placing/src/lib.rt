@@ -12,20 +12,20 @@ ghost use Rattle.scratch.specs.Stack.{halves};
 ghost use Rattle.filing.specs.Filing.{Digested, Indexed};
 ghost use Rattle.expansion.specs.Visit.{placeApplication, placeBinder, fresh};
 ghost use Rattle.placing.specs.Outcomes.{VisitOutcome, OpenOutcome, PlaceOutcome, AddOutcome, PlaceIndexed};
+use bundle::Bundle;
+use filing::filing::file_term;
+use filing::filing::mixed_results;
+use filing::filing::root_digest;
+use filing::lookups::find_application;
+use filing::lookups::find_binder;
+use filing::lookups::find_variable;
 use scratch::appends::append_context;
 use scratch::appends::append_step;
 use scratch::appends::append_term;
 use scratch::appends::append_variable;
-use filing::filing::file_term;
-use filing::filing::mixed_results;
-use filing::filing::root_digest;
 use scratch::lists::push_halves;
 use scratch::lists::push_one;
-use filing::lookups::find_application;
-use filing::lookups::find_binder;
-use filing::lookups::find_variable;
 use scratch::records::variable_sort;
-use bundle::Bundle;
 
 // What a visit to a term answers: the counts, the result's term and the step that carries the term to it; or that a section would pass its
 // limit.

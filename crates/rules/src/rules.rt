@@ -13,10 +13,6 @@ ghost use Rattle.rules.specs.StepWords.{asStep};
 ghost use Rattle.contexts.specs.Lent.{Lent, freeIn, stepIn, imagesIn, allSettledIn};
 ghost use Rattle.rules.specs.Marks.{keyOf, Carried};
 use super::StepWords;
-use contexts::images::image_of;
-use contexts::images::is_free;
-use contexts::images::is_settled;
-use contexts::images::is_variable;
 use super::lists::first_item;
 use super::lists::is_single;
 use super::lists::last_item;
@@ -29,6 +25,10 @@ use bundle::records::context_field;
 use bundle::records::link_field;
 use bundle::records::step_field;
 use bundle::records::term_field;
+use contexts::images::image_of;
+use contexts::images::is_free;
+use contexts::images::is_settled;
+use contexts::images::is_variable;
 use logic::Image;
 
 // ---- Premises

@@ -1,17 +1,11 @@
 // The program show: reads a bundle of up to 65,536 bytes on standard input and prints it as text that can be read, and what the checker says of it.
 // With the argument --dot it prints its steps as a graph, for Graphviz; the rest is comments there.
 ghost use Rattle.bundle.specs.File.{Whole};
-
-mod out; // out.rt: pieces of text
-mod terms; // terms.rt: terms in SMT-LIB
-mod records; // records.rt: a line for each record
-mod refusals; // refusals.rt: what a refusal means
-mod dot; // dot.rt: the graph
-
 use bundle::Bundle;
 use bundle::words::counts;
 use bundle::words::word_at;
 use judgement::Answer;
+use show_text::out;
 
 // A line of the graph's text that is not the graph's is a comment.
 fn line_start(is_dot: bool) {
@@ -46,7 +40,7 @@ fn answer_line(word: &[u8], first: usize, second: usize, is_dot: bool) {
 fn begin_refusal(number: usize, record: usize, is_dot: bool) {
     answer_line(b"refused ", number, record, is_dot);
     line_start(is_dot);
-    refusals::word(number);
+    show_tables::tables::word(number);
     out::text(b": ");
 }
 
@@ -63,15 +57,15 @@ fn show_bundle(file: &[u8], b: Bundle, left: usize, right: usize, answer: Answer
     requires { ⌜ Whole (now file) b ⌝ }
 {
     if is_dot {
-        dot::nodes(file, b);
+        show_records::dot::nodes(file, b);
     } else {
-        records::all_lines(file, b, left, right);
+        show_records::records::all_lines(file, b, left, right);
     }
     match answer {
         Answer::Accepted { left: l, right: r } => answer_line(b"accepted ", l, r, is_dot),
         Answer::Refused { number, record } => {
             begin_refusal(number, record, is_dot);
-            refusals::sentence(file, b, left, right, number, record);
+            show_steps::steps::sentence(file, b, left, right, number, record);
             out::line_end();
         }
     }
@@ -79,25 +73,25 @@ fn show_bundle(file: &[u8], b: Bundle, left: usize, right: usize, answer: Answer
 
 fn show_short(length: usize, answer: Answer, is_dot: bool) {
     begin_why(answer, is_dot);
-    refusals::too_short(length);
+    show_tables::tables::too_short(length);
     out::line_end();
 }
 
 fn show_foreign(version: usize, answer: Answer, is_dot: bool) {
     begin_why(answer, is_dot);
-    refusals::foreign(version);
+    show_tables::tables::foreign(version);
     out::line_end();
 }
 
 fn show_oversize(b: Bundle, answer: Answer, is_dot: bool) {
     begin_why(answer, is_dot);
-    refusals::oversize(b);
+    show_tables::tables::oversize(b);
     out::line_end();
 }
 
 fn show_length(length: usize, bytes: usize, answer: Answer, is_dot: bool) {
     begin_why(answer, is_dot);
-    refusals::wrong_length(length, bytes);
+    show_tables::tables::wrong_length(length, bytes);
     out::line_end();
 }
 

@@ -11,6 +11,11 @@ ghost use Rattle.terms.specs.Digests.{digestOf, Filed};
 ghost use Rattle.sorting.specs.Notes.{Zeros, Sorted, Lower, Fitting};
 use super::duplicates::digest;
 use super::duplicates::is_new;
+use bundle::Bundle;
+use bundle::lists::all_numbers;
+use bundle::records::term_field;
+use logic::Fault;
+use logic::no_fault;
 use sorting::notes::all_lower;
 use sorting::notes::note_sorts;
 use sorting::sorts::arguments_fit;
@@ -18,11 +23,6 @@ use sorting::sorts::is_known;
 use sorting::sorts::let_agrees;
 use sorting::sorts::signature_of;
 use sorting::sorts::sort_in;
-use bundle::Bundle;
-use bundle::lists::all_numbers;
-use bundle::records::term_field;
-use logic::Fault;
-use logic::no_fault;
 
 // Whether x is a record's number in a section of n.
 fn is_number(n: usize, x: usize) -> bool

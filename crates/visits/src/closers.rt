@@ -12,7 +12,6 @@ ghost use Rattle.filing.specs.Filing.{Indexed};
 ghost use Rattle.expansion.specs.Nodes.{leaf};
 ghost use Rattle.expansion.specs.Visit.{visit, concluded, replacing, renaming, openBinder, closeApplication, closeBinder};
 ghost use Rattle.placing.specs.Outcomes.{VisitOutcome, OpenOutcome, VisitIndexed, OpenIndexed};
-use scratch::images::image_in;
 use bundle::Bundle;
 use logic::Image;
 use placing::Added;
@@ -26,6 +25,7 @@ use placing::add_value;
 use placing::place_application;
 use placing::place_binder;
 use placing::place_fresh;
+use scratch::images::image_in;
 
 // ---- A list, and then a record
 

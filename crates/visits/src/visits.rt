@@ -3,20 +3,20 @@ ghost use Rattle.logic.specs.WellFormed.{TablesFormed};
 ghost use Rattle.scratch.specs.Scratch.{bundleIn};
 ghost use Rattle.filing.specs.Filing.{Indexed};
 ghost use Rattle.placing.specs.Outcomes.{TermAsks, TermGives, ListAsks, ListGives, VisitIndexed, ListIndexed};
-use placing::Listed;
-use placing::Opened;
-use placing::Visited;
 use super::closers::close_application;
 use super::closers::close_quantifier;
 use super::closers::close_variable;
 use super::closers::conclude;
 use super::closers::open_let;
 use super::closers::open_quantifier;
+use bundle::Bundle;
 use filing::filing::file_terms;
+use placing::Listed;
+use placing::Opened;
+use placing::Visited;
 use scratch::lists::pack;
 use scratch::records::link_field;
 use scratch::records::term_field;
-use bundle::Bundle;
 
 // Visits a term in a context: its parts in order, then its result and its step. The index holds all terms.
 pub fn visit_term(

@@ -2,8 +2,8 @@
 use borrow.Author.Needs.{needs}
 use native.Mathlib.Omega.{arith}
 use Prim.Native.Nat.{_+_, _-_, _≤_}
-use Rattle.show_bundle.proofs.records.section_lines.Statement.{statement}
-use Rattle.show_bundle.proofs.records.section_lines.Tie as tie
+use Rattle.show_records.proofs.records.section_lines.Statement.{statement}
+use Rattle.show_records.proofs.records.section_lines.Tie as tie
 
 abbrev Inv-loop : tie.InvT-loop
 Inv-loop file b section count i₀ i = i ≤ count + 1

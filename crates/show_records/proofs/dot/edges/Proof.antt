@@ -1,4 +1,4 @@
--- `records::argument_sorts` is safe and ends: the links that it goes on to are links, and the list that is left gets shorter.
+-- `dot::edges` is safe and ends: the links that it goes on to are links, and the list that is left gets shorter.
 use borrow.Author.Needs.{needs}
 use native.Mathlib.Omega.{arith}
 use Prim.Native.Nat.{_≤_}
@@ -6,14 +6,14 @@ use lib.ListN.{length}
 use Rattle.bundle.specs.Links.{items}
 use Rattle.bundle.specs.File.{bundleAt}
 use Rattle.bundle.proofs.Walks.{walk-start-le, walk-le, walk-length}
-use Rattle.show_bundle.proofs.records.argument_sorts.Statement.{statement}
-use Rattle.show_bundle.proofs.records.argument_sorts.Tie as tie
+use Rattle.show_records.proofs.dot.edges.Statement.{statement}
+use Rattle.show_records.proofs.dot.edges.Tie as tie
 
 abbrev Inv-loop : tie.InvT-loop
-Inv-loop file b list i₀ i = i ≤ b .links
+Inv-loop file b step list i₀ i = i ≤ b .links
 
 abbrev μ-loop : tie.MeasureT-loop
-μ-loop file b list i₀ i = length (items (bundleAt file b) i)
+μ-loop file b step list i₀ i = length (items (bundleAt file b) i)
 
 first-link-requires : tie.Need-first-link-requires Inv-loop μ-loop
 first-link-requires c κs = search needs
@@ -24,8 +24,8 @@ loop-holds c = walk-start-le (c .before .before .args .file .now) (c .before .be
 link-field-requires : tie.Need-link-field-requires Inv-loop μ-loop
 link-field-requires c κs = (c .before .before .before .before .pre, omega arith)
 
-sort-item-requires : tie.Need-sort-item-requires Inv-loop μ-loop
-sort-item-requires c κs = search needs
+edge-requires : tie.Need-edge-requires Inv-loop μ-loop
+edge-requires c κs = search needs
 
 next-link-requires : tie.Need-next-link-requires Inv-loop μ-loop
 next-link-requires c κs = c .before .before .before .before .before .before .pre
@@ -39,8 +39,8 @@ loop-again c = walk-le (c .before .before .before .before .before .before .befor
 returns : tie.Need-returns Inv-loop μ-loop
 returns c = search needs
 
-pub argument-sorts-spec : {M : Type 1} → statement M
-argument-sorts-spec =
+pub edges-spec : {M : Type 1} → statement M
+edges-spec =
     tie.close
     (tie.spec
     Inv-loop
@@ -48,7 +48,7 @@ argument-sorts-spec =
     first-link-requires
     loop-holds
     link-field-requires
-    sort-item-requires
+    edge-requires
     next-link-requires
     loop-less
     loop-again

@@ -1,11 +1,11 @@
 // The derivation as a graph, for Graphviz: a node for each step, an edge from each premise to its step.
 ghost use Rattle.bundle.specs.File.{Whole};
-use super::out;
 use bundle::Bundle;
 use bundle::lists::first_link;
 use bundle::lists::next_link;
 use bundle::records::link_field;
 use bundle::records::step_field;
+use show_text::out;
 
 // `  s1 -> s3;`.
 fn edge(premise: usize, step: usize) {

@@ -1,8 +1,8 @@
 -- `dot::nodes` is safe and ends: it counts up to the last step.
 use borrow.Author.Needs.{needs}
 use Prim.Native.Nat.{_+_, _-_, _≤_}
-use Rattle.show_bundle.proofs.dot.nodes.Statement.{statement}
-use Rattle.show_bundle.proofs.dot.nodes.Tie as tie
+use Rattle.show_records.proofs.dot.nodes.Statement.{statement}
+use Rattle.show_records.proofs.dot.nodes.Tie as tie
 
 abbrev Inv-loop : tie.InvT-loop
 Inv-loop file b steps i₀ i = i ≤ b .steps + 1

@@ -6,8 +6,8 @@ use lib.ListN.{length}
 use Rattle.bundle.specs.Links.{items}
 use Rattle.bundle.specs.File.{bundleAt}
 use Rattle.bundle.proofs.Walks.{walk-start-le, walk-le, walk-length}
-use Rattle.show_bundle.proofs.records.premises.Statement.{statement}
-use Rattle.show_bundle.proofs.records.premises.Tie as tie
+use Rattle.show_records.proofs.records.premises.Statement.{statement}
+use Rattle.show_records.proofs.records.premises.Tie as tie
 
 abbrev Inv-loop : tie.InvT-loop
 Inv-loop file b list start i₀ i = i ≤ b .links

@@ -1,8 +1,6 @@
 // A line for each record: declarations, terms by the numbers of their parts, contexts, steps.
 ghost use Prim.Native.Nat.{_≤_};
 ghost use Rattle.bundle.specs.File.{Whole};
-use super::out;
-use super::terms::term;
 use bundle::Bundle;
 use bundle::lists::first_link;
 use bundle::lists::next_link;
@@ -11,6 +9,8 @@ use bundle::records::link_field;
 use bundle::records::step_field;
 use bundle::records::symbol_field;
 use bundle::records::variable_sort;
+use show_text::out;
+use show_text::terms::term;
 
 fn sort_item(s: usize) {
     out::sort(s);

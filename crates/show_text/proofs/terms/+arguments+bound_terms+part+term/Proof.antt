@@ -9,35 +9,35 @@ use Rattle.bundle.proofs.Walks.{walk-start-le, walk-le, walk-length}
 use Prim.Native.Nat.{ℕ, _+_, _*_, _≤_, _<_}
 use borrow.Fn.Kinds.{In}
 use borrow.Fn.PlainCycle.{Measures, is, falls, and}
-use Rattle.show_bundle.proofs.terms.arguments.Reads as arguments
-use Rattle.show_bundle.proofs.terms.arguments.Kinds as arguments-kinds
-use Rattle.show_bundle.proofs.terms.+arguments+bound_terms+part+term.Lts-arguments as arguments-lts
-use Rattle.show_bundle.proofs.terms.bound_terms.Reads as bound-terms
-use Rattle.show_bundle.proofs.terms.bound_terms.Kinds as bound-terms-kinds
-use Rattle.show_bundle.proofs.terms.+arguments+bound_terms+part+term.Lts-bound_terms as bound-terms-lts
-use Rattle.show_bundle.proofs.terms.part.Reads as part
-use Rattle.show_bundle.proofs.terms.part.Kinds as part-kinds
-use Rattle.show_bundle.proofs.terms.+arguments+bound_terms+part+term.Lts-part as part-lts
-use Rattle.show_bundle.proofs.terms.term.Reads as term
-use Rattle.show_bundle.proofs.terms.term.Kinds as term-kinds
-use Rattle.show_bundle.proofs.terms.+arguments+bound_terms+part+term.Lts-term as term-lts
+use Rattle.show_text.proofs.terms.arguments.Reads as arguments
+use Rattle.show_text.proofs.terms.arguments.Kinds as arguments-kinds
+use Rattle.show_text.proofs.terms.+arguments+bound_terms+part+term.Lts-arguments as arguments-lts
+use Rattle.show_text.proofs.terms.bound_terms.Reads as bound-terms
+use Rattle.show_text.proofs.terms.bound_terms.Kinds as bound-terms-kinds
+use Rattle.show_text.proofs.terms.+arguments+bound_terms+part+term.Lts-bound_terms as bound-terms-lts
+use Rattle.show_text.proofs.terms.part.Reads as part
+use Rattle.show_text.proofs.terms.part.Kinds as part-kinds
+use Rattle.show_text.proofs.terms.+arguments+bound_terms+part+term.Lts-part as part-lts
+use Rattle.show_text.proofs.terms.term.Reads as term
+use Rattle.show_text.proofs.terms.term.Kinds as term-kinds
+use Rattle.show_text.proofs.terms.+arguments+bound_terms+part+term.Lts-term as term-lts
 use Rattle.bundle.proofs.lists.first_link.Reads as first-link-reads
 use Rattle.bundle.proofs.lists.next_link.Reads as next-link-reads
 use Rattle.bundle.proofs.records.link_field.Reads as link-field-reads
 use Rattle.bundle.proofs.records.term_field.Reads as term-field-reads
-use Rattle.show_bundle.proofs.out.close.Reads as close-reads
-use Rattle.show_bundle.proofs.out.space.Reads as space-reads
-use Rattle.show_bundle.proofs.terms.close_binding.Reads as close-binding-reads
-use Rattle.show_bundle.proofs.terms.constant.Reads as constant-reads
-use Rattle.show_bundle.proofs.terms.open_application.Reads as open-application-reads
-use Rattle.show_bundle.proofs.terms.open_binding.Reads as open-binding-reads
-use Rattle.show_bundle.proofs.terms.open_body.Reads as open-body-reads
-use Rattle.show_bundle.proofs.terms.open_let.Reads as open-let-reads
-use Rattle.show_bundle.proofs.terms.open_quantifier.Reads as open-quantifier-reads
-use Rattle.show_bundle.proofs.terms.simple_term.Reads as simple-term-reads
-use Rattle.show_bundle.proofs.terms.term_name.Reads as term-name-reads
-use Rattle.show_bundle.proofs.terms.+arguments+bound_terms+part+term.{statement}
-use Rattle.show_bundle.proofs.terms.+arguments+bound_terms+part+term.Tie.{close}
+use Rattle.show_text.proofs.out.close.Reads as close-reads
+use Rattle.show_text.proofs.out.space.Reads as space-reads
+use Rattle.show_text.proofs.terms.close_binding.Reads as close-binding-reads
+use Rattle.show_text.proofs.terms.constant.Reads as constant-reads
+use Rattle.show_text.proofs.terms.open_application.Reads as open-application-reads
+use Rattle.show_text.proofs.terms.open_binding.Reads as open-binding-reads
+use Rattle.show_text.proofs.terms.open_body.Reads as open-body-reads
+use Rattle.show_text.proofs.terms.open_let.Reads as open-let-reads
+use Rattle.show_text.proofs.terms.open_quantifier.Reads as open-quantifier-reads
+use Rattle.show_text.proofs.terms.simple_term.Reads as simple-term-reads
+use Rattle.show_text.proofs.terms.term_name.Reads as term-name-reads
+use Rattle.show_text.proofs.terms.+arguments+bound_terms+part+term.{statement}
+use Rattle.show_text.proofs.terms.+arguments+bound_terms+part+term.Tie.{close}
 
 abbrev μ-arguments : Measures 1 arguments-kinds.ps ℕ
 μ-arguments κs a = 4 * a .1 .1 .0 + 1
