@@ -24,7 +24,7 @@ use Rattle.sets.specs.Sets.{bitAt, holds, member, cleared}
 use Rattle.sets.proofs.Digits.{bit-half, bits-same}
 use Rattle.sets.proofs.Members.{held, member-bit, member-same, filled-length, filled-in, filled-out}
 use Rattle.logic.specs.Free.{freeAt, bitsFrom, setWord, freeArea}
-use Rattle.free_variables.proofs.ByKind.{SoFar}
+use Rattle.unions.proofs.ByKind.{SoFar}
 
 -- ---- one word
 

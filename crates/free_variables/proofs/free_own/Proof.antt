@@ -1,7 +1,7 @@
 -- `free_variables::free_own` meets its contract: one law for each kind of term, from what is known once its set is cleared.
 use Rattle.bundle.specs.File.{bundleAt}
 use Rattle.bundle.proofs.Fields.{variables-length}
-use Rattle.free_variables.proofs.ByKind.{Ready, by-variable, by-unknown, by-application, by-quantifier, by-let, by-other}
+use Rattle.unions.proofs.ByKind.{Ready, by-variable, by-unknown, by-application, by-quantifier, by-let, by-other}
 use borrow.Author.Needs.{needs}
 use Rattle.free_variables.proofs.free_own.Statement.{statement}
 use Rattle.free_variables.proofs.free_own.Tie as tie
@@ -12,7 +12,7 @@ use Rattle.sets.proofs.clear.Reads as clear-reads
 use Rattle.sets.proofs.insert.Reads as insert-reads
 use Rattle.sets.proofs.remove.Reads as remove-reads
 use Rattle.free_variables.proofs.remove_list.Reads as remove-list-reads
-use Rattle.free_variables.proofs.unite_term.Reads as unite-term-reads
+use Rattle.unions.proofs.unite_term.Reads as unite-term-reads
 
 -- the place after the call of `clear`
 abbrev Place : Type 0

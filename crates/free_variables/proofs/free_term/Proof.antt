@@ -2,9 +2,9 @@
 use mathlib.Core.Path.{refl}
 use Rattle.bundle.specs.File.{bundleAt}
 use Rattle.bundle.proofs.Walks.{walk-nil}
-use Rattle.free_variables.proofs.Puts.{room-kept}
-use Rattle.free_variables.proofs.ByKind.{both-parts}
-use Rattle.free_variables.proofs.Unions.{below-same}
+use Rattle.unions.proofs.Puts.{room-kept}
+use Rattle.unions.proofs.ByKind.{both-parts}
+use Rattle.unions.proofs.Unions.{below-same}
 use borrow.Author.Needs.{needs}
 use Rattle.free_variables.proofs.free_term.Statement.{statement}
 use Rattle.free_variables.proofs.free_term.Tie as tie

@@ -7,9 +7,9 @@ use mathlib.Core.Path.{_≡_, refl, _∙_}
 use lib.ListN.{length}
 use Rattle.bundle.specs.File.{bundleAt}
 use Rattle.bundle.proofs.Fields.{record-within}
-use Rattle.free_variables.specs.Put.{Room, Below}
-use Rattle.free_variables.specs.Unions.{Unions}
-use Rattle.free_variables.proofs.Unions.{below-none, below-on, unions-later}
+use Rattle.unions.specs.Put.{Room, Below}
+use Rattle.unions.specs.Unions.{Unions}
+use Rattle.unions.proofs.Unions.{below-none, below-on, unions-later}
 use Rattle.free_variables.proofs.free_terms.Statement.{statement}
 use Rattle.free_variables.proofs.free_terms.Tie as tie
 

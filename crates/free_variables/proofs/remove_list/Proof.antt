@@ -6,8 +6,8 @@ use lib.ListN.{length}
 use Rattle.bundle.specs.Links.{items}
 use Rattle.bundle.specs.File.{bundleAt}
 use Rattle.bundle.proofs.Walks.{walk-start, walk-start-le, walk-le, walk-nil, walk-cons, walk-length}
-use Rattle.free_variables.specs.Put.{Kept}
-use Rattle.free_variables.proofs.Puts.{kept-refl, kept-trans, remove-put, Removing, removing-turn, removing-end}
+use Rattle.unions.specs.Put.{Kept}
+use Rattle.unions.proofs.Puts.{kept-refl, kept-trans, remove-put, Removing, removing-turn, removing-end}
 use Rattle.free_variables.proofs.remove_list.Statement.{statement}
 use Rattle.free_variables.proofs.remove_list.Tie as tie
 

@@ -7,7 +7,7 @@ use Rattle.bundle.specs.Limits.{setWords}
 use Rattle.bundle.specs.File.{bundleAt}
 use Rattle.bundle.proofs.Fields.{links-length}
 use Rattle.bundle.proofs.Walks.{walk-nil}
-use Rattle.free_variables.proofs.Unions.{unions-none, links-room}
+use Rattle.unions.proofs.Unions.{unions-none, links-room}
 use borrow.Author.Needs.{needs}
 use Rattle.free_variables.proofs.with_all_links.Statement.{statement}
 use Rattle.free_variables.proofs.with_all_links.Tie as tie
