@@ -19,7 +19,7 @@ pub fn long_enough(out: usize, words: usize, sets: usize) -> usize
 {
     let output = one(Bundle::BYTES <= out);
     let scratch = one(Bundle::WORDS <= words);
-    let stack = one(Bundle::TERMS <= sets);
+    let stack = one(Bundle::SET_WORDS * Bundle::TERMS <= sets);
     output + scratch + stack
 }
 

@@ -20,9 +20,16 @@ limits = record {
 abbrev pub setWords : ℕ
 setWords = 1
 
+-- words of the header of version 1, and bytes of the shortest file, which is a header
+abbrev pub headerLength : ℕ
+headerLength = 9
+
+abbrev pub leastBytes : ℕ
+leastBytes = 4 * headerLength
+
 -- words of the header of a file of a version
 unfoldable pub headerWords : ℕ → ℕ
-headerWords version = 9
+headerWords version = headerLength
 
 -- the word at which each section starts: symbols (2 words a record), variables (1), terms (4), links (2), contexts (4), steps (5)
 abbrev pub symbolsAt : Counts → ℕ

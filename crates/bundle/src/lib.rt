@@ -3,7 +3,7 @@
 // limits, length exact. What it gives is said of the bundle that the file stands for, `bundleAt`.
 ghost use mathlib.Core.Path.{_≡_};
 ghost use Prim.Native.Nat.{_≤_};
-ghost use Rattle.bundle.specs.Limits.{limits, setWords, headerWords, symbolsAt, variablesAt, termsAt, linksAt, contextsAt, stepsAt, bytesOf, withinOf, Within};
+ghost use Rattle.bundle.specs.Limits.{limits, setWords, leastBytes, headerWords, symbolsAt, variablesAt, termsAt, linksAt, contextsAt, stepsAt, bytesOf, withinOf, Within};
 
 pub mod words; // words.rt: words of bytes, and the header
 pub mod records; // records.rt: the fields of a record
@@ -34,8 +34,13 @@ impl Bundle {
 
     pub const STEPS: usize = 1024;
 
+    // The words of the header, and the bytes of the shortest file, which is a header.
+    pub const HEADER: usize = 9;
+
+    pub const LEAST: usize = 4 * Bundle::HEADER;
+
     // The length of the longest file, in words and in bytes.
-    pub const WORDS: usize = 9
+    pub const WORDS: usize = Bundle::HEADER
         + 2 * Bundle::SYMBOLS
         + Bundle::VARIABLES
         + 4 * Bundle::TERMS
@@ -63,7 +68,13 @@ impl Bundle {
         }
     }
 
-    // Ties the longest length to the length of that bundle, and the words of a set to those in specs/.
+    // Ties the shortest and the longest length, and the words of a set, to those in specs/.
+    pub fn shortest() -> usize
+        ensures { λ r. ⌜ r ≡ leastBytes ⌝ }
+    {
+        Bundle::LEAST
+    }
+
     pub fn longest() -> usize
         ensures { λ r. ⌜ r ≡ bytesOf limits ⌝ }
     {

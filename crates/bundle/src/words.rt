@@ -3,7 +3,7 @@ ghost use mathlib.Core.Path.{_≡_};
 ghost use Prim.Native.Nat.{_+_, _*_, _≤_};
 ghost use lib.ListN.{length};
 ghost use Rattle.bundle.specs.Words.{joinedOf, wordAt};
-ghost use Rattle.bundle.specs.Limits.{headerWords};
+ghost use Rattle.bundle.specs.Limits.{leastBytes, headerWords};
 ghost use Rattle.bundle.specs.File.{countsOf};
 use super::Bundle;
 
@@ -34,12 +34,12 @@ pub fn word_at(file: &[u8], k: usize) -> usize
 pub fn header_words(version: usize) -> usize
     ensures { λ r. ⌜ (r ≡ headerWords version) × (r ≤ 16) ⌝ }
 {
-    9
+    Bundle::HEADER
 }
 
 // The version and the counts that a file's header gives.
 pub fn counts(file: &[u8]) -> Bundle
-    requires { ⌜ 36 ≤ length (now file) ⌝ }
+    requires { ⌜ leastBytes ≤ length (now file) ⌝ }
     ensures { λ r. ⌜ r ≡ countsOf (now (file .entry)) ⌝ }
 {
     Bundle {

@@ -1,4 +1,5 @@
 // The program check: reads up to 65,536 bytes of standard input and prints one line: `accepted`, left, right, or `refused`, number, record.
+use bundle::Bundle;
 use judgement::Answer;
 
 // A word, two numbers and a newline.
@@ -13,7 +14,7 @@ fn print_line(word: &[u8], first: usize, second: usize) {
 fn main() {
     let mut input = io::large_buffer();
     let n = io::read_full(0, &mut input);
-    let mut free = [0u64; 1024];
+    let mut free = [0u64; Bundle::SET_WORDS * Bundle::TERMS];
     let answer = checker::check(&input[..n], &mut free);
     match answer {
         Answer::Accepted { left, right } => print_line(b"accepted ", left, right),

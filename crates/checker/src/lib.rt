@@ -2,7 +2,7 @@
 ghost use mathlib.Core.Path.{_≡_};
 ghost use Prim.Native.Nat.{_+_, _*_, _≤_};
 ghost use lib.ListN.{length};
-ghost use Rattle.bundle.specs.Limits.{setWords};
+ghost use Rattle.bundle.specs.Limits.{limits, setWords};
 ghost use Rattle.bundle.specs.File.{Whole, bundleAt, bundleOf};
 ghost use Rattle.logic.specs.Tests.{firstFailing};
 ghost use Rattle.logic.specs.Free.{freeArea};
@@ -20,7 +20,7 @@ use logic::Fault;
 fn lent_for(file: &[u8]) -> usize
     ensures { λ r. ⌜ r ≡ lentFor (now (file .entry)) ⌝ }
 {
-    if file.len() < 36 {
+    if file.len() < Bundle::LEAST {
         return 0;
     }
     Bundle::SET_WORDS * word_at(file, 3)
@@ -52,7 +52,7 @@ fn late_fault_in(
     images: &mut [u16],
     moved: &mut [u64],
 ) -> Fault
-    requires { ⌜ Whole (now file) b × FreeSets (now free) setWords (bundleAt (now file) b) × (64 * (b .contexts + 1) ≤ length (now images)) × (setWords * (b .contexts + 1) ≤ length (now moved)) × Images (bundleAt (now file) b) (now images) 1 × MovedSets (bundleAt (now file) b) (now moved) setWords 1 ⌝ }
+    requires { ⌜ Whole (now file) b × FreeSets (now free) setWords (bundleAt (now file) b) × (limits .variables * (b .contexts + 1) ≤ length (now images)) × (setWords * (b .contexts + 1) ≤ length (now moved)) × Images (bundleAt (now file) b) (now images) 1 × MovedSets (bundleAt (now file) b) (now moved) setWords 1 ⌝ }
     ensures { λ r. ⌜ r ≡ lateFault (bundleAt (now (file .entry)) b) ⌝ }
 {
     let in_contexts = contexts::contexts::contexts_fault(

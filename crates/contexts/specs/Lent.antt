@@ -7,6 +7,7 @@ use lib.Dec.{ltb, leb}
 use Rattle.bundle.specs.declared.Bundle.{Bundle as Counts}
 use Rattle.bundle.specs.Bundle.{Bundle, Step, stepOf}
 use Rattle.bundle.specs.Lists.{numbers}
+use Rattle.bundle.specs.Limits.{limits}
 use Rattle.bundle.specs.File.{stepFrom, bundleAt}
 use Rattle.sets.specs.Sets.{member, disjointOf}
 use Rattle.logic.specs.declared.Image.{Image}
@@ -51,5 +52,5 @@ readingIn f c w n images moved bed = record {
 -- there is room for the free sets of all terms, and for what is known of all contexts
 pub record Lent (c : Counts) (w i m : List ℕ) (n : ℕ) : Type 0 where
   pub free : n * c .terms ≤ length w
-  pub images : 64 * (c .contexts + 1) ≤ length i
+  pub images : limits .variables * (c .contexts + 1) ≤ length i
   pub moved : n * (c .contexts + 1) ≤ length m

@@ -3,6 +3,7 @@ ghost use mathlib.Core.Path.{_≡_};
 ghost use mathlib.Core.Bool.{true};
 ghost use Prim.Native.Nat.{_+_, _*_, _≤_};
 ghost use lib.ListN.{length};
+ghost use Rattle.bundle.specs.Limits.{limits};
 ghost use Rattle.bundle.specs.Links.{items};
 ghost use Rattle.bundle.specs.Lists.{each};
 ghost use Rattle.bundle.specs.File.{Whole, bundleAt};
@@ -112,7 +113,7 @@ pub fn contexts_fault(
     images: &mut [u16],
     moved: &mut [u64],
 ) -> Fault
-    requires { ⌜ Whole (now file) b × FreeSets (now area) n (bundleAt (now file) b) × (b .variables ≤ 64 * n) × (64 * (b .contexts + 1) ≤ length (now images)) × (n * (b .contexts + 1) ≤ length (now moved)) × Images (bundleAt (now file) b) (now images) 1 × MovedSets (bundleAt (now file) b) (now moved) n 1 ⌝ }
+    requires { ⌜ Whole (now file) b × FreeSets (now area) n (bundleAt (now file) b) × (b .variables ≤ 64 * n) × (limits .variables * (b .contexts + 1) ≤ length (now images)) × (n * (b .contexts + 1) ≤ length (now moved)) × Images (bundleAt (now file) b) (now images) 1 × MovedSets (bundleAt (now file) b) (now moved) n 1 ⌝ }
     ensures { λ r. ⌜ r ≡ contextsFault (bundleAt (now (file .entry)) b) ⌝ }
     ensures { λ r. ⌜ (r .number ≡ 0 → Images (bundleAt (now (file .entry)) b) (now (images .exit)) (b .contexts + 1) × MovedSets (bundleAt (now (file .entry)) b) (now (moved .exit)) n (b .contexts + 1)) ⌝ }
 {

@@ -2,6 +2,7 @@
 ghost use mathlib.Core.Path.{_≡_};
 ghost use Prim.Native.Nat.{ℕ, _+_, _*_, _≤_};
 ghost use lib.ListN.{length};
+ghost use Rattle.bundle.specs.Limits.{limits};
 ghost use Rattle.bundle.specs.File.{Whole, bundleAt};
 ghost use Rattle.logic.specs.Contexts.{isVariable};
 ghost use Rattle.contexts.specs.Known.{imageAt};
@@ -19,7 +20,7 @@ fn wide(x: u16) -> usize
 
 // The image of variable x in a context.
 pub fn image_of(b: Bundle, images: &[u16], context: usize, x: usize) -> Image
-    requires { ⌜ (b .variables ≤ 64) × (64 * (context + 1) ≤ length (now images)) ⌝ }
+    requires { ⌜ (b .variables ≤ limits .variables) × (limits .variables * (context + 1) ≤ length (now images)) ⌝ }
     ensures { λ r. ⌜ r ≡ imageAt (b .variables) (now (images .entry)) context x ⌝ }
 {
     if x == 0 {

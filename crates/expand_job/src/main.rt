@@ -1,5 +1,6 @@
 // The program expand: reads a job of up to 65,536 bytes on standard input and writes the expanded file to standard output. A job that is refused gets one
 // line `refused`, number, record on standard error, and nothing on standard output.
+use bundle::Bundle;
 use expansion::Answer;
 
 // The first bytes of an area, so many as the file has.
@@ -12,9 +13,9 @@ fn write_start(area: &[u8], length: usize) {
 fn main() {
     let mut input = io::large_buffer();
     let n = io::read_full(0, &mut input);
-    let mut out = [0u8; 58148];
-    let mut words = [0u32; 14537];
-    let mut sets = [0u64; 1024];
+    let mut out = [0u8; Bundle::BYTES];
+    let mut words = [0u32; Bundle::WORDS];
+    let mut sets = [0u64; Bundle::SET_WORDS * Bundle::TERMS];
     let answer = writer::expand(&input[..n], &mut out, &mut words, &mut sets);
     match answer {
         Answer::Written { length } => write_start(&out, length),

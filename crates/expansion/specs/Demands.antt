@@ -5,7 +5,7 @@ use mathlib.Core.Logic.{_↔_}
 use mathlib.Core.Bool.{false}
 use mathlib.Core.List.{List, []}
 use lib.ListN.{length, take, drop, replicate}
-use Rattle.bundle.specs.Limits.{limits, setWords, wordsOf, bytesOf, Within}
+use Rattle.bundle.specs.Limits.{leastBytes, limits, setWords, wordsOf, bytesOf, Within}
 use Rattle.bundle.specs.File.{Whole, countsOf, bundleOf}
 use Rattle.logic.specs.Lists.{All, Number}
 use Rattle.logic.specs.Terms.{tree}
@@ -20,7 +20,7 @@ use Rattle.judgement.specs.Order.{FirstFailing}
 use Rattle.expansion.specs.declared.Answer.the-variants.{Written, Refused}
 use Rattle.expansion.specs.Visit.{visited}
 use Rattle.expansion.specs.File.{countsIn}
-use Rattle.expansion.specs.Expansion.{Outcome, expansion}
+use Rattle.expansion.specs.Expansion.{stackWords, Outcome, expansion}
 use Rattle.expansion.specs.JobOrder.{allJobChecks}
 
 -- a string of bytes
@@ -29,7 +29,7 @@ Bytes f = All (λ x. x < 256) f
 
 -- A job is well formed if it fails none of the checks 1 to 3, 5 to 9 and 18 and its left is a term.
 pub record JobFormed (f : List ℕ) : Type 0 where
-  pub header : 36 ≤ length f
+  pub header : leastBytes ≤ length f
   pub version : countsOf f .version ≡ 1
   pub whole : Whole f (countsOf f)
   pub tables : TablesFormed (bundleOf f)
@@ -46,7 +46,7 @@ Fits f = Within (countsIn (visited (bundleOf f) .bundle))
 pub record LongEnough (out words sets : ℕ) : Type 0 where
   pub output : bytesOf limits ≤ out
   pub scratch : wordsOf limits ≤ words
-  pub stack : 1024 ≤ sets
+  pub stack : stackWords ≤ sets
 
 -- Demand 1, for the writer. A job is refused with number n and record i exactly where check n fails at record i and every check before it in
 -- document 01's order holds.

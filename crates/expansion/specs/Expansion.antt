@@ -6,7 +6,7 @@ use lib.ListN.{length, replicate}
 use lib.Dec.{eqb, leb}
 use Rattle.bundle.specs.Bundle.{Bundle}
 use Rattle.bundle.specs.Lists.{numbers}
-use Rattle.bundle.specs.Limits.{limits, wordsOf, bytesOf, headerWords, withinOf}
+use Rattle.bundle.specs.Limits.{setWords, limits, wordsOf, bytesOf, headerWords, withinOf}
 use Rattle.bundle.specs.File.{bundleOf}
 use Rattle.logic.specs.declared.Fault.{Fault}
 use Rattle.logic.specs.Tests.{passed, upTo, Test, test, firstFailing, fault, orElse, orNext}
@@ -19,6 +19,10 @@ use Rattle.expansion.specs.File.{countsIn, fileOf}
 
 -- ---- areas
 
+-- words of 64 bits for the stack: as many as the free sets of all terms may take
+abbrev pub stackWords : ℕ
+stackWords = setWords * limits .terms
+
 -- An output of at least 58,148 bytes, and scratch of at least 14,537 words of 32 bits and 1,024 of 64: how many of the three areas are long
 -- enough, where three are required.
 unfoldable pub longEnough : ℕ → ℕ → ℕ → ℕ
@@ -26,7 +30,7 @@ unfolding headerWords
 longEnough out words sets =
     cond (leb (bytesOf limits) out) 1 0
     + cond (leb (wordsOf limits) words) 1 0
-    + cond (leb 1024 sets) 1 0
+    + cond (leb stackWords sets) 1 0
 
 -- ---- after 1 to 9 come 18, 15, 17, 16
 

@@ -14,7 +14,7 @@ pub fn copy_job(job: &[u8], b: Bundle, words: &mut [u32])
     ensures { λ _. ⌜ (length (now (words .exit)) ≡ length (now (words .entry))) × (bundleIn (now (words .exit)) b ≡ bundleAt (now (job .entry)) b) ⌝ }
 {
     let room = Bundle::largest();
-    copy_section(job, 0, words, 0, 9);
+    copy_section(job, 0, words, 0, Bundle::HEADER);
     copy_section(job, b.symbols_at(), words, room.symbols_at(), 2 * b.symbols);
     copy_section(
         job,

@@ -52,7 +52,7 @@ pub fn store_file(words: &mut [u32], c: Bundle, left: usize, right: usize, out: 
 {
     write_header(words, c, left, right);
     let room = Bundle::largest();
-    store_at(words, 0, 9, out, 0);
+    store_at(words, 0, Bundle::HEADER, out, 0);
     store_at(words, room.symbols_at(), 2 * c.symbols, out, c.symbols_at());
     store_at(
         words,

@@ -5,7 +5,7 @@ use mathlib.Core.Logic.{_↔_}
 use mathlib.Core.List.{List}
 use lib.ListN.{length, getD, replicate}
 use Rattle.bundle.specs.Bundle.{Bundle, stepOf}
-use Rattle.bundle.specs.Limits.{setWords}
+use Rattle.bundle.specs.Limits.{leastBytes, setWords}
 use Rattle.bundle.specs.File.{Whole, countsOf, bundleOf}
 use Rattle.logic.specs.Lists.{All, Number}
 use Rattle.logic.specs.Terms.{tree}
@@ -39,7 +39,7 @@ pub record LastIsClaim (b : Bundle) : Type 0 where
 -- What document 01 asks of a file f and of the m words that are lent: a header of version 1 with counts within the limits and the exact length,
 -- an area that is long enough, well-formed tables and contexts, each step an instance of its rule, and the last step the claim.
 pub record Acceptable (f : List ℕ) (m : ℕ) : Type 0 where
-  pub header : 36 ≤ length f
+  pub header : leastBytes ≤ length f
   pub version : countsOf f .version ≡ 1
   pub whole : Whole f (countsOf f)
   pub area : setWords * countsOf f .terms ≤ m

@@ -5,7 +5,7 @@ use mathlib.Core.List.{List, [], _∷_}
 use lib.ListN.{length, replicate}
 use lib.Dec.{eqb, ltb, leb}
 use Rattle.bundle.specs.Bundle.{Bundle, stepOf}
-use Rattle.bundle.specs.Limits.{setWords}
+use Rattle.bundle.specs.Limits.{leastBytes, setWords}
 use Rattle.bundle.specs.File.{countsOf, bundleOf}
 use Rattle.logic.specs.declared.Fault.{Fault}
 use Rattle.logic.specs.Tests.{passed, Test, test, firstFailing, fault, orElse, orNext}
@@ -23,7 +23,7 @@ required f = setWords * countsOf f .terms
 -- what the code computes of it before it knows that the file has a header
 unfoldable pub lentFor : List ℕ → ℕ
 unfolding countsOf
-lentFor f = cond (leb 36 (length f)) (required f) 0
+lentFor f = cond (leb leastBytes (length f)) (required f) 0
 
 -- 15: P is 0, or the last step isn't (context 0, claimed left, claimed right)
 abbrev pub claimTests : Bundle → List Test

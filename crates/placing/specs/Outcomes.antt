@@ -9,7 +9,7 @@ use mathlib.Core.Logic.{_⊎_}
 use lib.ListN.{length, take}
 use Rattle.bundle.specs.declared.Bundle.{Bundle as Counts}
 use Rattle.bundle.specs.Bundle.{Bundle, linkOf, termOf}
-use Rattle.bundle.specs.Limits.{Within}
+use Rattle.bundle.specs.Limits.{limits, Within}
 use Rattle.logic.specs.Lists.{Number}
 use Rattle.scratch.specs.Scratch.{bundleIn, Ready}
 use Rattle.scratch.specs.Stack.{halves}
@@ -102,7 +102,7 @@ abbrev mutual
 
 -- the stack has a place for each step that there can be, and no more pairs are pending than there are steps
 pub record Pending (s : List ℕ) (c : Counts) (h : ℕ) : Type 0 where
-  pub places : 1024 ≤ length s
+  pub places : limits .steps ≤ length s
   pub height : h ≤ c .steps
 
 -- a visit leaves the stack as long as it was, and as it was below the height

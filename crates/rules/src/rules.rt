@@ -4,6 +4,7 @@ ghost use mathlib.Core.Bool.{true, false, cond, not, _&&_};
 ghost use lib.Dec.{eqb};
 ghost use Prim.Native.Nat.{_+_, _*_, _≤_, _<_};
 ghost use lib.ListN.{length};
+ghost use Rattle.bundle.specs.Limits.{limits};
 ghost use Rattle.bundle.specs.Bundle.{stepField};
 ghost use Rattle.bundle.specs.Links.{items};
 ghost use Rattle.bundle.specs.File.{Whole, bundleAt};
@@ -125,10 +126,10 @@ pub fn all_prove(
 
 // A context and two links as one number, another for each context and each two links from 1.
 fn key(context: usize, i: usize, j: usize) -> u32
-    requires { ⌜ (context ≤ 256) × (i ≤ 2048) × (j ≤ 2048) ⌝ }
+    requires { ⌜ (context ≤ limits .contexts) × (i ≤ limits .links) × (j ≤ limits .links) ⌝ }
     ensures { λ r. ⌜ r ≡ keyOf context i j ⌝ }
 {
-    ((context * 2048 + i) * 2048 + j) as u32
+    ((context * Bundle::LINKS + i) * Bundle::LINKS + j) as u32
 }
 
 // The same with no premise more, for the batch check. `carried` has at a premise's link the key at which the premises from there on were last found to carry the
@@ -137,13 +138,13 @@ pub fn all_carried(
     file: &[u8],
     b: Bundle,
     bed: &[u32],
-    carried: &mut [u32; 2049],
+    carried: &mut [u32; Bundle::LINKS + 1],
     context: usize,
     lefts: usize,
     rights: usize,
     premises: usize,
 ) -> bool
-    requires { ⌜ Whole (now file) b × Carried (stepIn (bundleAt (now file) b) (now bed)) (bundleAt (now file) b) (now carried) × (context ≤ 256) ⌝ }
+    requires { ⌜ Whole (now file) b × Carried (stepIn (bundleAt (now file) b) (now bed)) (bundleAt (now file) b) (now carried) × (context ≤ limits .contexts) ⌝ }
     ensures { λ x. ⌜ x ≡ allProveBy (stepIn (bundleAt (now (file .entry)) b) (now (bed .entry))) false context (items (bundleAt (now (file .entry)) b) lefts) (items (bundleAt (now (file .entry)) b) rights) (items (bundleAt (now (file .entry)) b) premises) ⌝ }
     ensures { λ x. ⌜ (x ≡ true → Carried (stepIn (bundleAt (now (file .entry)) b) (now (bed .entry))) (bundleAt (now (file .entry)) b) (now (carried .exit))) ⌝ }
 {
@@ -343,7 +344,7 @@ pub fn bind_sides(
     images: &[u16],
     s: StepWords,
 ) -> bool
-    requires { ⌜ Whole (now file) b × (n * b .terms ≤ length (now area)) × (64 * (b .contexts + 1) ≤ length (now images)) × (s .context ≤ b .contexts) ⌝ }
+    requires { ⌜ Whole (now file) b × (n * b .terms ≤ length (now area)) × (limits .variables * (b .contexts + 1) ≤ length (now images)) × (s .context ≤ b .contexts) ⌝ }
     ensures { λ r. ⌜ r ≡ bindSidesBy (freeIn (b .terms) (now (area .entry)) n) (imagesIn b (now (images .entry))) (bundleAt (now (file .entry)) b) (asStep s) ⌝ }
 {
     let context = s.context;

@@ -3,6 +3,7 @@ ghost use mathlib.Core.Path.{_≡_};
 ghost use mathlib.Core.List.{[], _∷_};
 ghost use Prim.Native.Nat.{ℕ, _≤_, _<_};
 ghost use lib.ListN.{length};
+ghost use Rattle.bundle.specs.Limits.{limits};
 ghost use Rattle.logic.specs.Longer.{withVariables, withTerms, withLinks, withContexts, withSteps};
 ghost use Rattle.scratch.specs.Scratch.{bundleIn, Roomy};
 use bundle::Bundle;
@@ -16,7 +17,7 @@ fn as_word(x: usize) -> u32
 }
 
 pub fn append_variable(words: &mut [u32], c: Bundle, sort: usize) -> Bundle
-    requires { ⌜ Roomy (now words) c × (c .variables < 64) × (sort ≤ 4294967295) ⌝ }
+    requires { ⌜ Roomy (now words) c × (c .variables < limits .variables) × (sort ≤ 4294967295) ⌝ }
     ensures { λ r. ⌜ Roomy (now (words .exit)) r × (length (now (words .exit)) ≡ length (now (words .entry))) × (bundleIn (now (words .exit)) r ≡ withVariables (bundleIn (now (words .entry)) c) (sort ∷ [])) × (r .version ≡ c .version) ⌝ }
 {
     let mut after = c;
@@ -35,7 +36,7 @@ pub fn append_term(
     second: usize,
     third: usize,
 ) -> Bundle
-    requires { ⌜ Roomy (now words) c × (c .terms < 1024) × (kind ≤ 4294967295) × (first ≤ 4294967295) × (second ≤ 4294967295) × (third ≤ 4294967295) ⌝ }
+    requires { ⌜ Roomy (now words) c × (c .terms < limits .terms) × (kind ≤ 4294967295) × (first ≤ 4294967295) × (second ≤ 4294967295) × (third ≤ 4294967295) ⌝ }
     ensures { λ r. ⌜ Roomy (now (words .exit)) r × (length (now (words .exit)) ≡ length (now (words .entry))) × (bundleIn (now (words .exit)) r ≡ withTerms (bundleIn (now (words .entry)) c) (record { kind = kind; a = first; b = second; c = third } ∷ [])) × (r .version ≡ c .version) ⌝ }
 {
     let mut after = c;
@@ -50,7 +51,7 @@ pub fn append_term(
 }
 
 pub fn append_link(words: &mut [u32], c: Bundle, value: usize, next: usize) -> Bundle
-    requires { ⌜ Roomy (now words) c × (c .links < 2048) × (value ≤ 4294967295) × (next ≤ 4294967295) ⌝ }
+    requires { ⌜ Roomy (now words) c × (c .links < limits .links) × (value ≤ 4294967295) × (next ≤ 4294967295) ⌝ }
     ensures { λ r. ⌜ Roomy (now (words .exit)) r × (length (now (words .exit)) ≡ length (now (words .entry))) × (bundleIn (now (words .exit)) r ≡ withLinks (bundleIn (now (words .entry)) c) (record { value = value; next = next } ∷ [])) × (r .version ≡ c .version) ⌝ }
 {
     let mut after = c;
@@ -70,7 +71,7 @@ pub fn append_context(
     second: usize,
     parent: usize,
 ) -> Bundle
-    requires { ⌜ Roomy (now words) c × (c .contexts < 256) × (kind ≤ 4294967295) × (first ≤ 4294967295) × (second ≤ 4294967295) × (parent ≤ 4294967295) ⌝ }
+    requires { ⌜ Roomy (now words) c × (c .contexts < limits .contexts) × (kind ≤ 4294967295) × (first ≤ 4294967295) × (second ≤ 4294967295) × (parent ≤ 4294967295) ⌝ }
     ensures { λ r. ⌜ Roomy (now (words .exit)) r × (length (now (words .exit)) ≡ length (now (words .entry))) × (bundleIn (now (words .exit)) r ≡ withContexts (bundleIn (now (words .entry)) c) (record { kind = kind; a = first; b = second; parent = parent } ∷ [])) × (r .version ≡ c .version) ⌝ }
 {
     let mut after = c;
@@ -93,7 +94,7 @@ pub fn append_step(
     right: usize,
     premises: usize,
 ) -> Bundle
-    requires { ⌜ Roomy (now words) c × (c .steps < 1024) × (rule ≤ 4294967295) × (context ≤ 4294967295) × (left ≤ 4294967295) × (right ≤ 4294967295) × (premises ≤ 4294967295) ⌝ }
+    requires { ⌜ Roomy (now words) c × (c .steps < limits .steps) × (rule ≤ 4294967295) × (context ≤ 4294967295) × (left ≤ 4294967295) × (right ≤ 4294967295) × (premises ≤ 4294967295) ⌝ }
     ensures { λ r. ⌜ Roomy (now (words .exit)) r × (length (now (words .exit)) ≡ length (now (words .entry))) × (bundleIn (now (words .exit)) r ≡ withSteps (bundleIn (now (words .entry)) c) (record { rule = rule; context = context; left = left; right = right; premises = premises } ∷ [])) × (r .version ≡ c .version) ⌝ }
 {
     let mut after = c;

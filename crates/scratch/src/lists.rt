@@ -4,6 +4,7 @@ ghost use mathlib.Core.Bool.{Bool, true, false};
 ghost use mathlib.Core.List.{[], _∷_};
 ghost use Prim.Native.Nat.{ℕ, suc, _+_, _-_, _≤_, _<_};
 ghost use lib.ListN.{length};
+ghost use Rattle.bundle.specs.Limits.{limits};
 ghost use Rattle.bundle.specs.Links.{nextOf, items};
 ghost use Rattle.bundle.specs.Lists.{sameList};
 ghost use Rattle.logic.specs.Longer.{addList, startOf};
@@ -77,7 +78,7 @@ pub fn same_results(
 
 // The first link of a list of n values that is appended next: 0 for the empty list.
 pub fn list_start(c: Bundle, n: usize) -> usize
-    requires { ⌜ c .links ≤ 2048 ⌝ }
+    requires { ⌜ c .links ≤ limits .links ⌝ }
     ensures { λ r. ⌜ (n ≡ 0 → r ≡ 0) × ((n ≡ 0 → ⊥) → r ≡ suc (c .links)) ⌝ }
 {
     if n == 0 { 0 } else { c.links + 1 }
@@ -92,7 +93,7 @@ pub fn push_halves(
     from: usize,
     to: usize,
 ) -> Bundle
-    requires { ⌜ Roomy (now words) c × (from ≤ to) × (to ≤ length (now stack)) × (c .links + (to - from) ≤ 2048) ⌝ }
+    requires { ⌜ Roomy (now words) c × (from ≤ to) × (to ≤ length (now stack)) × (c .links + (to - from) ≤ limits .links) ⌝ }
     ensures { λ r. ⌜ Roomy (now (words .exit)) r × (length (now (words .exit)) ≡ length (now (words .entry))) × (bundleIn (now (words .exit)) r ≡ addList (bundleIn (now (words .entry)) c) (halves upper (now (stack .entry)) from to)) × (r .version ≡ c .version) ⌝ }
 {
     let mut after = c;
@@ -110,7 +111,7 @@ pub fn push_halves(
 
 // Appends a list of one value.
 pub fn push_one(words: &mut [u32], c: Bundle, value: usize) -> Bundle
-    requires { ⌜ Roomy (now words) c × (c .links < 2048) × (value ≤ 4294967295) ⌝ }
+    requires { ⌜ Roomy (now words) c × (c .links < limits .links) × (value ≤ 4294967295) ⌝ }
     ensures { λ r. ⌜ Roomy (now (words .exit)) r × (length (now (words .exit)) ≡ length (now (words .entry))) × (bundleIn (now (words .exit)) r ≡ addList (bundleIn (now (words .entry)) c) (value ∷ [])) × (r .version ≡ c .version) ⌝ }
 {
     append_link(words, c, value, 0)

@@ -97,7 +97,7 @@ fn show_length(length: usize, bytes: usize, answer: Answer, is_dot: bool) {
 
 // As much of the file as can be read. A file whose header is bad, which the checker refuses with 1 to 3, shows its header's numbers only.
 fn show_file(file: &[u8], answer: Answer, is_dot: bool) {
-    if file.len() < 36 {
+    if file.len() < Bundle::LEAST {
         show_short(file.len(), answer, is_dot);
         return;
     }

@@ -4,6 +4,7 @@ ghost use mathlib.Core.Bool.{true};
 ghost use mathlib.Core.List.{map};
 ghost use lib.ListN.{replicate, getD};
 ghost use Prim.Native.Nat.{_≤_};
+ghost use Rattle.bundle.specs.Limits.{limits};
 ghost use Rattle.bundle.specs.Bundle.{sortOfVariable, termOf};
 ghost use Rattle.bundle.specs.Links.{items};
 ghost use Rattle.bundle.specs.Lists.{sameList};
@@ -43,7 +44,7 @@ fn built_in(count: usize, sort: usize) -> Signature
 
 // The signature of symbol f, where so many are declared.
 fn signature_in(symbols: usize, f: usize) -> Signature
-    requires { ⌜ symbols ≤ 64 ⌝ }
+    requires { ⌜ symbols ≤ limits .symbols ⌝ }
     ensures { λ r. ⌜ r ≡ signature (symbolKind symbols f) ⌝ }
 {
     match f {
@@ -63,7 +64,7 @@ fn signature_in(symbols: usize, f: usize) -> Signature
 
 // The signature of symbol f.
 pub fn signature_of(b: Bundle, f: usize) -> Signature
-    requires { ⌜ b .symbols ≤ 64 ⌝ }
+    requires { ⌜ b .symbols ≤ limits .symbols ⌝ }
     ensures { λ r. ⌜ r ≡ signature (symbolKind (b .symbols) f) ⌝ }
 {
     let symbols = b.symbols;

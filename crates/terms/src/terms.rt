@@ -155,10 +155,10 @@ fn large_fault(file: &[u8], b: Bundle) -> Fault
     requires { ⌜ Whole (now file) b ⌝ }
     ensures { λ r. ⌜ r ≡ termsFault (bundleAt (now (file .entry)) b) ⌝ }
 {
-    let mut sorts = [0usize; 1025];
-    let mut lower = [0u8; 2049];
-    let mut fitting = [0u16; 2049];
-    let mut next = [0u16; 1025];
+    let mut sorts = [0usize; Bundle::TERMS + 1];
+    let mut lower = [0u8; Bundle::LINKS + 1];
+    let mut fitting = [0u16; Bundle::LINKS + 1];
+    let mut next = [0u16; Bundle::TERMS + 1];
     note_sorts(file, b, &mut sorts);
     noted_fault(file, b, &sorts, &mut lower, &mut fitting, &mut next)
 }
