@@ -4,7 +4,7 @@
 --     Links      the list that starts at a link
 --     Limits     the limits of the counts, the places of the sections, the length that the counts give
 --     File       THE TIE: the bundle that a file stands for
---     Lists      tests on lists of numbers
+--     Lists      tests on lists of numbers, and items by their place
 pub mod Words
 pub mod Bundle
 pub mod Links

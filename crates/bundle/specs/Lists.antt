@@ -1,7 +1,8 @@
--- Tests on lists of numbers.
+-- Tests on lists of numbers, and items by their place.
 use Prim.Native.Nat.{ℕ}
 use mathlib.Core.List.{List, [], _∷_}
 use mathlib.Core.Bool.{Bool, true, false, not, _&&_, _||_}
+use lib.ListN.{getD}
 use lib.Dec.{eqb, ltb, leb}
 
 -- two lists are the same, item by item
@@ -30,3 +31,21 @@ unfoldable pub different : List ℕ → Bool
 unfolding has
 different [] = true
 different (x ∷ xs) = not (has x xs) && different xs
+
+-- the first and the second number of a list, and the last; 0 where there is none
+abbrev pub firstOf : List ℕ → ℕ
+firstOf xs = getD xs 0 0
+
+abbrev pub secondOf : List ℕ → ℕ
+secondOf xs = getD xs 1 0
+
+-- a list of one number
+unfoldable pub single : List ℕ → Bool
+single [] = false
+single (x ∷ []) = true
+single (x ∷ y ∷ ys) = false
+
+unfoldable pub lastOf : List ℕ → ℕ
+lastOf [] = 0
+lastOf (x ∷ []) = x
+lastOf (x ∷ y ∷ ys) = lastOf (y ∷ ys)

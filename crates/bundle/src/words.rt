@@ -15,10 +15,18 @@ fn joined(a: u8, b: u8, c: u8, d: u8) -> u32
 }
 
 // A word as a number that can be an index.
-fn wide(x: u32) -> usize
+pub fn wide(x: u32) -> usize
     ensures { λ r. ⌜ (r ≡ x) × (r ≤ 4294967295) ⌝ }
 {
     x as usize
+}
+
+// A number that fits as a word.
+pub fn as_word(x: usize) -> u32
+    requires { ⌜ x ≤ 4294967295 ⌝ }
+    ensures { λ r. ⌜ r ≡ x ⌝ }
+{
+    x as u32
 }
 
 // Word k of the file, as a number that can be an index.

@@ -8,15 +8,9 @@ ghost use Rattle.logic.specs.Contexts.{isVariable};
 ghost use Rattle.contexts.specs.Known.{imageAt};
 ghost use Rattle.contexts.specs.Lent.{freeIn, settledIn};
 use bundle::Bundle;
+use bundle::halves::wide;
 use bundle::records::term_field;
 use logic::Image;
-
-// A place of the table of images as a number.
-fn wide(x: u16) -> usize
-    ensures { λ r. ⌜ r ≡ x ⌝ }
-{
-    x as usize
-}
 
 // The image of variable x in a context.
 pub fn image_of(b: Bundle, images: &[u16], context: usize, x: usize) -> Image

@@ -10,15 +10,8 @@ ghost use Rattle.expansion.specs.Visit.{claiming};
 ghost use Rattle.expansion.specs.File.{fileOf};
 ghost use Rattle.files.specs.HeaderWritten.{HeaderWritten};
 use bundle::Bundle;
+use bundle::words::as_word;
 use scratch::sections::store_section;
-
-// A number as a word.
-fn as_word(x: usize) -> u32
-    requires { ⌜ x ≤ 4294967295 ⌝ }
-    ensures { λ r. ⌜ r ≡ x ⌝ }
-{
-    x as u32
-}
 
 // Writes the header into the scratch: version, counts, claim.
 fn write_header(words: &mut [u32], c: Bundle, left: usize, right: usize)

@@ -4,12 +4,13 @@ ghost use mathlib.Core.Path.{_≡_};
 ghost use mathlib.Core.Bool.{true};
 ghost use Prim.Native.Nat.{_+_, _≤_, _<_};
 ghost use lib.ListN.{length, getD, set, replicate};
+ghost use Rattle.bundle.specs.Limits.{limits};
 ghost use Rattle.bundle.specs.Bundle.{termOf};
 ghost use Rattle.bundle.specs.Links.{items};
 ghost use Rattle.logic.specs.WellFormed.{TablesFormed};
 ghost use Rattle.scratch.specs.Scratch.{bundleIn, Roomy};
 ghost use Rattle.scratch.specs.Stack.{halves};
-ghost use Rattle.filing.specs.Filing.{mix, mixAll, rootDigest, digestOf, Indexed};
+ghost use Rattle.filing.specs.Filing.{digests, mix, mixAll, rootDigest, digestOf, Indexed};
 use bundle::Bundle;
 use bundle::lists::first_link;
 use scratch::lists::half;
@@ -17,18 +18,21 @@ use scratch::lists::next_link;
 use scratch::records::link_field;
 use scratch::records::term_field;
 
+// There are so many digests.
+pub const DIGESTS: usize = 1024;
+
 // A digest and one number more.
 fn mixed(d: usize, x: usize) -> usize
-    requires { ⌜ (d < 1024) × (x ≤ 4294967295) ⌝ }
-    ensures { λ r. ⌜ (r ≡ mix d x) × (r < 1024) ⌝ }
+    requires { ⌜ (d < digests) × (x ≤ 4294967295) ⌝ }
+    ensures { λ r. ⌜ (r ≡ mix d x) × (r < digests) ⌝ }
 {
-    (d * 31 + x) % 1024
+    (d * 31 + x) % DIGESTS
 }
 
 // The digest of a kind and a first field.
 pub fn root_digest(kind: usize, first: usize) -> usize
     requires { ⌜ (kind ≤ 4294967295) × (first ≤ 4294967295) ⌝ }
-    ensures { λ r. ⌜ (r ≡ rootDigest kind first) × (r < 1024) ⌝ }
+    ensures { λ r. ⌜ (r ≡ rootDigest kind first) × (r < digests) ⌝ }
 {
     let d = mixed(0, kind);
     mixed(d, first)
@@ -36,8 +40,8 @@ pub fn root_digest(kind: usize, first: usize) -> usize
 
 // A digest and the results of the pairs from `from` to before `to`.
 pub fn mixed_results(d: usize, stack: &[u64], from: usize, to: usize) -> usize
-    requires { ⌜ (d < 1024) × (from ≤ to) × (to ≤ length (now stack)) ⌝ }
-    ensures { λ r. ⌜ (r ≡ mixAll d (halves true (now (stack .entry)) from to)) × (r < 1024) ⌝ }
+    requires { ⌜ (d < digests) × (from ≤ to) × (to ≤ length (now stack)) ⌝ }
+    ensures { λ r. ⌜ (r ≡ mixAll d (halves true (now (stack .entry)) from to)) × (r < digests) ⌝ }
 {
     let mut sum = d;
     let mut at = from;
@@ -52,8 +56,8 @@ pub fn mixed_results(d: usize, stack: &[u64], from: usize, to: usize) -> usize
 
 // A digest and the items of a list.
 fn mixed_items(words: &[u32], c: Bundle, d: usize, list: usize) -> usize
-    requires { ⌜ Roomy (now words) c × (d < 1024) ⌝ }
-    ensures { λ r. ⌜ (r ≡ mixAll d (items (bundleIn (now (words .entry)) c) list)) × (r < 1024) ⌝ }
+    requires { ⌜ Roomy (now words) c × (d < digests) ⌝ }
+    ensures { λ r. ⌜ (r ≡ mixAll d (items (bundleIn (now (words .entry)) c) list)) × (r < digests) ⌝ }
 {
     let mut sum = d;
     let mut i = first_link(c, list);
@@ -68,7 +72,7 @@ fn mixed_items(words: &[u32], c: Bundle, d: usize, list: usize) -> usize
 // The digest of the record of term t.
 fn digest(words: &[u32], c: Bundle, t: usize) -> usize
     requires { ⌜ Roomy (now words) c ⌝ }
-    ensures { λ r. ⌜ (r ≡ digestOf (bundleIn (now (words .entry)) c) (termOf (bundleIn (now (words .entry)) c) t)) × (r < 1024) ⌝ }
+    ensures { λ r. ⌜ (r ≡ digestOf (bundleIn (now (words .entry)) c) (termOf (bundleIn (now (words .entry)) c) t)) × (r < digests) ⌝ }
 {
     let kind = term_field(words, c, t, 0);
     let first = term_field(words, c, t, 1);
@@ -82,17 +86,17 @@ fn digest(words: &[u32], c: Bundle, t: usize) -> usize
 }
 
 // Files term t, whose digest is d.
-pub fn file_term(index: &mut [u16; 2049], d: usize, t: usize)
-    requires { ⌜ (d < 1024) × (1 ≤ t) × (t ≤ 1024) ⌝ }
-    ensures { λ _. ⌜ now (index .exit) ≡ set (set (now (index .entry)) (1024 + t) (getD (now (index .entry)) d 0)) d t ⌝ }
+pub fn file_term(index: &mut [u16; DIGESTS + Bundle::TERMS + 1], d: usize, t: usize)
+    requires { ⌜ (d < digests) × (1 ≤ t) × (t ≤ limits .terms) ⌝ }
+    ensures { λ _. ⌜ now (index .exit) ≡ set (set (now (index .entry)) (digests + t) (getD (now (index .entry)) d 0)) d t ⌝ }
 {
-    index[1024 + t] = index[d];
+    index[DIGESTS + t] = index[d];
     index[d] = t as u16;
 }
 
 // Files all terms, where none is filed yet.
-pub fn file_terms(words: &[u32], c: Bundle, index: &mut [u16; 2049])
-    requires { ⌜ Roomy (now words) c × TablesFormed (bundleIn (now words) c) × (now index ≡ replicate 2049 0) ⌝ }
+pub fn file_terms(words: &[u32], c: Bundle, index: &mut [u16; DIGESTS + Bundle::TERMS + 1])
+    requires { ⌜ Roomy (now words) c × TablesFormed (bundleIn (now words) c) × (now index ≡ replicate (digests + limits .terms + 1) 0) ⌝ }
     ensures { λ _. ⌜ Indexed (bundleIn (now (words .entry)) c) (now (index .exit)) ⌝ }
 {
     let terms = c.terms;

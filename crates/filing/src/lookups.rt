@@ -9,17 +9,12 @@ ghost use Rattle.logic.specs.Terms.{Binder, binder, numberOf};
 ghost use Rattle.logic.specs.Lookup.{seek, sameVariable, sameApplication, sameBinder};
 ghost use Rattle.scratch.specs.Scratch.{bundleIn, Roomy};
 ghost use Rattle.scratch.specs.Stack.{halves};
-ghost use Rattle.filing.specs.Filing.{mixAll, rootDigest, Indexed};
+ghost use Rattle.filing.specs.Filing.{digests, mixAll, rootDigest, Indexed};
+use super::filing::DIGESTS;
 use bundle::Bundle;
+use bundle::halves::wide;
 use scratch::lists::same_results;
 use scratch::records::term_field;
-
-// A filed term's number as a number that can be an index.
-fn wide(x: u16) -> usize
-    ensures { λ r. ⌜ r ≡ x ⌝ }
-{
-    x as usize
-}
 
 // Whether term t is the variable y.
 fn is_variable(words: &[u32], c: Bundle, t: usize, y: usize) -> bool
@@ -32,8 +27,14 @@ fn is_variable(words: &[u32], c: Bundle, t: usize, y: usize) -> bool
 }
 
 // d is the digest of the variable.
-pub fn find_variable(words: &[u32], c: Bundle, index: &[u16; 2049], d: usize, y: usize) -> usize
-    requires { ⌜ Roomy (now words) c × Indexed (bundleIn (now words) c) (now index) × (d < 1024) × (d ≡ rootDigest 1 y) ⌝ }
+pub fn find_variable(
+    words: &[u32],
+    c: Bundle,
+    index: &[u16; DIGESTS + Bundle::TERMS + 1],
+    d: usize,
+    y: usize,
+) -> usize
+    requires { ⌜ Roomy (now words) c × Indexed (bundleIn (now words) c) (now index) × (d < digests) × (d ≡ rootDigest 1 y) ⌝ }
     ensures { λ r. ⌜ r ≡ seek (sameVariable y) (bundleIn (now (words .entry)) c .terms) ⌝ }
 {
     let mut found = 0;
@@ -41,7 +42,7 @@ pub fn find_variable(words: &[u32], c: Bundle, index: &[u16; 2049], d: usize, y:
     while t != 0 {
         let same = is_variable(words, c, t, y);
         found = if same { t } else { found };
-        t = wide(index[1024 + t]);
+        t = wide(index[DIGESTS + t]);
     }
     found
 }
@@ -75,14 +76,14 @@ fn is_application(
 pub fn find_application(
     words: &[u32],
     c: Bundle,
-    index: &[u16; 2049],
+    index: &[u16; DIGESTS + Bundle::TERMS + 1],
     d: usize,
     symbol: usize,
     stack: &[u64],
     from: usize,
     to: usize,
 ) -> usize
-    requires { ⌜ Roomy (now words) c × Indexed (bundleIn (now words) c) (now index) × (d < 1024) × (d ≡ mixAll (rootDigest 2 symbol) (halves true (now stack) from to)) × (from ≤ to) × (to ≤ length (now stack)) ⌝ }
+    requires { ⌜ Roomy (now words) c × Indexed (bundleIn (now words) c) (now index) × (d < digests) × (d ≡ mixAll (rootDigest 2 symbol) (halves true (now stack) from to)) × (from ≤ to) × (to ≤ length (now stack)) ⌝ }
     ensures { λ r. ⌜ r ≡ seek (sameApplication (bundleIn (now (words .entry)) c) symbol (halves true (now (stack .entry)) from to)) (bundleIn (now (words .entry)) c .terms) ⌝ }
 {
     let mut found = 0;
@@ -90,7 +91,7 @@ pub fn find_application(
     while t != 0 {
         let same = is_application(words, c, t, symbol, stack, from, to);
         found = if same { t } else { found };
-        t = wide(index[1024 + t]);
+        t = wide(index[DIGESTS + t]);
     }
     found
 }
@@ -110,13 +111,13 @@ fn is_binder(words: &[u32], c: Bundle, t: usize, kind: usize, y: usize, body: us
 pub fn find_binder(
     words: &[u32],
     c: Bundle,
-    index: &[u16; 2049],
+    index: &[u16; DIGESTS + Bundle::TERMS + 1],
     d: usize,
     kind: usize,
     y: usize,
     body: usize,
 ) -> usize
-    requires { ⌜ Roomy (now words) c × Indexed (bundleIn (now words) c) (now index) × (d < 1024) × (d ≡ rootDigest kind y) ⌝ }
+    requires { ⌜ Roomy (now words) c × Indexed (bundleIn (now words) c) (now index) × (d < digests) × (d ≡ rootDigest kind y) ⌝ }
     ensures { λ r. ⌜ ((q : Binder) → kind ≡ numberOf (binder q) → r ≡ seek (sameBinder q y body) (bundleIn (now (words .entry)) c .terms)) ⌝ }
 {
     let mut found = 0;
@@ -124,7 +125,7 @@ pub fn find_binder(
     while t != 0 {
         let same = is_binder(words, c, t, kind, y, body);
         found = if same { t } else { found };
-        t = wide(index[1024 + t]);
+        t = wide(index[DIGESTS + t]);
     }
     found
 }

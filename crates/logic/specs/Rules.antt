@@ -7,7 +7,7 @@ use lib.ListN.{length, getD}
 use lib.Dec.{eqb, leb}
 use Rattle.bundle.specs.Bundle.{Bundle, Step, termOf, contextOf, stepOf}
 use Rattle.bundle.specs.Links.{items}
-use Rattle.bundle.specs.Lists.{numbers, each, sameList}
+use Rattle.bundle.specs.Lists.{numbers, each, sameList, firstOf, secondOf, single, lastOf}
 use Rattle.logic.specs.declared.Fault.{Fault}
 use Rattle.logic.specs.declared.Image.{Image}
 use Rattle.logic.specs.declared.Image.the-variants.{Own, Gives}
@@ -24,24 +24,6 @@ pub data Rule : Type 0 where
 
 unfoldable pub ruleOf : ℕ → Rule
 ruleOf k = cond (eqb k 1) REFL (cond (eqb k 2) CONG (cond (eqb k 3) TRANS (cond (eqb k 4) BIND (cond (eqb k 5) LET noRule))))
-
--- the first and the second number of a list, and the last; 0 where there is none
-abbrev pub firstOf : List ℕ → ℕ
-firstOf xs = getD xs 0 0
-
-abbrev pub secondOf : List ℕ → ℕ
-secondOf xs = getD xs 1 0
-
--- a list of one number
-unfoldable pub single : List ℕ → Bool
-single [] = false
-single (x ∷ []) = true
-single (x ∷ y ∷ ys) = false
-
-unfoldable pub lastOf : List ℕ → ℕ
-lastOf [] = 0
-lastOf (x ∷ []) = x
-lastOf (x ∷ y ∷ ys) = lastOf (y ∷ ys)
 
 -- a step carries l to r in context c
 abbrev pub carries : Step → ℕ → ℕ → ℕ → Bool

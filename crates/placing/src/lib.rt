@@ -9,10 +9,11 @@ ghost use Rattle.logic.specs.Terms.{Binder, binder, numberOf};
 ghost use Rattle.logic.specs.Longer.{withTerms, withContexts, withSteps};
 ghost use Rattle.scratch.specs.Scratch.{bundleIn, Ready};
 ghost use Rattle.scratch.specs.Stack.{halves};
-ghost use Rattle.filing.specs.Filing.{Digested, Indexed};
+ghost use Rattle.filing.specs.Filing.{digests, Digested, Indexed};
 ghost use Rattle.expansion.specs.Visit.{placeApplication, placeBinder, fresh};
 ghost use Rattle.placing.specs.Outcomes.{VisitOutcome, OpenOutcome, PlaceOutcome, AddOutcome, PlaceIndexed};
 use bundle::Bundle;
+use filing::filing::DIGESTS;
 use filing::filing::file_term;
 use filing::filing::mixed_results;
 use filing::filing::root_digest;
@@ -109,10 +110,10 @@ pub fn add_term(
     kind: usize,
     first: usize,
     second: usize,
-    index: &mut [u16; 2049],
+    index: &mut [u16; DIGESTS + Bundle::TERMS + 1],
     d: usize,
 ) -> Placed
-    requires { ⌜ Ready (now words) c × (kind ≤ 4294967295) × (first ≤ 4294967295) × (second ≤ 4294967295) × Indexed (bundleIn (now words) c) (now index) × (d < 1024) × Digested (bundleIn (now words) c) (record { kind = kind; a = first; b = second; c = 0 }) d ⌝ }
+    requires { ⌜ Ready (now words) c × (kind ≤ 4294967295) × (first ≤ 4294967295) × (second ≤ 4294967295) × Indexed (bundleIn (now words) c) (now index) × (d < digests) × Digested (bundleIn (now words) c) (record { kind = kind; a = first; b = second; c = 0 }) d ⌝ }
     ensures { λ r. ⌜ (length (now (words .exit)) ≡ length (now (words .entry))) × PlaceOutcome (record { bundle = withTerms (bundleIn (now (words .entry)) c) (record { kind = kind; a = first; b = second; c = 0 } ∷ []); term = suc (length (bundleIn (now (words .entry)) c .terms)) }) (now (words .exit)) r × PlaceIndexed (now (words .exit)) (now (index .exit)) r ⌝ }
 {
     let terms = c.terms;
@@ -181,7 +182,7 @@ pub fn place_application(
     stack: &[u64],
     from: usize,
     to: usize,
-    index: &mut [u16; 2049],
+    index: &mut [u16; DIGESTS + Bundle::TERMS + 1],
 ) -> Placed
     requires { ⌜ Ready (now words) c × (symbol ≤ 4294967295) × (from ≤ to) × (to ≤ length (now stack)) × Indexed (bundleIn (now words) c) (now index) ⌝ }
     ensures { λ r. ⌜ (length (now (words .exit)) ≡ length (now (words .entry))) × PlaceOutcome (placeApplication (bundleIn (now (words .entry)) c) symbol (halves true (now (stack .entry)) from to)) (now (words .exit)) r × PlaceIndexed (now (words .exit)) (now (index .exit)) r ⌝ }
@@ -203,7 +204,12 @@ pub fn place_application(
 }
 
 // A new variable of the sort of x, and its term.
-pub fn place_fresh(words: &mut [u32], c: Bundle, x: usize, index: &mut [u16; 2049]) -> Placed
+pub fn place_fresh(
+    words: &mut [u32],
+    c: Bundle,
+    x: usize,
+    index: &mut [u16; DIGESTS + Bundle::TERMS + 1],
+) -> Placed
     requires { ⌜ Ready (now words) c × Indexed (bundleIn (now words) c) (now index) ⌝ }
     ensures { λ r. ⌜ (length (now (words .exit)) ≡ length (now (words .entry))) × PlaceOutcome (fresh (bundleIn (now (words .entry)) c) x) (now (words .exit)) r × PlaceIndexed (now (words .exit)) (now (index .exit)) r ⌝ }
 {
@@ -232,7 +238,7 @@ pub fn place_binder(
     kind: usize,
     y: usize,
     body: usize,
-    index: &mut [u16; 2049],
+    index: &mut [u16; DIGESTS + Bundle::TERMS + 1],
 ) -> Placed
     requires { ⌜ Ready (now words) c × (3 ≤ kind) × (kind ≤ 4) × (y ≤ 4294967295) × (body ≤ 4294967295) × Indexed (bundleIn (now words) c) (now index) ⌝ }
     ensures { λ r. ⌜ (length (now (words .exit)) ≡ length (now (words .entry))) × ((q : Binder) → kind ≡ numberOf (binder q) → PlaceOutcome (placeBinder (bundleIn (now (words .entry)) c) q y body) (now (words .exit)) r) × PlaceIndexed (now (words .exit)) (now (index .exit)) r ⌝ }

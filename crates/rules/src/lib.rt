@@ -1,5 +1,4 @@
 // The five rules as tests on a step's words, over what lent memory holds.
-pub mod lists; // lists.rt: first, second and last items
 pub mod rules; // rules.rt: REFL, CONG, TRANS, BIND, LET
 
 // The words of a step.

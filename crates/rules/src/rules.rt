@@ -14,18 +14,19 @@ ghost use Rattle.rules.specs.StepWords.{asStep};
 ghost use Rattle.contexts.specs.Lent.{Lent, freeIn, stepIn, imagesIn, allSettledIn};
 ghost use Rattle.rules.specs.Marks.{keyOf, Carried};
 use super::StepWords;
-use super::lists::first_item;
-use super::lists::is_single;
-use super::lists::last_item;
-use super::lists::second_item;
 use bundle::Bundle;
 use bundle::lists::first_link;
 use bundle::lists::next_link;
 use bundle::lists::same_list;
+use bundle::places::first_item;
+use bundle::places::is_single;
+use bundle::places::last_item;
+use bundle::places::second_item;
 use bundle::records::context_field;
 use bundle::records::link_field;
 use bundle::records::step_field;
 use bundle::records::term_field;
+use bundle::words::wide;
 use contexts::images::image_of;
 use contexts::images::is_free;
 use contexts::images::is_settled;
@@ -33,13 +34,6 @@ use contexts::images::is_variable;
 use logic::Image;
 
 // ---- Premises
-
-// A word of a bed of steps as a number.
-fn wide(x: u32) -> usize
-    ensures { λ r. ⌜ r ≡ x ⌝ }
-{
-    x as usize
-}
 
 // Field k of step p: the file's steps come first, then those of the bed. The batch check has its steps in the file and no bed, a running check
 // has none in the file.

@@ -7,14 +7,7 @@ ghost use Rattle.bundle.specs.Limits.{limits};
 ghost use Rattle.logic.specs.Longer.{withVariables, withTerms, withLinks, withContexts, withSteps};
 ghost use Rattle.scratch.specs.Scratch.{bundleIn, Roomy};
 use bundle::Bundle;
-
-// A number as a word.
-fn as_word(x: usize) -> u32
-    requires { ⌜ x ≤ 4294967295 ⌝ }
-    ensures { λ r. ⌜ r ≡ x ⌝ }
-{
-    x as u32
-}
+use bundle::words::as_word;
 
 pub fn append_variable(words: &mut [u32], c: Bundle, sort: usize) -> Bundle
     requires { ⌜ Roomy (now words) c × (c .variables < limits .variables) × (sort ≤ 4294967295) ⌝ }

@@ -6,13 +6,7 @@ ghost use Rattle.bundle.specs.Bundle.{at, sortOfVariable, termOf, linkOf, conte
 ghost use Rattle.bundle.specs.File.{tab};
 ghost use Rattle.scratch.specs.Scratch.{wordIn, bundleIn, Roomy};
 use bundle::Bundle;
-
-// A word as a number that can be an index.
-fn wide(x: u32) -> usize
-    ensures { λ r. ⌜ (r ≡ x) × (r ≤ 4294967295) ⌝ }
-{
-    x as usize
-}
+use bundle::words::wide;
 
 // Word k of record i of a section: the section starts at word `start` and has `count` records of `size` words.
 fn field(words: &[u32], start: usize, size: usize, count: usize, i: usize, k: usize) -> usize

@@ -5,15 +5,8 @@ ghost use Prim.Native.Nat.{ℕ, _+_, _*_, _/_, _%_, _≤_};
 ghost use lib.ListN.{length, take, drop};
 ghost use Rattle.bundle.specs.Words.{wordAt, encode};
 ghost use Rattle.scratch.specs.Copies.{wordsFrom};
+use bundle::words::as_word;
 use bundle::words::word_at;
-
-// A number as a word, and a word's bytes.
-fn as_word(x: usize) -> u32
-    requires { ⌜ x ≤ 4294967295 ⌝ }
-    ensures { λ r. ⌜ r ≡ x ⌝ }
-{
-    x as u32
-}
 
 fn byte_of(x: u32, divisor: u32) -> u8
     requires { ⌜ 1 ≤ divisor ⌝ }

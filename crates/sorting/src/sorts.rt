@@ -15,6 +15,7 @@ ghost use Rattle.logic.specs.Sorts.{sortAt};
 ghost use Rattle.logic.specs.Checks.{listsAgree};
 ghost use Rattle.sorting.specs.Notes.{Sorted, Fitting};
 use bundle::Bundle;
+use bundle::halves::wide;
 use bundle::lists::all_different;
 use bundle::lists::first_link;
 use bundle::lists::next_link;
@@ -23,13 +24,6 @@ use bundle::records::symbol_field;
 use bundle::records::term_field;
 use bundle::records::variable_sort;
 use logic::Signature;
-
-// A number that an array holds, as one that can be an index.
-pub fn wide(x: u16) -> usize
-    ensures { λ r. ⌜ r ≡ x ⌝ }
-{
-    x as usize
-}
 
 // Built in: so many arguments, each of that sort. The result is truth.
 fn built_in(count: usize, sort: usize) -> Signature

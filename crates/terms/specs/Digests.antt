@@ -9,9 +9,13 @@ use Rattle.bundle.specs.Bundle.{Bundle, TermRecord, termOf}
 use Rattle.bundle.specs.Links.{items}
 use Rattle.logic.specs.Checks.{firstIsList, secondIsList}
 
--- A digest d and one number more. With a factor that is near 2048 divided by the golden ratio, the digests of neighbours lie far apart.
+-- there are so many digests
+abbrev pub digests : ℕ
+digests = 2048
+
+-- A digest d and one number more. With a factor that is near their number divided by the golden ratio, the digests of neighbours lie far apart.
 unfoldable pub mix : ℕ → ℕ → ℕ
-mix d x = (d * 1267 + x % 2048) % 2048
+mix d x = (d * 1267 + x % digests) % digests
 
 -- a digest and the numbers of a list, n of them at most: a few tell lists apart, and a long list that many terms share is not walked for each
 unfoldable pub mixItems : ℕ → ℕ → List ℕ → ℕ

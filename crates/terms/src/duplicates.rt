@@ -7,27 +7,30 @@ ghost use Rattle.bundle.specs.Bundle.{termOf};
 ghost use Rattle.bundle.specs.Links.{items};
 ghost use Rattle.bundle.specs.File.{Whole, bundleAt};
 ghost use Rattle.logic.specs.Checks.{sameField, sameTerm, isNew};
-ghost use Rattle.terms.specs.Digests.{mix, mixItems, mixField, digestOf, Filed};
+ghost use Rattle.terms.specs.Digests.{digests, mix, mixItems, mixField, digestOf, Filed};
 use bundle::Bundle;
+use bundle::halves::wide;
 use bundle::lists::first_link;
 use bundle::lists::next_link;
 use bundle::lists::same_list;
 use bundle::records::link_field;
 use bundle::records::term_field;
-use sorting::sorts::wide;
+
+// There are so many digests.
+pub const DIGESTS: usize = 2048;
 
 // A digest and one number more.
 fn mixed(d: usize, x: usize) -> usize
-    requires { ⌜ d < 2048 ⌝ }
-    ensures { λ r. ⌜ (r ≡ mix d x) × (r < 2048) ⌝ }
+    requires { ⌜ d < digests ⌝ }
+    ensures { λ r. ⌜ (r ≡ mix d x) × (r < digests) ⌝ }
 {
-    (d * 1267 + x % 2048) % 2048
+    (d * 1267 + x % DIGESTS) % DIGESTS
 }
 
 // A digest and the first items of a list.
 fn mixed_items(file: &[u8], b: Bundle, d: usize, list: usize) -> usize
-    requires { ⌜ Whole (now file) b × (d < 2048) ⌝ }
-    ensures { λ r. ⌜ (r ≡ mixItems 8 d (items (bundleAt (now (file .entry)) b) list)) × (r < 2048) ⌝ }
+    requires { ⌜ Whole (now file) b × (d < digests) ⌝ }
+    ensures { λ r. ⌜ (r ≡ mixItems 8 d (items (bundleAt (now (file .entry)) b) list)) × (r < digests) ⌝ }
 {
     let mut sum = d;
     let mut i = first_link(b, list);
@@ -46,8 +49,8 @@ fn mixed_items(file: &[u8], b: Bundle, d: usize, list: usize) -> usize
 
 // A digest and a field.
 fn mixed_field(file: &[u8], b: Bundle, list: bool, d: usize, x: usize) -> usize
-    requires { ⌜ Whole (now file) b × (d < 2048) ⌝ }
-    ensures { λ r. ⌜ (r ≡ mixField (bundleAt (now (file .entry)) b) list d x) × (r < 2048) ⌝ }
+    requires { ⌜ Whole (now file) b × (d < digests) ⌝ }
+    ensures { λ r. ⌜ (r ≡ mixField (bundleAt (now (file .entry)) b) list d x) × (r < digests) ⌝ }
 {
     if list {
         mixed_items(file, b, d, x)
@@ -59,7 +62,7 @@ fn mixed_field(file: &[u8], b: Bundle, list: bool, d: usize, x: usize) -> usize
 // The digest of the record of term i.
 pub fn digest(file: &[u8], b: Bundle, i: usize) -> usize
     requires { ⌜ Whole (now file) b ⌝ }
-    ensures { λ r. ⌜ (r ≡ digestOf (bundleAt (now (file .entry)) b) (termOf (bundleAt (now (file .entry)) b) i)) × (r < 2048) ⌝ }
+    ensures { λ r. ⌜ (r ≡ digestOf (bundleAt (now (file .entry)) b) (termOf (bundleAt (now (file .entry)) b) i)) × (r < digests) ⌝ }
 {
     let kind = term_field(file, b, i, 0);
     let first = term_field(file, b, i, 1);
@@ -110,8 +113,15 @@ fn same_term(file: &[u8], b: Bundle, i: usize, j: usize) -> bool
 }
 
 // 9: whether no earlier term has the same record, where the terms below i are filed, and d is its digest.
-pub fn is_new(file: &[u8], b: Bundle, heads: &[u16; 2048], next: &[u16], i: usize, d: usize) -> bool
-    requires { ⌜ Whole (now file) b × Filed (bundleAt (now file) b) (now heads) (now next) i × (i < length (now next)) × (d < 2048) × (d ≡ digestOf (bundleAt (now file) b) (termOf (bundleAt (now file) b) i)) ⌝ }
+pub fn is_new(
+    file: &[u8],
+    b: Bundle,
+    heads: &[u16; DIGESTS],
+    next: &[u16],
+    i: usize,
+    d: usize,
+) -> bool
+    requires { ⌜ Whole (now file) b × Filed (bundleAt (now file) b) (now heads) (now next) i × (i < length (now next)) × (d < digests) × (d ≡ digestOf (bundleAt (now file) b) (termOf (bundleAt (now file) b) i)) ⌝ }
     ensures { λ r. ⌜ r ≡ isNew (bundleAt (now (file .entry)) b) i ⌝ }
 {
     let mut j = wide(heads[d]);

@@ -7,8 +7,9 @@ ghost use Rattle.bundle.specs.Bundle.{termOf};
 ghost use Rattle.bundle.specs.Lists.{numbers};
 ghost use Rattle.bundle.specs.File.{Whole, bundleAt};
 ghost use Rattle.logic.specs.Checks.{refers, sorted, termFault, termsFault};
-ghost use Rattle.terms.specs.Digests.{digestOf, Filed};
+ghost use Rattle.terms.specs.Digests.{digests, digestOf, Filed};
 ghost use Rattle.sorting.specs.Notes.{Zeros, Sorted, Lower, Fitting};
+use super::duplicates::DIGESTS;
 use super::duplicates::digest;
 use super::duplicates::is_new;
 use bundle::Bundle;
@@ -88,13 +89,13 @@ fn term_fault(
     sorts: &[usize],
     lower: &mut [u8],
     fitting: &mut [u16],
-    heads: &[u16; 2048],
+    heads: &[u16; DIGESTS],
     next: &[u16],
     i: usize,
     d: usize,
 ) -> usize
     requires { ⌜ Whole (now file) b × Sorted (now file) b (now sorts) × Lower (now file) b (i - 1) (now lower) × Fitting (now file) b (now fitting) ⌝ }
-    requires { ⌜ Filed (bundleAt (now file) b) (now heads) (now next) i × (1 ≤ i) × (i < length (now next)) × (d < 2048) × (d ≡ digestOf (bundleAt (now file) b) (termOf (bundleAt (now file) b) i)) ⌝ }
+    requires { ⌜ Filed (bundleAt (now file) b) (now heads) (now next) i × (1 ≤ i) × (i < length (now next)) × (d < digests) × (d ≡ digestOf (bundleAt (now file) b) (termOf (bundleAt (now file) b) i)) ⌝ }
     ensures { λ r. ⌜ (r ≡ termFault (bundleAt (now (file .entry)) b) i) × (r ≡ 0 → Lower (now (file .entry)) b (i - 1) (now (lower .exit)) × Fitting (now (file .entry)) b (now (fitting .exit))) ⌝ }
 {
     if !term_refers(file, b, lower, i) {
@@ -122,7 +123,7 @@ fn noted_fault(
     ensures { λ r. ⌜ r ≡ termsFault (bundleAt (now (file .entry)) b) ⌝ }
 {
     let terms = b.terms;
-    let mut heads = [0u16; 2048];
+    let mut heads = [0u16; DIGESTS];
     let mut i = 1;
     while i <= terms {
         let d = digest(file, b, i);

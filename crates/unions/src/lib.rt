@@ -14,6 +14,7 @@ ghost use Rattle.logic.specs.Free.{freesOf};
 ghost use Rattle.unions.specs.Put.{Room, Put, setBelow, Below};
 ghost use Rattle.unions.specs.Unions.{known, unmet, joined, Fewer, Unions, Partly};
 use bundle::Bundle;
+use bundle::halves::wide;
 use bundle::lists::first_link;
 use bundle::lists::next_link;
 use bundle::records::link_field;
@@ -78,13 +79,6 @@ fn unite_first(
 }
 
 // ---- Unions of lists
-
-// A mark as a number of a link.
-fn wide(x: u16) -> usize
-    ensures { λ r. ⌜ r ≡ x ⌝ }
-{
-    x as usize
-}
 
 // Whether the list that starts at link k is known: the empty list is.
 fn is_known(marks: &[u16], k: usize) -> bool

@@ -13,6 +13,7 @@ ghost use Rattle.expansion.specs.Nodes.{leaf};
 ghost use Rattle.expansion.specs.Visit.{visit, concluded, replacing, renaming, openBinder, closeApplication, closeBinder};
 ghost use Rattle.placing.specs.Outcomes.{VisitOutcome, OpenOutcome, VisitIndexed, OpenIndexed};
 use bundle::Bundle;
+use filing::filing::DIGESTS;
 use logic::Image;
 use placing::Added;
 use placing::Opened;
@@ -151,7 +152,7 @@ pub fn close_application(
     stack: &[u64],
     from: usize,
     to: usize,
-    index: &mut [u16; 2049],
+    index: &mut [u16; DIGESTS + Bundle::TERMS + 1],
 ) -> Visited
     requires { ⌜ Ready (now words) c × (context ≤ 4294967295) × (term ≤ 4294967295) × (symbol ≤ 4294967295) × (from ≤ to) × (to ≤ length (now stack)) × Indexed (bundleIn (now words) c) (now index) ⌝ }
     ensures { λ r. ⌜ (length (now (words .exit)) ≡ length (now (words .entry))) × VisitOutcome (closeApplication context term symbol (record { bundle = bundleIn (now (words .entry)) c; results = halves true (now (stack .entry)) from to; steps = halves false (now (stack .entry)) from to })) (now (words .exit)) r × VisitIndexed (now (words .exit)) (now (index .exit)) r ⌝ }
@@ -200,7 +201,7 @@ pub fn open_quantifier(
     c: Bundle,
     x: usize,
     context: usize,
-    index: &mut [u16; 2049],
+    index: &mut [u16; DIGESTS + Bundle::TERMS + 1],
 ) -> Opened
     requires { ⌜ Ready (now words) c × (x ≤ 4294967295) × (context ≤ 4294967295) × Indexed (bundleIn (now words) c) (now index) ⌝ }
     ensures { λ r. ⌜ (length (now (words .exit)) ≡ length (now (words .entry))) × OpenOutcome (openBinder (bundleIn (now (words .entry)) c) x context) (now (words .exit)) r × OpenIndexed (now (words .exit)) (now (index .exit)) r ⌝ }
@@ -223,7 +224,7 @@ pub fn close_quantifier(
     y: usize,
     result: usize,
     step: usize,
-    index: &mut [u16; 2049],
+    index: &mut [u16; DIGESTS + Bundle::TERMS + 1],
 ) -> Visited
     requires { ⌜ Ready (now words) c × (context ≤ 4294967295) × (term ≤ 4294967295) × (3 ≤ kind) × (kind ≤ 4) × (y ≤ 4294967295) × (result ≤ 4294967295) × (step ≤ 4294967295) × Indexed (bundleIn (now words) c) (now index) ⌝ }
     ensures { λ r. ⌜ (length (now (words .exit)) ≡ length (now (words .entry))) × ((q : Binder) → kind ≡ numberOf (binder q) → VisitOutcome (closeBinder context term q y (record { bundle = bundleIn (now (words .entry)) c; result = result; step = step })) (now (words .exit)) r) × VisitIndexed (now (words .exit)) (now (index .exit)) r ⌝ }

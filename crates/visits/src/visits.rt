@@ -10,6 +10,7 @@ use super::closers::conclude;
 use super::closers::open_let;
 use super::closers::open_quantifier;
 use bundle::Bundle;
+use filing::filing::DIGESTS;
 use filing::filing::file_terms;
 use placing::Listed;
 use placing::Opened;
@@ -26,7 +27,7 @@ pub fn visit_term(
     context: usize,
     height: usize,
     term: usize,
-    index: &mut [u16; 2049],
+    index: &mut [u16; DIGESTS + Bundle::TERMS + 1],
 ) -> Visited
     requires { ⌜ TermAsks (now words) (now stack) c context height term × Indexed (bundleIn (now words) c) (now index) ⌝ }
     ensures { λ r. ⌜ TermGives (now (words .entry)) (now (stack .entry)) c context height term (now (words .exit)) (now (stack .exit)) r × VisitIndexed (now (words .exit)) (now (index .exit)) r ⌝ }
@@ -134,7 +135,7 @@ pub fn visit_list(
     height: usize,
     owner: usize,
     list: usize,
-    index: &mut [u16; 2049],
+    index: &mut [u16; DIGESTS + Bundle::TERMS + 1],
 ) -> Listed
     requires { ⌜ ListAsks (now words) (now stack) c context height owner list × Indexed (bundleIn (now words) c) (now index) ⌝ }
     ensures { λ r. ⌜ ListGives (now (words .entry)) (now (stack .entry)) c context height owner list (now (words .exit)) (now (stack .exit)) r × ListIndexed (now (words .exit)) (now (index .exit)) r ⌝ }
@@ -164,7 +165,7 @@ pub fn visit_job(words: &mut [u32], stack: &mut [u64], c: Bundle, term: usize) -
     requires { ⌜ TermAsks (now words) (now stack) c 0 0 term × TablesFormed (bundleIn (now words) c) ⌝ }
     ensures { λ r. ⌜ TermGives (now (words .entry)) (now (stack .entry)) c 0 0 term (now (words .exit)) (now (stack .exit)) r ⌝ }
 {
-    let mut index = [0u16; 2049];
+    let mut index = [0u16; DIGESTS + Bundle::TERMS + 1];
     file_terms(words, c, &mut index);
     visit_term(words, stack, c, 0, 0, term, &mut index)
 }

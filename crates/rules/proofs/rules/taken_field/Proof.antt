@@ -38,7 +38,7 @@ wide-requires c κs = search needs
 returns-2 : tie.Need-returns-2
 returns-2 c =
     let a = c .before .before .before .before .before .before .args in
-    c .wide .ensures ∙ sym (taken-bed (a .file .now) (a .b) (a .bed .now) (a .p) (a .k) (omega arith) (omega arith) (omega arith))
+    c .wide .ensures .0 ∙ sym (taken-bed (a .file .now) (a .b) (a .bed .now) (a .p) (a .k) (omega arith) (omega arith) (omega arith))
 
 returns-3 : tie.Need-returns-3
 returns-3 c =

@@ -2,7 +2,7 @@
 use mathlib.Core.Logic.{⊎-elim, inl, inr}
 use Rattle.bundle.proofs.Walks.{walk-start, walk-start-le}
 use Rattle.logic.specs.Rules.{ruleOf, countFits}
-use Rattle.rules.proofs.ListPlaces.{none-is, single-length}
+use Rattle.bundle.proofs.ListPlaces.{none-is, single-length}
 use Rattle.steps.proofs.RuleOf.{rule-none}
 use borrow.Author.Needs.{needs}
 use Rattle.steps.proofs.steps.count_fits.Statement.{statement}

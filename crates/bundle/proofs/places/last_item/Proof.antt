@@ -6,13 +6,13 @@ use Prim.Native.Nat.{_≤_}
 use mathlib.Core.Path.{_≡_, sym}
 use mathlib.Core.List.{_∷_}
 use lib.ListN.{length}
+use Rattle.bundle.specs.Lists.{lastOf}
 use Rattle.bundle.specs.Links.{items}
 use Rattle.bundle.specs.File.{bundleAt}
 use Rattle.bundle.proofs.Walks.{walk-start, walk-start-le, walk-le, walk-nil, walk-cons, walk-length}
-use Rattle.logic.specs.Rules.{lastOf}
-use Rattle.rules.proofs.ListPlaces.{last-start}
-use Rattle.rules.proofs.lists.last_item.Statement.{statement}
-use Rattle.rules.proofs.lists.last_item.Tie as tie
+use Rattle.bundle.proofs.ListPlaces.{last-start}
+use Rattle.bundle.proofs.places.last_item.Statement.{statement}
+use Rattle.bundle.proofs.places.last_item.Tie as tie
 
 abbrev Inv-loop : tie.InvT-loop
 Inv-loop file b list last₀ i₀ last i = (i ≤ b .links) × (lastOf (items (bundleAt file b) list) ≡ lastOf (last ∷ items (bundleAt file b) i))

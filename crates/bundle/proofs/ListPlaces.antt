@@ -11,14 +11,14 @@ use native.Mathlib.Omega.{arith}
 use native.Mathlib.Decide.{decLt}
 use lib.ListN.{length}
 use lib.Dec.{eqb, eqb·suc-zero, eqb·suc-suc}
+use Rattle.bundle.specs.Lists.{firstOf, secondOf, single, lastOf}
 use Rattle.bundle.specs.declared.Bundle.{Bundle as Counts}
 use Rattle.bundle.specs.Bundle.{Link, noLink, linkOf}
 use Rattle.bundle.specs.Links.{items, follows, nextOf}
 use Rattle.bundle.specs.File.{bundleAt}
 use Rattle.bundle.proofs.Tab.{at-none}
 use Rattle.bundle.proofs.Fields.{links-length}
 use Rattle.bundle.proofs.Walks.{walk-nil, walk-past, walk-some, walk-le}
-use Rattle.logic.specs.Rules.{firstOf, secondOf, single, lastOf}
 
 pub last-start : (xs : List ℕ) → lastOf (0 ∷ xs) ≡ lastOf xs
 unfolding lastOf

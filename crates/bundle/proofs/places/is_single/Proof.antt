@@ -1,9 +1,9 @@
 -- `lists::is_single` meets its contract.
 use borrow.Author.Needs.{needs}
 use Rattle.bundle.proofs.Walks.{walk-start, walk-start-le}
-use Rattle.rules.proofs.ListPlaces.{single-is}
-use Rattle.rules.proofs.lists.is_single.Statement.{statement}
-use Rattle.rules.proofs.lists.is_single.Tie as tie
+use Rattle.bundle.proofs.ListPlaces.{single-is}
+use Rattle.bundle.proofs.places.is_single.Statement.{statement}
+use Rattle.bundle.proofs.places.is_single.Tie as tie
 
 first-link-requires : tie.Need-first-link-requires
 first-link-requires c κs = search needs

@@ -1,9 +1,9 @@
 -- `lists::first_item` meets its contract.
 use mathlib.Core.Path.{_∙_}
 use borrow.Author.Needs.{needs}
-use Rattle.rules.proofs.ListPlaces.{first-is}
-use Rattle.rules.proofs.lists.first_item.Statement.{statement}
-use Rattle.rules.proofs.lists.first_item.Tie as tie
+use Rattle.bundle.proofs.ListPlaces.{first-is}
+use Rattle.bundle.proofs.places.first_item.Statement.{statement}
+use Rattle.bundle.proofs.places.first_item.Tie as tie
 
 link-field-requires : tie.Need-link-field-requires
 link-field-requires c κs = search needs

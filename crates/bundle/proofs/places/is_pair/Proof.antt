@@ -1,9 +1,9 @@
 -- `lists::is_pair` meets its contract.
 use Rattle.bundle.proofs.Walks.{walk-start, walk-start-le}
-use Rattle.rules.proofs.ListPlaces.{pair-is}
+use Rattle.bundle.proofs.ListPlaces.{pair-is}
 use borrow.Author.Needs.{needs}
-use Rattle.rules.proofs.lists.is_pair.Statement.{statement}
-use Rattle.rules.proofs.lists.is_pair.Tie as tie
+use Rattle.bundle.proofs.places.is_pair.Statement.{statement}
+use Rattle.bundle.proofs.places.is_pair.Tie as tie
 
 first-link-requires : tie.Need-first-link-requires
 first-link-requires c κs = search needs

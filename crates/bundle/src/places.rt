@@ -2,13 +2,13 @@
 ghost use mathlib.Core.Path.{_≡_};
 ghost use lib.ListN.{length};
 ghost use lib.Dec.{eqb};
+ghost use Rattle.bundle.specs.Lists.{firstOf, secondOf, single, lastOf};
 ghost use Rattle.bundle.specs.Links.{items};
 ghost use Rattle.bundle.specs.File.{Whole, bundleAt};
-ghost use Rattle.logic.specs.Rules.{firstOf, secondOf, single, lastOf};
-use bundle::Bundle;
-use bundle::lists::first_link;
-use bundle::lists::next_link;
-use bundle::records::link_field;
+use super::Bundle;
+use super::lists::first_link;
+use super::lists::next_link;
+use super::records::link_field;
 
 // The first item of a list, 0 for none: a link that is none reads zeros.
 pub fn first_item(file: &[u8], b: Bundle, list: usize) -> usize

@@ -1,10 +1,10 @@
 -- `lists::second_item` meets its contract.
 use mathlib.Core.Path.{_∙_}
 use borrow.Author.Needs.{needs}
 use Rattle.bundle.proofs.Walks.{walk-start, walk-start-le}
-use Rattle.rules.proofs.ListPlaces.{second-is}
-use Rattle.rules.proofs.lists.second_item.Statement.{statement}
-use Rattle.rules.proofs.lists.second_item.Tie as tie
+use Rattle.bundle.proofs.ListPlaces.{second-is}
+use Rattle.bundle.proofs.places.second_item.Statement.{statement}
+use Rattle.bundle.proofs.places.second_item.Tie as tie
 
 first-link-requires : tie.Need-first-link-requires
 first-link-requires c κs = search needs
