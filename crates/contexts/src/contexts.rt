@@ -9,7 +9,7 @@ ghost use Rattle.bundle.specs.Lists.{each};
 ghost use Rattle.bundle.specs.File.{Whole, bundleAt};
 ghost use Rattle.logic.specs.Contexts.{settled, contextRefers, replacementsSettled, contextFault, contextsFault};
 ghost use Rattle.free_variables.specs.FreeSets.{FreeSets};
-ghost use Rattle.contexts.specs.Known.{Images, MovedSets};
+ghost use Rattle.contexts.specs.ContextRows.{Images, MovedSets};
 use super::images::is_settled;
 use super::known::enter;
 use bundle::Bundle;

@@ -20,7 +20,7 @@ use Rattle.logic.proofs.Longer.{longer-refl, sizes, list-added, steps-longer, s
 use Rattle.logic.proofs.Kept.{step-kept, sort-tree-kept}
 use Rattle.expansion.specs.Visit.{Visit, Visits, concluded}
 use Rattle.expansion.proofs.Grown.{concluded-longer}
-use Rattle.expansion.proofs.Appended.{Checked, list-checked, list-start, step-checked}
+use Rattle.expansion.proofs.AppendedChecked.{Checked, list-checked, list-start, step-checked}
 use Rattle.expansion.proofs.Placement.{all-map}
 use Rattle.expansion.proofs.Substitution.{Result, result-kept}
 

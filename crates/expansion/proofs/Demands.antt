@@ -22,7 +22,7 @@ use Rattle.expansion.specs.Visit.{expanded}
 use Rattle.expansion.specs.File.{countsIn, fileOf}
 use Rattle.expansion.specs.JobOrder.{allJobChecks}
 use Rattle.expansion.specs.Demands.{RefusedJobExactly, WrittenExactly, AreasLeft, WrittenWell, ExpansionRight}
-use Rattle.expansion.proofs.Small.{Small}
+use Rattle.expansion.proofs.SmallNumbers.{Small}
 use Rattle.expansion.proofs.Files.{file-length, file-counts, file-bundle, file-whole}
 use Rattle.expansion.proofs.SmallWords.{file-small, expanded-small}
 use Rattle.expansion.proofs.JobOrder.{job-checks-find}

@@ -19,7 +19,7 @@ use Rattle.judgement.specs.Demands.{LastIsClaim}
 use Rattle.expansion.specs.Nodes.{Node, nodeAt}
 use Rattle.expansion.specs.Visit.{Visit, visit, visited, expanded, claiming}
 use Rattle.expansion.proofs.Grown.{claiming-longer, expanded-longer}
-use Rattle.expansion.proofs.Appended.{Checked, claiming-checked}
+use Rattle.expansion.proofs.AppendedChecked.{Checked, claiming-checked}
 use Rattle.expansion.proofs.Substitution.{Substitutes, own-gives}
 use Rattle.expansion.proofs.Conclusions.{Done, done-kept, Visited}
 use Rattle.expansion.proofs.Standing.{standing}

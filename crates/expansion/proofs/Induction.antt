@@ -35,7 +35,7 @@ use Rattle.logic.proofs.FormedKept.{image-tree-kept}
 use Rattle.expansion.specs.Nodes.{Node, Nodes, leaf, node, scope, block, nil, cons, number}
 use Rattle.expansion.specs.Visit.{Placed, placeApplication, placeBinder, Visit, Visits, concluded, Opened, replacing, fixing, imageTerm, closeApplication, newVariable, fresh, openBinder, closeBinder, visit, visitAll}
 use Rattle.expansion.proofs.Grown.{variable-longer, application-longer, binder-longer, fresh-longer, fixing-longer, replacing-longer, open-longer, visit-longer, visitAll-longer}
-use Rattle.expansion.proofs.Appended.{Checked, list-checked, list-start, variable-checked}
+use Rattle.expansion.proofs.AppendedChecked.{Checked, list-checked, list-start, variable-checked}
 use Rattle.expansion.proofs.Placement.{all-map, all-snoc, gather-kept, PlacedAs, variable-placed, application-placed, binder-placed}
 use Rattle.expansion.proofs.Substitution.{Result, Substitutes, replaced-old, substitutes-kept, new-not-free, new-not-in-image, lookup-covers, fixing-says, replacing-says, Opens, fixing-opens, replacing-opens}
 use Rattle.expansion.proofs.Conclusions.{done-says, done-kept, done-none, done-more, done-all-kept, done-results, done-sorts, done-steps, say-all, Visited, VisitedAll, conclude}

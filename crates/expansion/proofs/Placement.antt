@@ -34,7 +34,7 @@ use Rattle.logic.proofs.Kept.{signature-kept, sorts-kept, tree-kept, sort-tree-
 use Rattle.logic.proofs.FormedKept.{fields-kept}
 use Rattle.logic.specs.Lookup.{after, seek, sameVariable, sameApplication, sameBinder}
 use Rattle.expansion.specs.Visit.{Placed, placed, placeVariable, placeApplication, placeBinder, newVariable}
-use Rattle.expansion.proofs.Appended.{Checked, list-checked, list-start, term-checked}
+use Rattle.expansion.proofs.AppendedChecked.{Checked, list-checked, list-start, term-checked}
 
 -- ---- lists
 

@@ -34,7 +34,7 @@ use Rattle.logic.specs.Lookup.{after, seek, sameVariable, sameApplication, same
 use Rattle.expansion.specs.Visit.{Placed, placed, placeApplication, placeBinder, Visit, Visits, concluded, Opened, replacing, fixing, imageTerm, newVariable, fresh, renaming, openBinder, visit, visitAll, visited, expanded}
 use Rattle.expansion.specs.File.{countsIn, symbolWords, variableWords, termWords, linkWords, contextWords, stepWords}
 use Rattle.expansion.specs.Demands.{Bytes}
-use Rattle.expansion.proofs.Small.{Word, Small, all-append, all-snoc, all-getD, all-at, all-tab}
+use Rattle.expansion.proofs.SmallNumbers.{Word, Small, all-append, all-snoc, all-getD, all-at, all-tab}
 use Rattle.expansion.proofs.Grown.{placed-longer, concluded-longer, replacing-longer, fixing-longer, visit-longer, visitAll-longer}
 
 -- ---- a bundle that is read out of bytes

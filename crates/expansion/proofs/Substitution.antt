@@ -39,7 +39,7 @@ use Rattle.logic.proofs.Kept.{variable-kept, items-kept, tree-kept, sort-tree-k
 use Rattle.logic.proofs.FormedKept.{lists-formed-kept, settled-in-kept}
 use Rattle.expansion.specs.Visit.{Opened, replacing, fixing, newVariable}
 use Rattle.expansion.proofs.Grown.{replacing-longer, fixing-longer}
-use Rattle.expansion.proofs.Appended.{Checked, list-checked, list-start, context-checked}
+use Rattle.expansion.proofs.AppendedChecked.{Checked, list-checked, list-start, context-checked}
 use Rattle.expansion.proofs.Placement.{all-map}
 
 -- ---- results

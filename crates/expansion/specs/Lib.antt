@@ -4,7 +4,7 @@
 --     File           the file of a bundle
 --     Expansion      the answer for every job and all lengths of the lent areas, and what is left there
 --     JobOrder       document 01's one order of the writer's checks, as one list
---     Left           what is left in the areas
+--     AreasAfter     what is left in the areas
 --     ExampleFiles   the files of document 01's examples, as words
 --     Examples       THE TWELVE EXAMPLES of document 01: one table, and the statement that every row is right
 --     Demands        THE DEMANDS on the writer, as types: proofs/ has each under the same name
@@ -13,7 +13,7 @@ pub mod Visit
 pub mod File
 pub mod Expansion
 pub mod JobOrder
-pub mod Left
+pub mod AreasAfter
 pub mod ExampleFiles
 pub mod Examples
 pub mod Demands

@@ -14,7 +14,7 @@ use Rattle.judgement.specs.Judge.{judge}
 use Rattle.expansion.specs.declared.Answer.{Answer as Reply}
 use Rattle.expansion.specs.declared.Answer.the-variants.{Written}
 use Rattle.expansion.specs.Expansion.{expansion}
-use Rattle.expansion.specs.Left.{Left}
+use Rattle.expansion.specs.AreasAfter.{Left}
 use Rattle.expansion.specs.Demands.{Bytes, JobFormed, Fits, LongEnough, WrittenWell}
 
 -- Accepted: in every finite world, under every valuation, both sides of the claim have equal value. `a` is what `check` answers.

@@ -25,9 +25,9 @@ use Rattle.expansion.specs.Visit as unlimited
 use Rattle.expansion.specs.Visit.{concluded, replacing, renaming, visit}
 use Rattle.placing.specs.Outcomes.{VisitOutcome, OpenOutcome, AddOutcome, VisitIndexed, OpenIndexed, PlaceIndexed, ListIndexed}
 use Rattle.expansion.proofs.Grown.{concluded-longer, replacing-longer, visit-longer}
-use Rattle.placing.proofs.Closing.{add-done}
-use Rattle.placing.proofs.Calls.{renaming-longer}
-use Rattle.placing.proofs.Told.{visit-done, open-done}
+use Rattle.placing.proofs.ScratchOutcomes.{add-done}
+use Rattle.placing.proofs.CallOutcomes.{renaming-longer}
+use Rattle.placing.proofs.OutcomeFacts.{visit-done, open-done}
 
 -- ---- nothing was appended
 

@@ -148,7 +148,7 @@ fn graph_end(is_dot: bool) {
 fn main() {
     let mut input = io::large_buffer();
     let n = io::read_full(0, &mut input);
-    let mut free = [0u64; 1024];
+    let mut free = [0u64; Bundle::SET_WORDS * Bundle::TERMS];
     let answer = checker::check(&input[..n], &mut free);
     let is_dot = wants_dot();
     graph_start(is_dot);

@@ -24,8 +24,8 @@ use Rattle.expansion.specs.Visit.{visit, visitAll}
 use Rattle.expansion.specs.File.{countsIn}
 use Rattle.placing.specs.Outcomes.{ListOutcome, Stands, StandAll, TermAsks, TermGives, ListAsks, ListGives}
 use Rattle.expansion.proofs.Grown.{visit-longer, visitAll-longer}
-use Rattle.placing.proofs.Carried.{stand-all-on, visit-ends, visitAll-steps}
-use Rattle.placing.proofs.Told.{VisitDone, visit-done, visit-full, more-full, on, contexts-on, steps-are, holds, counts-are, Words, result-word}
+use Rattle.placing.proofs.StandingKept.{stand-all-on, visit-ends, visitAll-steps}
+use Rattle.placing.proofs.OutcomeFacts.{VisitDone, visit-done, visit-full, more-full, on, contexts-on, steps-are, holds, counts-are, Words, result-word}
 use Rattle.visits.proofs.Pairs.{Pair, below-same, below-trans, below-set, halves-first}
 
 -- ---- the measure: how many links are left from a link on

@@ -31,9 +31,9 @@ use Rattle.expansion.specs.Visit as unlimited
 use Rattle.expansion.specs.Visit.{Visit, visit, visitAll, concluded, closeApplication, closeBinder, openBinder, replacing, newVariable}
 use Rattle.placing.specs.Outcomes.{VisitOutcome, OpenOutcome, Stands, StandAll, TermAsks, TermGives, ListAsks, ListGives}
 use Rattle.expansion.proofs.Grown.{open-longer, visit-longer, visitAll-longer}
-use Rattle.placing.proofs.Carried.{stands-on, visit-ends, visitAll-steps, replacing-context, open-context, opening, opening-longer, scope-longer, node-longer, body-longer, block-longer}
+use Rattle.placing.proofs.StandingKept.{stands-on, visit-ends, visitAll-steps, replacing-context, open-context, opening, opening-longer, scope-longer, node-longer, body-longer, block-longer}
 use Rattle.visits.proofs.Pairs.{Pair, below-same, below-trans, below-set, halves-then}
-use Rattle.placing.proofs.Told.{visit-done, visit-full, OpenDone, open-done, open-full, ListDone, list-done, list-full, more-full, on, steps-on, steps-are, contexts-are, Words, result-word}
+use Rattle.placing.proofs.OutcomeFacts.{visit-done, visit-full, OpenDone, open-done, open-full, ListDone, list-done, list-full, more-full, on, steps-on, steps-are, contexts-are, Words, result-word}
 
 -- ---- the term's record, as the code reads it
 

@@ -41,7 +41,7 @@ use Rattle.expansion.specs.File.{countsIn, fileOf}
 use Rattle.expansion.specs.Expansion.{longEnough, earlyTests, jobTests, jobFault, outcomeOf, expansion}
 use Rattle.expansion.specs.Demands.{LongEnough, Bytes}
 use Rattle.placing.specs.Outcomes.{Holds, TooMuch, VisitOutcome, done, full, Stands, TermAsks}
-use Rattle.expansion.specs.Left.{Left, Stored}
+use Rattle.expansion.specs.AreasAfter.{Left, Stored}
 use Rattle.expansion.proofs.Files.{file-length}
 use Rattle.expansion.proofs.SmallWords.{file-small, expanded-small}
 use Rattle.files.proofs.SectionPlaces.{within-words}

@@ -3,7 +3,7 @@ pub mod jobs; // jobs.rt: the checks of a job after 1 to 9
 
 ghost use lib.ListN.{length};
 ghost use Rattle.expansion.specs.Expansion.{expansion};
-ghost use Rattle.expansion.specs.Left.{Left, Stored};
+ghost use Rattle.expansion.specs.AreasAfter.{Left, Stored};
 use expansion::Answer;
 use placing::Visited;
 

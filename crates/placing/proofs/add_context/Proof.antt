@@ -4,7 +4,7 @@ use Prim.Native.Nat.{suc}
 use native.Mathlib.Numerals.{add-one}
 use Rattle.scratch.proofs.ScratchFields.{contexts-length}
 use Rattle.placing.specs.Outcomes.{OpenOutcome}
-use Rattle.placing.proofs.Closing.{open-is, context-over}
+use Rattle.placing.proofs.ScratchOutcomes.{open-is, context-over}
 use borrow.Author.Needs.{needs}
 use Rattle.placing.proofs.add_context.Statement.{statement}
 use Rattle.placing.proofs.add_context.Tie as tie

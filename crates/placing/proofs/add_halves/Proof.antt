@@ -6,7 +6,7 @@ use Rattle.scratch.specs.Stack.{halves}
 use Rattle.scratch.proofs.Halves.{halves-length}
 use Rattle.scratch.proofs.Pushed.{start-is}
 use Rattle.placing.specs.Outcomes.{AddOutcome}
-use Rattle.placing.proofs.Closing.{add-is, list-over}
+use Rattle.placing.proofs.ScratchOutcomes.{add-is, list-over}
 use borrow.Author.Needs.{needs}
 use Rattle.placing.proofs.add_halves.Statement.{statement}
 use Rattle.placing.proofs.add_halves.Tie as tie

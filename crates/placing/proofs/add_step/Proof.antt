@@ -4,7 +4,7 @@ use Prim.Native.Nat.{suc}
 use native.Mathlib.Numerals.{add-one}
 use Rattle.scratch.proofs.ScratchFields.{steps-length}
 use Rattle.placing.specs.Outcomes.{VisitOutcome}
-use Rattle.placing.proofs.Closing.{visit-is, step-over}
+use Rattle.placing.proofs.ScratchOutcomes.{visit-is, step-over}
 use borrow.Author.Needs.{needs}
 use Rattle.placing.proofs.add_step.Statement.{statement}
 use Rattle.placing.proofs.add_step.Tie as tie

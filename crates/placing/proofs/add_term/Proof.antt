@@ -7,7 +7,7 @@ use Rattle.scratch.specs.Scratch.{bundleIn}
 use native.Mathlib.Numerals.{add-one}
 use Rattle.scratch.proofs.ScratchFields.{terms-length}
 use Rattle.placing.specs.Outcomes.{PlaceOutcome}
-use Rattle.placing.proofs.Closing.{place-is, term-over}
+use Rattle.placing.proofs.ScratchOutcomes.{place-is, term-over}
 use Rattle.placing.proofs.Indexes.{full-place, place-holds, term-indexed}
 use borrow.Author.Needs.{needs}
 use Rattle.placing.proofs.add_term.Statement.{statement}

@@ -7,7 +7,7 @@ use native.Mathlib.Omega.{arith}
 use Rattle.scratch.specs.Scratch.{bundleIn}
 use Rattle.scratch.proofs.ScratchFields.{links-length}
 use Rattle.placing.specs.Outcomes.{AddOutcome}
-use Rattle.placing.proofs.Closing.{add-is, list-over}
+use Rattle.placing.proofs.ScratchOutcomes.{add-is, list-over}
 use borrow.Author.Needs.{needs}
 use Rattle.placing.proofs.add_value.Statement.{statement}
 use Rattle.placing.proofs.add_value.Tie as tie

@@ -5,7 +5,7 @@ use Prim.Native.Nat.{ℕ}
 use native.Mathlib.Omega.{arith}
 use Rattle.scratch.specs.Stack.{halves}
 use Rattle.filing.specs.Filing.{mixAll, rootDigest}
-use Rattle.placing.proofs.Calls.{add-asks, found-is, term-on, term-full}
+use Rattle.placing.proofs.CallOutcomes.{add-asks, found-is, term-on, term-full}
 use Rattle.placing.proofs.Indexes.{full-place, place-holds, list-indexed, application-filed}
 use borrow.Author.Needs.{needs}
 use Rattle.placing.proofs.place_application.Statement.{statement}

@@ -6,7 +6,7 @@ use Prim.Native.Nat.{ℕ}
 use native.Mathlib.Omega.{arith}
 use Rattle.scratch.specs.Scratch.{bundleIn}
 use Rattle.placing.specs.Outcomes.{PlaceOutcome}
-use Rattle.placing.proofs.Calls.{termed, no-list, found-is, term-on}
+use Rattle.placing.proofs.CallOutcomes.{termed, no-list, found-is, term-on}
 use Rattle.placing.proofs.Indexes.{place-holds, plain-filed}
 use borrow.Author.Needs.{needs}
 use Rattle.placing.proofs.place_binder.Statement.{statement}

@@ -6,7 +6,7 @@ use native.Mathlib.Numerals.{add-one}
 use native.Mathlib.Omega.{arith}
 use Rattle.scratch.specs.Scratch.{bundleIn}
 use Rattle.scratch.proofs.ScratchFields.{variables-length}
-use Rattle.placing.proofs.Calls.{no-list, found-is, term-on, fresh-on, variable-full}
+use Rattle.placing.proofs.CallOutcomes.{no-list, found-is, term-on, fresh-on, variable-full}
 use Rattle.placing.proofs.Indexes.{full-place, place-holds, variable-indexed, plain-filed}
 use borrow.Author.Needs.{needs}
 use Rattle.placing.proofs.place_fresh.Statement.{statement}

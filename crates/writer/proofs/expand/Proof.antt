@@ -3,7 +3,7 @@ use borrow.Author.Needs.{needs}
 use mathlib.Core.Path.{refl}
 use native.Mathlib.Omega.{arith}
 use Rattle.expansion.specs.declared.Answer.the-variants.{Written, Refused}
-use Rattle.expansion.specs.Left.{Stored}
+use Rattle.expansion.specs.AreasAfter.{Stored}
 use Rattle.writer.proofs.Expanding.{left-refused, left-written}
 use Rattle.writer.proofs.expand.Statement.{statement}
 use Rattle.writer.proofs.expand.Tie as tie

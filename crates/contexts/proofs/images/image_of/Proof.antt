@@ -3,8 +3,8 @@ use native.Mathlib.Omega.{arith}
 use mathlib.Core.Path.{_≡_, sym, ap, _∙_}
 use lib.ListN.{getD}
 use Prim.Native.Nat.{_+_, _*_, _-_}
-use Rattle.contexts.specs.Known.{asImage}
-use Rattle.contexts.proofs.KnownRows.{image-zero, image-past, image-some, as-own, as-gives}
+use Rattle.contexts.specs.ContextRows.{asImage}
+use Rattle.contexts.proofs.ContextRows.{image-zero, image-past, image-some, as-own, as-gives}
 use borrow.Author.Needs.{needs}
 use Rattle.contexts.proofs.images.image_of.Statement.{statement}
 use Rattle.contexts.proofs.images.image_of.Tie as tie

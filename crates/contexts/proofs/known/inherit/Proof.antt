@@ -3,7 +3,7 @@ use native.Mathlib.Omega.{arith}
 use Prim.Native.Nat.{_+_, _*_, _≤_}
 use Rattle.bundle.specs.File.{bundleAt}
 use Rattle.bundle.proofs.Fields.{variables-length}
-use Rattle.contexts.proofs.KnownRows.{row-copied, parent-words, inherited, set-copied}
+use Rattle.contexts.proofs.ContextRows.{row-copied, parent-words, inherited, set-copied}
 use borrow.Author.Needs.{needs}
 use Rattle.contexts.proofs.known.inherit.Statement.{statement}
 use Rattle.contexts.proofs.known.inherit.Tie as tie

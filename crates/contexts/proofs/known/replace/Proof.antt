@@ -15,8 +15,8 @@ use Rattle.bundle.specs.declared.Bundle.{Bundle as Counts}
 use Rattle.bundle.specs.Bundle.{Bundle}
 use Rattle.logic.specs.Contexts.{lookup, first, movedBy}
 use Rattle.logic.proofs.Tests.{numbers-of, and-left, and-right}
-use Rattle.contexts.specs.Known.{asImage, imageIn, Untouched, Agrees}
-use Rattle.contexts.proofs.KnownRows.{untouched-refl, untouched-trans, room-on, replacing-on, different-rest, as-gives}
+use Rattle.contexts.specs.ContextRows.{asImage, imageIn, Untouched, Agrees}
+use Rattle.contexts.proofs.ContextRows.{untouched-refl, untouched-trans, room-on, replacing-on, different-rest, as-gives}
 use Rattle.contexts.proofs.known.replace.Statement.{statement}
 use Rattle.contexts.proofs.known.replace.Tie as tie
 

@@ -5,7 +5,7 @@ use Prim.Native.Nat.{_+_, _*_, _-_, _≤_, _<_}
 use lib.ListN.{length}
 use Rattle.bundle.specs.File.{bundleAt}
 use Rattle.bundle.proofs.Fields.{variables-length}
-use Rattle.contexts.proofs.KnownRows.{entered-set}
+use Rattle.contexts.proofs.ContextRows.{entered-set}
 use borrow.Author.Needs.{needs}
 use Rattle.contexts.proofs.known.set_image.Statement.{statement}
 use Rattle.contexts.proofs.known.set_image.Tie as tie

@@ -11,7 +11,7 @@ use borrow.Author.Tests.{le-leb}
 use Rattle.bundle.proofs.Fields.{variables-length}
 use Rattle.logic.specs.Tests.{upTo}
 use Rattle.logic.specs.Rules.{freeInImageBy, bindSidesBy}
-use Rattle.contexts.specs.Lent.{freeIn, imagesIn}
+use Rattle.contexts.specs.LentReading.{freeIn, imagesIn}
 use Rattle.contexts.proofs.FreeWords.{known-room}
 use Rattle.logic.proofs.UpTo.{upto-on, upto-here, upto-end}
 use Rattle.rules.proofs.rules.bind_sides.Statement.{statement}

@@ -10,7 +10,7 @@ use Rattle.bundle.specs.Links.{items}
 use Rattle.bundle.specs.File.{bundleAt}
 use Rattle.bundle.specs.Lists.{each, numbers}
 use Rattle.bundle.proofs.Walks.{walk-start, walk-start-le, walk-le, walk-up, walk-nil, walk-cons, walk-some, walk-length, numbers-not}
-use Rattle.rules.proofs.Marks.{EarlierAt, earlier-start, earlier-on, earlier-stop}
+use Rattle.rules.proofs.PremiseMarks.{EarlierAt, earlier-start, earlier-on, earlier-stop}
 use Rattle.steps.proofs.steps.all_earlier.Statement.{statement}
 use Rattle.steps.proofs.steps.all_earlier.Tie as tie
 

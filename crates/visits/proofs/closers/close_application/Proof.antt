@@ -4,7 +4,7 @@ use mathlib.Core.Path.{_∙_}
 use native.Mathlib.Omega.{arith}
 use Rattle.scratch.specs.Scratch.{bundleIn}
 use Rattle.scratch.specs.Stack.{halves}
-use Rattle.placing.proofs.Calls.{application-asks, concluded-on, concluded-full}
+use Rattle.placing.proofs.CallOutcomes.{application-asks, concluded-on, concluded-full}
 use Rattle.placing.proofs.Indexes.{full-visit, step-indexed}
 use borrow.Author.Needs.{needs}
 use Rattle.visits.proofs.closers.close_application.Statement.{statement}

@@ -3,7 +3,7 @@ use mathlib.Core.Path.{_∙_}
 use mathlib.Core.List.{[], _∷_}
 use native.Mathlib.Omega.{arith}
 use Rattle.scratch.specs.Scratch.{bundleIn}
-use Rattle.placing.proofs.Calls.{binder-of, binder-asks, concluded-on, concluded-full}
+use Rattle.placing.proofs.CallOutcomes.{binder-of, binder-asks, concluded-on, concluded-full}
 use Rattle.placing.proofs.Indexes.{full-visit, step-indexed}
 use borrow.Author.Needs.{needs}
 use Rattle.visits.proofs.closers.close_quantifier.Statement.{statement}

@@ -2,8 +2,8 @@
 use mathlib.Core.Path.{sym, _∙_}
 use native.Mathlib.Omega.{arith}
 use Rattle.scratch.specs.Scratch.{bundleIn}
-use Rattle.placing.proofs.Closing.{given-word}
-use Rattle.placing.proofs.Calls.{leaf-own, leaf-gives}
+use Rattle.placing.proofs.ScratchOutcomes.{given-word}
+use Rattle.placing.proofs.CallOutcomes.{leaf-own, leaf-gives}
 use borrow.Author.Needs.{needs}
 use Rattle.visits.proofs.closers.close_variable.Statement.{statement}
 use Rattle.visits.proofs.closers.close_variable.Tie as tie

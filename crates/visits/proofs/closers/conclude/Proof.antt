@@ -1,7 +1,7 @@
 -- `closers::conclude` meets its contract: the list of premises, then the step.
 use mathlib.Core.Path.{_∙_}
 use native.Mathlib.Omega.{arith}
-use Rattle.placing.proofs.Calls.{add-asks, step-on, step-full}
+use Rattle.placing.proofs.CallOutcomes.{add-asks, step-on, step-full}
 use borrow.Author.Needs.{needs}
 use Rattle.visits.proofs.closers.conclude.Statement.{statement}
 use Rattle.visits.proofs.closers.conclude.Tie as tie

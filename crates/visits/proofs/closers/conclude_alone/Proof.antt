@@ -1,6 +1,6 @@
 -- `closers::conclude_alone` meets its contract: the list of no premise adds nothing.
 use mathlib.Core.Path.{refl}
-use Rattle.placing.proofs.Calls.{no-list, step-on}
+use Rattle.placing.proofs.CallOutcomes.{no-list, step-on}
 use borrow.Author.Needs.{needs}
 use Rattle.visits.proofs.closers.conclude_alone.Statement.{statement}
 use Rattle.visits.proofs.closers.conclude_alone.Tie as tie

@@ -1,7 +1,7 @@
 -- `closers::conclude_one` meets its contract: the list of one premise, then the step.
 use mathlib.Core.Path.{_∙_}
 use native.Mathlib.Omega.{arith}
-use Rattle.placing.proofs.Calls.{add-asks, step-on, step-full}
+use Rattle.placing.proofs.CallOutcomes.{add-asks, step-on, step-full}
 use borrow.Author.Needs.{needs}
 use Rattle.visits.proofs.closers.conclude_one.Statement.{statement}
 use Rattle.visits.proofs.closers.conclude_one.Tie as tie

@@ -1,7 +1,7 @@
 -- `closers::open_let` meets its contract: the list of terms, then the context.
 use mathlib.Core.Path.{_∙_}
 use native.Mathlib.Omega.{arith}
-use Rattle.placing.proofs.Calls.{add-asks, context-on, context-full}
+use Rattle.placing.proofs.CallOutcomes.{add-asks, context-on, context-full}
 use borrow.Author.Needs.{needs}
 use Rattle.visits.proofs.closers.open_let.Statement.{statement}
 use Rattle.visits.proofs.closers.open_let.Tie as tie

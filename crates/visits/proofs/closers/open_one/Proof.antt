@@ -1,7 +1,7 @@
 -- `closers::open_one` meets its contract: the list of one term, then the context.
 use mathlib.Core.Path.{_∙_}
 use native.Mathlib.Omega.{arith}
-use Rattle.placing.proofs.Calls.{add-asks, context-on, context-full}
+use Rattle.placing.proofs.CallOutcomes.{add-asks, context-on, context-full}
 use borrow.Author.Needs.{needs}
 use Rattle.visits.proofs.closers.open_one.Statement.{statement}
 use Rattle.visits.proofs.closers.open_one.Tie as tie

@@ -6,7 +6,7 @@ use native.Mathlib.Omega.{arith}
 use Rattle.scratch.specs.Scratch.{bundleIn}
 use Rattle.scratch.proofs.ScratchFields.{variables-length}
 use Rattle.expansion.specs.Visit.{newVariable}
-use Rattle.placing.proofs.Calls.{fresh-asks, renaming-on, renaming-full}
+use Rattle.placing.proofs.CallOutcomes.{fresh-asks, renaming-on, renaming-full}
 use Rattle.placing.proofs.Indexes.{full-open, renaming-indexed}
 use borrow.Author.Needs.{needs}
 use Rattle.visits.proofs.closers.open_quantifier.Statement.{statement}

@@ -1,7 +1,7 @@
 -- `closers::open_renaming` meets its contract: the context that fixes, the list of the variable, the context that replaces.
 use mathlib.Core.Path.{_∙_}
 use Rattle.scratch.specs.Scratch.{bundleIn}
-use Rattle.placing.proofs.Calls.{add-asks, fixed-asks, fixed-full, listed-full, opened-on}
+use Rattle.placing.proofs.CallOutcomes.{add-asks, fixed-asks, fixed-full, listed-full, opened-on}
 use borrow.Author.Needs.{needs}
 use Rattle.visits.proofs.closers.open_renaming.Statement.{statement}
 use Rattle.visits.proofs.closers.open_renaming.Tie as tie

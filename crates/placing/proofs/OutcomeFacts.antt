@@ -28,8 +28,8 @@ use Rattle.expansion.specs.Visit as unlimited
 use Rattle.expansion.specs.Visit.{Visit, Visits}
 use Rattle.expansion.specs.File.{countsIn}
 use Rattle.placing.specs.Outcomes.{Holds, TooMuch, VisitOutcome, OpenOutcome, ListOutcome}
-use Rattle.expansion.proofs.Small.{all-at, all-tab}
-use Rattle.placing.proofs.Carried.{Ends}
+use Rattle.expansion.proofs.SmallNumbers.{all-at, all-tab}
+use Rattle.placing.proofs.StandingKept.{Ends}
 
 -- ---- what is told by an outcome
 

@@ -20,7 +20,7 @@ use Rattle.bundle.specs.Links.{items}
 use Rattle.bundle.specs.Lists.{numbers, each}
 use Rattle.logic.specs.Rules.{allProveBy}
 use Rattle.logic.proofs.Tests.{and-left, and-right, and-both, numbers-of, numbers-in}
-use Rattle.rules.specs.Marks.{Earlier, keyOf, Carried}
+use Rattle.rules.specs.PremiseMarks.{Earlier, keyOf, Carried}
 
 -- a test, and what is known where it passes
 pub passing : {A : Type 0} {p q : Bool} → p ≡ q → (q ≡ true → A) → (p ≡ q) × (p ≡ true → A)

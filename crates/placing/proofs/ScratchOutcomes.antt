@@ -32,7 +32,7 @@ use Rattle.expansion.specs.File.{countsIn, symbolWords, variableWords, termWord
 use Rattle.expansion.specs.Visit.{Visit, placed, imageTerm}
 use Rattle.expansion.specs.Visit as unlimited
 use Rattle.placing.specs.Outcomes.{Holds, TooMuch, VisitOutcome, OpenOutcome, PlaceOutcome, AddOutcome}
-use Rattle.expansion.proofs.Small.{Word, Small, all-tab}
+use Rattle.expansion.proofs.SmallNumbers.{Word, Small, all-tab}
 use Rattle.expansion.proofs.SmallWords.{image-small}
 
 -- ---- words and counts that stand for a bundle

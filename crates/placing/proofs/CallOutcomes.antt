@@ -38,7 +38,7 @@ use Rattle.expansion.specs.Visit.{Visit, placed, placeVariable, placeApplicatio
 use Rattle.expansion.specs.Visit as unlimited
 use Rattle.placing.specs.Outcomes.{TooMuch, VisitOutcome, OpenOutcome, PlaceOutcome, AddOutcome}
 use Rattle.expansion.proofs.Grown.{variable-longer, replacing-longer, concluded-longer}
-use Rattle.placing.proofs.Closing.{add-is, place-is, add-done, place-done, open-done, add-full, place-full, open-full, variable-over, longer-over, start-word, placed-word}
+use Rattle.placing.proofs.ScratchOutcomes.{add-is, place-is, add-done, place-done, open-done, add-full, place-full, open-full, variable-over, longer-over, start-word, placed-word}
 
 -- ---- one record appended
 
