@@ -7,6 +7,9 @@ ghost use lib.ListN.{length, take, replicate};
 ghost use Rattle.expansion.specs.Expansion.{longEnough};
 use bundle::Bundle;
 
+// Words of 64 bits for the stack: as many as the free sets of all terms may take.
+const STACK: usize = Bundle::SET_WORDS * Bundle::TERMS;
+
 fn one(p: bool) -> usize
     ensures { λ r. ⌜ (r ≤ 1) × (p ≡ true → r ≡ 1) × (p ≡ false → r ≡ 0) ⌝ }
 {
@@ -19,7 +22,7 @@ pub fn long_enough(out: usize, words: usize, sets: usize) -> usize
 {
     let output = one(Bundle::BYTES <= out);
     let scratch = one(Bundle::WORDS <= words);
-    let stack = one(Bundle::SET_WORDS * Bundle::TERMS <= sets);
+    let stack = one(STACK <= sets);
     output + scratch + stack
 }
 
