@@ -38,7 +38,7 @@ use Rattle.logic.specs.Contexts.{lookup, first, image, movedBy, moved, settledF
 use Rattle.logic.proofs.Images.{image-empty}
 use Rattle.logic.proofs.Tests.{numbers-in, numbers-of, and-left, and-right, both-ways, up-to, up-to-all}
 use Rattle.contexts.proofs.FreeWords.{numbers-past}
-use Rattle.contexts.specs.ContextRows.{asImage, imageAt, imageIn, Images, MovedSets, Room, Untouched, Agrees, Entered}
+use Rattle.contexts.specs.ContextRows.{asImage, imageAt, imageIn, Images, MovedSets, RowRoom, Untouched, Agrees, Entered}
 
 pub moved-few : (b : Bundle) (m : List ℕ) (n c d : ℕ) → d ≤ c → n * d ≤ n * c → MovedSets b m n c → MovedSets b m n d
 moved-few b m n c d h g i = record { long = omega (arith, i .long); same = λ k x l. i .same k x (omega arith); few = λ k x l. i .few k x (omega arith) }
@@ -128,7 +128,7 @@ untouched-trans w m w′ m′ w″ m″ n k p q = record {
 }
 
 module _ (b : Bundle) (w m w′ m′ : List ℕ) (n k : ℕ) (kept : Untouched w m w′ m′ n k) where
-  pub room-on : Room w m n k → Room w′ m′ n k
+  pub room-on : RowRoom w m n k → RowRoom w′ m′ n k
   room-on r = record { row = omega (arith, r .row, kept .long-row); words = omega (arith, r .words, kept .long-set) }
 
   pub row-kept : (j x : ℕ) → j < k → length (b .variables) ≤ 64 → imageIn b w′ j x ≡ imageIn b w j x
@@ -264,7 +264,7 @@ moved-inside b w k x same e = go (ℕ-discrete x 0) (decLe x (length (b .variabl
 
 -- ---- a context: the row and the set of its parent, then its own entry
 
-module _ (b : Bundle) (w m w′ m₁ m₂ : List ℕ) (n k p : ℕ) (lower : p < k) (room : Room w m n k) where
+module _ (b : Bundle) (w m w′ m₁ m₂ : List ℕ) (n k p : ℕ) (lower : p < k) (room : RowRoom w m n k) where
   own-words : n * p + n ≤ n * k
   own-words =
       let q : suc p - 1 ≡ p = omega arith in
@@ -302,7 +302,7 @@ module _ (b : Bundle) (w m w′ m′ : List ℕ) (n k p : ℕ) (lower : p < k) (
   unfolding moved
   agrees-copied same x = same x ∙ sets .same p x lower ∙ ap (λ (i : Image). movedBy b i x) (sym (copied x ∙ images .same p x lower))
 
-  module _ (w″ m″ : List ℕ) (room : Room w m n k) (few : length (b .variables) ≤ 64) (kept : Untouched w m w′ m′ n k) (f : ℕ → Image → Image)
+  module _ (w″ m″ : List ℕ) (room : RowRoom w m n k) (few : length (b .variables) ≤ 64) (kept : Untouched w m w′ m′ n k) (f : ℕ → Image → Image)
       (entered : Entered b w′ m′ w″ m″ n k f) (own : (x : ℕ) → f x (image b p x) ≡ image b k x) where
     all : Untouched w m w″ m″ n k
     all = untouched-trans w m w′ m′ w″ m″ n k kept (entered .lower)

@@ -11,7 +11,7 @@ ghost use Rattle.bundle.specs.File.{Whole, bundleAt};
 ghost use Rattle.sets.specs.Sets.{member};
 ghost use Rattle.logic.specs.declared.Image.{Image};
 ghost use Rattle.logic.specs.Contexts.{lookup, first, movedBy, contextRefers};
-ghost use Rattle.contexts.specs.ContextRows.{asImage, imageIn, Images, MovedSets, Room, Untouched, Agrees, Entered};
+ghost use Rattle.contexts.specs.ContextRows.{asImage, imageIn, Images, MovedSets, RowRoom, Untouched, Agrees, Entered};
 use super::images::is_variable;
 use bundle::Bundle;
 use bundle::lists::first_link;
@@ -41,7 +41,7 @@ fn inherit(
     k: usize,
     parent: usize,
 )
-    requires { ⌜ Whole (now file) b × Room (now images) (now moved) n k × (parent < k) ⌝ }
+    requires { ⌜ Whole (now file) b × RowRoom (now images) (now moved) n k × (parent < k) ⌝ }
     ensures { λ _. ⌜ Untouched (now (images .entry)) (now (moved .entry)) (now (images .exit)) (now (moved .exit)) n k × ((x : ℕ) → imageIn (bundleAt (now (file .entry)) b) (now (images .exit)) k x ≡ imageIn (bundleAt (now (file .entry)) b) (now (images .entry)) parent x) × ((x : ℕ) → member (now (moved .exit)) (n * k) n x ≡ member (now (moved .entry)) (n * parent) n x) ⌝ }
 {
     let count = b.variables;
@@ -67,7 +67,7 @@ fn set_image(
     t: usize,
     moves: bool,
 )
-    requires { ⌜ Whole (now file) b × Room (now images) (now moved) n k × (1 ≤ x) × (x ≤ b .variables) × (b .variables ≤ 64 * n) × (t ≤ b .terms) × (moves ≡ movedBy (bundleAt (now file) b) (asImage t) x) × Agrees (bundleAt (now file) b) (now images) (now moved) n k ⌝ }
+    requires { ⌜ Whole (now file) b × RowRoom (now images) (now moved) n k × (1 ≤ x) × (x ≤ b .variables) × (b .variables ≤ 64 * n) × (t ≤ b .terms) × (moves ≡ movedBy (bundleAt (now file) b) (asImage t) x) × Agrees (bundleAt (now file) b) (now images) (now moved) n k ⌝ }
     ensures { λ _. ⌜ Entered (bundleAt (now (file .entry)) b) (now (images .entry)) (now (moved .entry)) (now (images .exit)) (now (moved .exit)) n k (λ y i. cond (eqb x y) (asImage t) i) ⌝ }
 {
     images[Bundle::VARIABLES * k + (x - 1)] = t as u16;
@@ -89,7 +89,7 @@ fn replace(
     variables: usize,
     terms: usize,
 )
-    requires { ⌜ Whole (now file) b × Room (now images) (now moved) n k × (b .variables ≤ 64 * n) × (each (numbers (b .variables)) (items (bundleAt (now file) b) variables) ≡ true) × (each (numbers (b .terms)) (items (bundleAt (now file) b) terms) ≡ true) × (different (items (bundleAt (now file) b) variables) ≡ true) × Agrees (bundleAt (now file) b) (now images) (now moved) n k ⌝ }
+    requires { ⌜ Whole (now file) b × RowRoom (now images) (now moved) n k × (b .variables ≤ 64 * n) × (each (numbers (b .variables)) (items (bundleAt (now file) b) variables) ≡ true) × (each (numbers (b .terms)) (items (bundleAt (now file) b) terms) ≡ true) × (different (items (bundleAt (now file) b) variables) ≡ true) × Agrees (bundleAt (now file) b) (now images) (now moved) n k ⌝ }
     ensures { λ _. ⌜ Entered (bundleAt (now (file .entry)) b) (now (images .entry)) (now (moved .entry)) (now (images .exit)) (now (moved .exit)) n k (λ x i. first (lookup (items (bundleAt (now (file .entry)) b) variables) (items (bundleAt (now (file .entry)) b) terms) x) i) ⌝ }
 {
     let mut i = first_link(b, variables);
@@ -109,7 +109,7 @@ fn replace(
 
 // Writes what is known of context k, where that of the lower ones is written.
 pub fn enter(file: &[u8], b: Bundle, images: &mut [u16], moved: &mut [u64], n: usize, k: usize)
-    requires { ⌜ Whole (now file) b × Images (bundleAt (now file) b) (now images) k × MovedSets (bundleAt (now file) b) (now moved) n k × Room (now images) (now moved) n k × (b .variables ≤ 64 * n) × (contextRefers (bundleAt (now file) b) k ≡ true) ⌝ }
+    requires { ⌜ Whole (now file) b × Images (bundleAt (now file) b) (now images) k × MovedSets (bundleAt (now file) b) (now moved) n k × RowRoom (now images) (now moved) n k × (b .variables ≤ 64 * n) × (contextRefers (bundleAt (now file) b) k ≡ true) ⌝ }
     ensures { λ _. ⌜ (length (now (images .exit)) ≡ length (now (images .entry))) × (length (now (moved .exit)) ≡ length (now (moved .entry))) × Images (bundleAt (now (file .entry)) b) (now (images .exit)) (k + 1) × MovedSets (bundleAt (now (file .entry)) b) (now (moved .exit)) n (k + 1) ⌝ }
 {
     let kind = context_field(file, b, k, 0);

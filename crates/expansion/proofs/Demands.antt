@@ -22,7 +22,7 @@ use Rattle.expansion.specs.Visit.{expanded}
 use Rattle.expansion.specs.File.{countsIn, fileOf}
 use Rattle.expansion.specs.JobOrder.{allJobChecks}
 use Rattle.expansion.specs.Demands.{RefusedJobExactly, WrittenExactly, AreasLeft, WrittenWell, ExpansionRight}
-use Rattle.expansion.proofs.SmallNumbers.{Small}
+use Rattle.expansion.proofs.SmallNumbers.{SmallBundle}
 use Rattle.expansion.proofs.Files.{file-length, file-counts, file-bundle, file-whole}
 use Rattle.expansion.proofs.SmallWords.{file-small, expanded-small}
 use Rattle.expansion.proofs.JobOrder.{job-checks-find}
@@ -43,7 +43,7 @@ pub areas-left : AreasLeft
 areas-left = zeros-left
 
 -- f is the job, B the bundle that is written
-module _ (f : List ℕ) (B : Bundle) (fit : Within (countsIn B)) (small : Small B) (theorem : Derived (bundleOf f) B) where
+module _ (f : List ℕ) (B : Bundle) (fit : Within (countsIn B)) (small : SmallBundle B) (theorem : Derived (bundleOf f) B) where
   same : B ≡ bundleOf (fileOf B)
   same = sym (file-bundle B fit small)
 

@@ -12,7 +12,7 @@ use Rattle.logic.specs.Longer.{Longer, withVariables, addList, listStart}
 use Rattle.logic.proofs.Longer.{longer-refl, longer-trans, list-longer, terms-longer, variables-longer, contexts-longer, steps-longer}
 use Rattle.expansion.specs.Nodes.{Node, Nodes, leaf, node, scope, block, nil, cons, nodeAt}
 use Rattle.logic.specs.Lookup.{seek, sameVariable, sameApplication, sameBinder}
-use Rattle.expansion.specs.Visit.{Placed, placed, placeVariable, placeApplication, placeBinder, Visit, Visits, concluded, Opened, replacing, fixing, imageTerm, newVariable, fresh, openBinder, visit, visitAll, visited, expanded, claiming}
+use Rattle.expansion.specs.Visit.{PlacedTerm, placed, placeVariable, placeApplication, placeBinder, Visit, Visits, concluded, OpenedContext, replacing, fixing, imageTerm, newVariable, fresh, openBinder, visit, visitAll, visited, expanded, claiming}
 
 pub placed-longer : (b : Bundle) (vs : List ℕ) (r : ℕ → TermRecord) (n : ℕ) → Longer b (placed b vs r n .bundle)
 placed-longer b vs r zero = longer-trans (list-longer b vs) (terms-longer (addList b vs) (r (listStart b vs) ∷ []))
@@ -45,8 +45,8 @@ fresh-longer b x =
 
 pub open-longer : (b : Bundle) (x c : ℕ) → Longer b (openBinder b x c .bundle)
 open-longer b x c =
-    let p : Placed = fresh b x in
-    let f : Opened = fixing (p .bundle) (newVariable b) c in
+    let p : PlacedTerm = fresh b x in
+    let f : OpenedContext = fixing (p .bundle) (newVariable b) c in
     longer-trans (fresh-longer b x)
     (longer-trans (fixing-longer (p .bundle) (newVariable b) c)
     (longer-trans (list-longer (f .bundle) (x ∷ []))
@@ -62,14 +62,14 @@ mutual
       longer-trans (visitAll-longer ns c b)
       (longer-trans (application-longer (v .bundle) f (v .results)) (concluded-longer _ 2 c t _ (v .steps)))
   visit-longer (scope t q x u) c b =
-      let o : Opened = openBinder b x c in
+      let o : OpenedContext = openBinder b x c in
       let v : Visit = visit u (o .context) (o .bundle) in
       longer-trans (open-longer b x c)
       (longer-trans (visit-longer u (o .context) (o .bundle))
       (longer-trans (binder-longer (v .bundle) q (newVariable b) (v .result)) (concluded-longer _ 4 c t _ (v .step ∷ []))))
   visit-longer (block t s vs ns u) c b =
       let v : Visits = visitAll ns c b in
-      let o : Opened = replacing (v .bundle) s c (v .results) in
+      let o : OpenedContext = replacing (v .bundle) s c (v .results) in
       let w : Visit = visit u (o .context) (o .bundle) in
       longer-trans (visitAll-longer ns c b)
       (longer-trans (replacing-longer (v .bundle) s c (v .results))

@@ -33,7 +33,7 @@ use Rattle.logic.proofs.Longer.{longer-refl, longer-trans, sizes, variable-adde
 use Rattle.logic.proofs.Kept.{variable-kept, tree-kept, image-kept}
 use Rattle.logic.proofs.FormedKept.{image-tree-kept}
 use Rattle.expansion.specs.Nodes.{Node, Nodes, leaf, node, scope, block, nil, cons, number}
-use Rattle.expansion.specs.Visit.{Placed, placeApplication, placeBinder, Visit, Visits, concluded, Opened, replacing, fixing, imageTerm, closeApplication, newVariable, fresh, openBinder, closeBinder, visit, visitAll}
+use Rattle.expansion.specs.Visit.{PlacedTerm, placeApplication, placeBinder, Visit, Visits, concluded, OpenedContext, replacing, fixing, imageTerm, closeApplication, newVariable, fresh, openBinder, closeBinder, visit, visitAll}
 use Rattle.expansion.proofs.Grown.{variable-longer, application-longer, binder-longer, fresh-longer, fixing-longer, replacing-longer, open-longer, visit-longer, visitAll-longer}
 use Rattle.expansion.proofs.AppendedChecked.{Checked, list-checked, list-start, variable-checked}
 use Rattle.expansion.proofs.Placement.{all-map, all-snoc, gather-kept, PlacedAs, variable-placed, application-placed, binder-placed}
@@ -88,7 +88,7 @@ gather-new N b (r ∷ rs) h x (inr f) = gather-new N b rs (h .1) x f
 -- term t is symbol f at the arguments ns; v is what the visits to these leave
 module _ {V₀ : ℕ} {N : ℕ → Type 0} (b : Bundle) (c t f : ℕ) (ns : Nodes) (old : Checked b) (s : Substitutes V₀ N b c) (stands : Stands V₀ b (node t f ns))
     (v : Visits) (longer : Longer b (v .bundle)) (ih : VisitedAll N c (numbersOf ns) v) where
-  abbrev applied : Placed
+  abbrev applied : PlacedTerm
   applied = placeApplication (v .bundle) f (v .results)
 
   abbrev A : Bundle
@@ -244,7 +244,7 @@ module _ {V₀ : ℕ} {N : ℕ → Type 0} (b : Bundle) (c x : ℕ) (old : Check
   -- term t binds x in the body u; v is what the visit to the body leaves
   module _ (t : ℕ) (q : Binder) (u : Node) (stands : Stands V₀ b (scope t q x u)) (v : Visit) (longer : Longer (openBinder b x c .bundle) (v .bundle))
       (ih : Visited (And N y) (openBinder b x c .context) (number u) v) where
-    abbrev result : Placed
+    abbrev result : PlacedTerm
     result = placeBinder (v .bundle) q y (v .result)
 
     abbrev R : Bundle
@@ -320,7 +320,7 @@ module _ {V₀ : ℕ} {N : ℕ → Type 0} (b : Bundle) (c x : ℕ) (old : Check
 -- term t is a let of the variables vs, its list at l, bound terms ns and body u; v is what the visits to the bound terms leave
 module _ {V₀ : ℕ} {N : ℕ → Type 0} (b : Bundle) (c t l : ℕ) (vs : List ℕ) (ns : Nodes) (u : Node) (old : Checked b) (s : Substitutes V₀ N b c)
     (stands : Stands V₀ b (block t l vs ns u)) (v : Visits) (longer : Longer b (v .bundle)) (ih : VisitedAll N c (numbersOf ns) v) where
-  abbrev bound : Opened
+  abbrev bound : OpenedContext
   bound = replacing (v .bundle) l c (v .results)
 
   let-there : (B : Bundle) → Longer b B → Stands V₀ B (block t l vs ns u)

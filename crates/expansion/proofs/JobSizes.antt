@@ -6,12 +6,12 @@ use native.Mathlib.Omega.{arith}
 use Rattle.bundle.specs.File.{bundleOf}
 use Rattle.logic.specs.Tests.{firstFailing, fault, orElse}
 use Rattle.logic.specs.Checks.{tablesFault}
-use Rattle.judgement.proofs.Sizes.{Small, failing-le, none-small, else-small, next-small, tables-small}
+use Rattle.judgement.proofs.Sizes.{SmallFault, failing-le, none-small, else-small, next-small, tables-small}
 use Rattle.expansion.specs.declared.Answer.the-variants.{Refused}
 use Rattle.expansion.specs.Expansion.{longEnough, jobTests, jobFault, Outcome, expansion}
 use Rattle.expansion.proofs.JobChecks.{refused-job-where}
 
-job-small : (f : List ℕ) (out words sets : ℕ) → Small (jobFault f out words sets)
+job-small : (f : List ℕ) (out words sets : ℕ) → SmallFault (jobFault f out words sets)
 unfolding jobFault
 job-small f out words sets =
     next-small (tablesFault f (longEnough out words sets) 3) (orElse (firstFailing (jobTests (bundleOf f))) 0 (fault 0 0))
@@ -21,5 +21,5 @@ job-small f out words sets =
 
 pub refused-job-small : (f : List ℕ) (out words sets n i : ℕ) → expansion f out words sets .answer ≡ Refused n i → (n ≤ 18) × (i ≤ 2048)
 refused-job-small f out words sets n i e =
-    let s : Small (fault n i) = subst Small (refused-job-where f out words sets n i .0 e .1) (job-small f out words sets) in
+    let s : SmallFault (fault n i) = subst SmallFault (refused-job-where f out words sets n i .0 e .1) (job-small f out words sets) in
     (s .number, s .place)

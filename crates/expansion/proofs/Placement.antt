@@ -33,7 +33,7 @@ use Rattle.logic.proofs.Longer.{longer-refl, longer-trans, list-longer, list-ad
 use Rattle.logic.proofs.Kept.{signature-kept, sorts-kept, tree-kept, sort-tree-kept}
 use Rattle.logic.proofs.FormedKept.{fields-kept}
 use Rattle.logic.specs.Lookup.{after, seek, sameVariable, sameApplication, sameBinder}
-use Rattle.expansion.specs.Visit.{Placed, placed, placeVariable, placeApplication, placeBinder, newVariable}
+use Rattle.expansion.specs.Visit.{PlacedTerm, placed, placeVariable, placeApplication, placeBinder, newVariable}
 use Rattle.expansion.proofs.AppendedChecked.{Checked, list-checked, list-start, term-checked}
 
 -- ---- lists
@@ -92,7 +92,7 @@ seek-none p (r ∷ rs) e i h = go (p r) refl e i h (λ z. seek-none p rs z)
 
 -- ---- the law
 
-pub record PlacedAs (τ : Term) (p : Placed) : Type 0 where
+pub record PlacedAs (τ : Term) (p : PlacedTerm) : Type 0 where
   pub checked : Checked (p .bundle)
   pub is-term : Number (length (p .bundle .terms)) (p .term)
   pub stands : tree (p .bundle) (p .term) ≡ τ

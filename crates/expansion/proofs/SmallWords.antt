@@ -31,10 +31,10 @@ use Rattle.logic.proofs.Tables.{table-all}
 use Rattle.logic.proofs.Longer.{longer-refl, longer-trans, sizes, list-longer, terms-longer, contexts-longer, steps-longer, consecutive-length}
 use Rattle.expansion.specs.Nodes.{Node, Nodes, leaf, node, scope, block, nil, cons, Numbered, numbered, gatherNodes, noNode, nodeAs, nodeBy, nodeAt}
 use Rattle.logic.specs.Lookup.{after, seek, sameVariable, sameApplication, sameBinder}
-use Rattle.expansion.specs.Visit.{Placed, placed, placeApplication, placeBinder, Visit, Visits, concluded, Opened, replacing, fixing, imageTerm, newVariable, fresh, renaming, openBinder, visit, visitAll, visited, expanded}
+use Rattle.expansion.specs.Visit.{PlacedTerm, placed, placeApplication, placeBinder, Visit, Visits, concluded, OpenedContext, replacing, fixing, imageTerm, newVariable, fresh, renaming, openBinder, visit, visitAll, visited, expanded}
 use Rattle.expansion.specs.File.{countsIn, symbolWords, variableWords, termWords, linkWords, contextWords, stepWords}
 use Rattle.expansion.specs.Demands.{Bytes}
-use Rattle.expansion.proofs.SmallNumbers.{Word, Small, all-append, all-snoc, all-getD, all-at, all-tab}
+use Rattle.expansion.proofs.SmallNumbers.{Word, SmallBundle, all-append, all-snoc, all-getD, all-at, all-tab}
 use Rattle.expansion.proofs.Grown.{placed-longer, concluded-longer, replacing-longer, fixing-longer, visit-longer, visitAll-longer}
 
 -- ---- a bundle that is read out of bytes
@@ -45,7 +45,7 @@ word-small f h k =
     let byte : (i : ℕ) → getD f i 0 < 256 = all-getD (λ x. x < 256) f 0 h (omega arith) in
     omega (arith, byte (4 * k), byte (4 * k + 1), byte (4 * k + 2), byte (4 * k + 3))
 
-pub file-small : (f : List ℕ) → Bytes f → Small (bundleOf f)
+pub file-small : (f : List ℕ) → Bytes f → SmallBundle (bundleOf f)
 unfolding bundleOf
 file-small f h =
     let c : Counts = countsOf f in
@@ -69,8 +69,8 @@ file-small f h =
 
 -- ---- records appended to one section
 
-module _ {b : Bundle} (small : Small b) where
-  pub small-variables : (s : ℕ) → Word s → Small (withVariables b (s ∷ []))
+module _ {b : Bundle} (small : SmallBundle b) where
+  pub small-variables : (s : ℕ) → Word s → SmallBundle (withVariables b (s ∷ []))
   small-variables s h = record {
     symbols = small .symbols;
     variables = all-snoc (λ s. All Word (variableWords s)) (b .variables) s (small .variables) (h, tt);
@@ -82,7 +82,7 @@ module _ {b : Bundle} (small : Small b) where
     right = small .right;
   }
 
-  pub small-terms : (r : TermRecord) → All Word (termWords r) → Small (withTerms b (r ∷ []))
+  pub small-terms : (r : TermRecord) → All Word (termWords r) → SmallBundle (withTerms b (r ∷ []))
   small-terms r h = record {
     symbols = small .symbols;
     variables = small .variables;
@@ -94,7 +94,7 @@ module _ {b : Bundle} (small : Small b) where
     right = small .right;
   }
 
-  pub small-links : (rs : List Link) → All (λ r. All Word (linkWords r)) rs → Small (withLinks b rs)
+  pub small-links : (rs : List Link) → All (λ r. All Word (linkWords r)) rs → SmallBundle (withLinks b rs)
   small-links rs h = record {
     symbols = small .symbols;
     variables = small .variables;
@@ -106,7 +106,7 @@ module _ {b : Bundle} (small : Small b) where
     right = small .right;
   }
 
-  pub small-contexts : (r : Context) → All Word (contextWords r) → Small (withContexts b (r ∷ []))
+  pub small-contexts : (r : Context) → All Word (contextWords r) → SmallBundle (withContexts b (r ∷ []))
   small-contexts r h = record {
     symbols = small .symbols;
     variables = small .variables;
@@ -118,7 +118,7 @@ module _ {b : Bundle} (small : Small b) where
     right = small .right;
   }
 
-  pub small-steps : (r : Step) → All Word (stepWords r) → Small (withSteps b (r ∷ []))
+  pub small-steps : (r : Step) → All Word (stepWords r) → SmallBundle (withSteps b (r ∷ []))
   small-steps r h = record {
     symbols = small .symbols;
     variables = small .variables;
@@ -142,7 +142,7 @@ lists-small n (l ∷ ls) h = go (ltb n (l .next)) (lists-small (suc n) ls (h .1)
     go true k = ((h .0 .0, all-getD (λ l. All Word l) (lists (suc n) ls) [] k tt (l .next - suc n)), k)
     go false k = ((h .0 .0, tt), k)
 
-module _ {b : Bundle} (small : Small b) where
+module _ {b : Bundle} (small : SmallBundle b) where
   pub items-small : (s : ℕ) → All Word (items b s)
   unfolding items chain
   items-small s = all-at (λ l. All Word l) (lists 1 (b .links)) [] (lists-small 1 (b .links) (small .links)) tt s
@@ -232,7 +232,7 @@ node-as b (binder q) f r h w = (w .0, w .1 .1 .0, h (r .term .b))
 node-as b letting f r h w = (w .0, w .1 .1 .0, gather-small f h (items b (r .term .b)), h (r .term .c))
 node-as b other f r h w = (omega arith, omega arith, tt)
 
-pub node-small : (b : Bundle) → Small b → Within (countsIn b) → (t : ℕ) → SmallNode (nodeAt b t)
+pub node-small : (b : Bundle) → SmallBundle b → Within (countsIn b) → (t : ℕ) → SmallNode (nodeAt b t)
 unfolding nodeAt nodeBy
 node-small b small fit t =
     table-all (nodeBy b) noNode SmallNode (omega arith, omega arith, tt) none (numbered 1 (b .terms))
@@ -272,21 +272,21 @@ seek-le p (r ∷ rs) = go (p r) (seek p rs) (seek-le p rs)
     go false (suc m) l = omega arith
 
 -- what they leave
-pub record SmallPlaced (p : Placed) : Type 0 where
-  pub bundle : Small (p .bundle)
+pub record SmallPlaced (p : PlacedTerm) : Type 0 where
+  pub bundle : SmallBundle (p .bundle)
   pub term : Word (p .term)
 
-pub record SmallOpened (o : Opened) : Type 0 where
-  pub bundle : Small (o .bundle)
+pub record SmallOpened (o : OpenedContext) : Type 0 where
+  pub bundle : SmallBundle (o .bundle)
   pub context : Word (o .context)
 
 pub record SmallVisit (v : Visit) : Type 0 where
-  pub bundle : Small (v .bundle)
+  pub bundle : SmallBundle (v .bundle)
   pub result : Word (v .result)
   pub step : Word (v .step)
 
 pub record SmallVisits (v : Visits) : Type 0 where
-  pub bundle : Small (v .bundle)
+  pub bundle : SmallBundle (v .bundle)
   pub results : All Word (v .results)
   pub steps : All Word (v .steps)
 
@@ -297,7 +297,7 @@ binder-word exists = omega arith
 -- what follows the new variable
 renaming-longer : (b : Bundle) (x y t c : ℕ) → Longer b (renaming b x y t c .bundle)
 renaming-longer b x y t c =
-    let f : Opened = fixing b y c in
+    let f : OpenedContext = fixing b y c in
     longer-trans (fixing-longer b y c)
     (longer-trans (list-longer (f .bundle) (x ∷ []))
     (replacing-longer (addList (f .bundle) (x ∷ [])) (listStart (f .bundle) (x ∷ [])) _ (t ∷ [])))
@@ -312,11 +312,11 @@ module _ {end : Bundle} (fit : Within (countsIn end)) where
   start-small : (b : Bundle) (vs : List ℕ) → Longer (addList b vs) end → Word (listStart b vs)
   start-small b vs e = start-word (suc (length (b .links))) vs (list-room b vs e)
 
-  pub list-small : (b : Bundle) (vs : List ℕ) → Small b → All Word vs → Longer (addList b vs) end → Small (addList b vs)
+  pub list-small : (b : Bundle) (vs : List ℕ) → SmallBundle b → All Word vs → Longer (addList b vs) end → SmallBundle (addList b vs)
   list-small b vs small h e =
       small-links small (consecutive (suc (length (b .links))) vs) (consecutive-small (suc (length (b .links))) vs h (list-room b vs e))
 
-  pub placed-small : (b : Bundle) (vs : List ℕ) (r : ℕ → TermRecord) (n : ℕ) → Small b → All Word vs
+  pub placed-small : (b : Bundle) (vs : List ℕ) (r : ℕ → TermRecord) (n : ℕ) → SmallBundle b → All Word vs
       → ((s : ℕ) → Word s → All Word (termWords (r s))) → n ≤ length (b .terms) → Longer (placed b vs r n .bundle) end → SmallPlaced (placed b vs r n)
   placed-small b vs r zero small h made l e =
       let e₁ : Longer (addList b vs) end = longer-trans (terms-longer (addList b vs) (r (listStart b vs) ∷ [])) e in
@@ -326,7 +326,7 @@ module _ {end : Bundle} (fit : Within (countsIn end)) where
       }
   placed-small b vs r (suc n) small h made l e = record { bundle = small; term = omega (arith, fit .terms, sizes e .terms) }
 
-  pub concluded-small : (b : Bundle) (k c l r : ℕ) (ps : List ℕ) → Small b → Word k → Word c → Word l → Word r → All Word ps
+  pub concluded-small : (b : Bundle) (k c l r : ℕ) (ps : List ℕ) → SmallBundle b → Word k → Word c → Word l → Word r → All Word ps
       → Longer (concluded b k c l r ps .bundle) end → SmallVisit (concluded b k c l r ps)
   concluded-small b k c l r ps small hk hc hl hr hp e =
       let s : Step = record { rule = k; context = c; left = l; right = r; premises = listStart b ps } in
@@ -337,7 +337,7 @@ module _ {end : Bundle} (fit : Within (countsIn end)) where
         step = omega (arith, fit .steps, sizes e .steps, length-append (b .steps) (s ∷ []));
       }
 
-  pub replacing-small : (b : Bundle) (s c : ℕ) (ts : List ℕ) → Small b → Word s → Word c → All Word ts
+  pub replacing-small : (b : Bundle) (s c : ℕ) (ts : List ℕ) → SmallBundle b → Word s → Word c → All Word ts
       → Longer (replacing b s c ts .bundle) end → SmallOpened (replacing b s c ts)
   replacing-small b s c ts small hs hc ht e =
       let r : Context = record { kind = 2; a = s; b = listStart b ts; parent = c } in
@@ -347,7 +347,7 @@ module _ {end : Bundle} (fit : Within (countsIn end)) where
         context = omega (arith, fit .contexts, sizes e .contexts, length-append (b .contexts) (r ∷ []));
       }
 
-  pub fixing-small : (b : Bundle) (y c : ℕ) → Small b → Word y → Word c → Longer (fixing b y c .bundle) end → SmallOpened (fixing b y c)
+  pub fixing-small : (b : Bundle) (y c : ℕ) → SmallBundle b → Word y → Word c → Longer (fixing b y c .bundle) end → SmallOpened (fixing b y c)
   fixing-small b y c small hy hc e =
       let r : Context = record { kind = 1; a = y; b = 0; parent = c } in
       record {
@@ -362,7 +362,7 @@ module _ {end : Bundle} (fit : Within (countsIn end)) where
       longer-trans (placed-longer v [] (λ s. record { kind = 1; a = newVariable b; b = 0; c = 0 }) (seek (sameVariable (newVariable b)) (v .terms))) e in
       omega (arith, fit .variables, sizes e₁ .variables, length-append (b .variables) (sortOfVariable b x ∷ []))
 
-  pub fresh-small : (b : Bundle) (x : ℕ) → Small b → Longer (fresh b x .bundle) end → SmallPlaced (fresh b x)
+  pub fresh-small : (b : Bundle) (x : ℕ) → SmallBundle b → Longer (fresh b x .bundle) end → SmallPlaced (fresh b x)
   fresh-small b x small e =
       let s : ℕ = sortOfVariable b x in
       let y : Word (newVariable b) = new-small b x e in
@@ -371,10 +371,10 @@ module _ {end : Bundle} (fit : Within (countsIn end)) where
       (seek (sameVariable (newVariable b)) (b .terms)) (small-variables small s (sort .0)) tt
       (λ s w. (omega arith, (y, (omega arith, (omega arith, tt))))) (seek-le (sameVariable (newVariable b)) (b .terms)) e
 
-  pub open-small : (b : Bundle) (x c : ℕ) → Small b → Word x → Word c → Longer (openBinder b x c .bundle) end → SmallOpened (openBinder b x c)
+  pub open-small : (b : Bundle) (x c : ℕ) → SmallBundle b → Word x → Word c → Longer (openBinder b x c .bundle) end → SmallOpened (openBinder b x c)
   open-small b x c small hx hc e =
-      let p : Placed = fresh b x in
-      let f : Opened = fixing (p .bundle) (newVariable b) c in
+      let p : PlacedTerm = fresh b x in
+      let f : OpenedContext = fixing (p .bundle) (newVariable b) c in
       let e₃ : Longer (addList (f .bundle) (x ∷ [])) end =
       longer-trans (replacing-longer (addList (f .bundle) (x ∷ [])) (listStart (f .bundle) (x ∷ [])) (f .context) (p .term ∷ [])) e in
       let e₂ : Longer (f .bundle) end = longer-trans (list-longer (f .bundle) (x ∷ [])) e₃ in
@@ -389,12 +389,12 @@ module _ {end : Bundle} (fit : Within (countsIn end)) where
   mutual
     unfolding visit
 
-    pub visit-small : (τ : Node) (c : ℕ) (b : Bundle) → SmallNode τ → Word c → Small b → Longer (visit τ c b .bundle) end → SmallVisit (visit τ c b)
+    pub visit-small : (τ : Node) (c : ℕ) (b : Bundle) → SmallNode τ → Word c → SmallBundle b → Longer (visit τ c b .bundle) end → SmallVisit (visit τ c b)
     visit-small (leaf t x) c b h hc small e =
         concluded-small b 1 c t (imageTerm (image b c x) t) [] small (omega arith) hc h (image-small small c x t h) tt e
     visit-small (node t f ns) c b h hc small e =
         let v : Visits = visitAll ns c b in
-        let p : Placed = placeApplication (v .bundle) f (v .results) in
+        let p : PlacedTerm = placeApplication (v .bundle) f (v .results) in
         let n : ℕ = seek (sameApplication (v .bundle) f (v .results)) (v .bundle .terms) in
         let made : ℕ → TermRecord = λ s. record { kind = 2; a = f; b = s; c = 0 } in
         let e₂ : Longer (p .bundle) end = longer-trans (concluded-longer (p .bundle) 2 c t (p .term) (v .steps)) e in
@@ -406,9 +406,9 @@ module _ {end : Bundle} (fit : Within (countsIn end)) where
         concluded-small (p .bundle) 2 c t (p .term) (v .steps) (sp .bundle) (omega arith) hc (h .0) (sp .term) (sv .steps) e
     visit-small (scope t q x u) c b h hc small e =
         let y : ℕ = newVariable b in
-        let o : Opened = openBinder b x c in
+        let o : OpenedContext = openBinder b x c in
         let v : Visit = visit u (o .context) (o .bundle) in
-        let p : Placed = placeBinder (v .bundle) q y (v .result) in
+        let p : PlacedTerm = placeBinder (v .bundle) q y (v .result) in
         let n : ℕ = seek (sameBinder q y (v .result)) (v .bundle .terms) in
         let made : ℕ → TermRecord = λ s. record { kind = numberOf (binder q); a = y; b = v .result; c = 0 } in
         let e₃ : Longer (p .bundle) end = longer-trans (concluded-longer (p .bundle) 4 c t (p .term) (v .step ∷ [])) e in
@@ -423,7 +423,7 @@ module _ {end : Bundle} (fit : Within (countsIn end)) where
         concluded-small (p .bundle) 4 c t (p .term) (v .step ∷ []) (sp .bundle) (omega arith) hc (h .0) (sp .term) (sv .step, tt) e
     visit-small (block t s vs ns u) c b h hc small e =
         let v : Visits = visitAll ns c b in
-        let o : Opened = replacing (v .bundle) s c (v .results) in
+        let o : OpenedContext = replacing (v .bundle) s c (v .results) in
         let w : Visit = visit u (o .context) (o .bundle) in
         let e₃ : Longer (w .bundle) end = longer-trans (concluded-longer (w .bundle) 5 c t (w .result) (v .steps ++ (w .step ∷ []))) e in
         let e₂ : Longer (o .bundle) end = longer-trans (visit-longer u (o .context) (o .bundle)) e₃ in
@@ -434,7 +434,7 @@ module _ {end : Bundle} (fit : Within (countsIn end)) where
         concluded-small (w .bundle) 5 c t (w .result) (v .steps ++ (w .step ∷ [])) (sw .bundle) (omega arith) hc (h .0) (sw .result)
         (all-snoc Word (v .steps) (w .step) (sv .steps) (sw .step)) e
 
-    pub visitAll-small : (ns : Nodes) (c : ℕ) (b : Bundle) → SmallNodes ns → Word c → Small b → Longer (visitAll ns c b .bundle) end
+    pub visitAll-small : (ns : Nodes) (c : ℕ) (b : Bundle) → SmallNodes ns → Word c → SmallBundle b → Longer (visitAll ns c b .bundle) end
         → SmallVisits (visitAll ns c b)
     visitAll-small nil c b h hc small e = record { bundle = small; results = tt; steps = tt }
     visitAll-small (cons τ ns) c b h hc small e =
@@ -444,7 +444,7 @@ module _ {end : Bundle} (fit : Within (countsIn end)) where
         record { bundle = ss .bundle; results = (sv .result, ss .results); steps = (sv .step, ss .steps) }
 
 -- THE LAW
-pub expanded-small : (b : Bundle) → Small b → Within (countsIn (visited b .bundle)) → Small (expanded b)
+pub expanded-small : (b : Bundle) → SmallBundle b → Within (countsIn (visited b .bundle)) → SmallBundle (expanded b)
 unfolding visited expanded
 expanded-small b small fit =
     let e : Longer b (visited b .bundle) = visit-longer (nodeAt b (b .left)) 0 b in

@@ -37,7 +37,7 @@ use Rattle.logic.proofs.Images.{image-fixes, image-replaces}
 use Rattle.logic.proofs.Longer.{longer-refl, longer-trans, sizes, list-added, contexts-longer, context-added}
 use Rattle.logic.proofs.Kept.{variable-kept, items-kept, tree-kept, sort-tree-kept, image-kept}
 use Rattle.logic.proofs.FormedKept.{lists-formed-kept, settled-in-kept}
-use Rattle.expansion.specs.Visit.{Opened, replacing, fixing, newVariable}
+use Rattle.expansion.specs.Visit.{OpenedContext, replacing, fixing, newVariable}
 use Rattle.expansion.proofs.Grown.{replacing-longer, fixing-longer}
 use Rattle.expansion.proofs.AppendedChecked.{Checked, list-checked, list-start, context-checked}
 use Rattle.expansion.proofs.Placement.{all-map}
@@ -191,7 +191,7 @@ module _ (b : Bundle) {B : Bundle} where
         parent = ap (λ (k : Context). k .parent) is;
       }
 
-pub record Opens (V₀ : ℕ) (N : ℕ → Type 0) (o : Opened) (f : ℕ → Image) : Type 0 where
+pub record Opens (V₀ : ℕ) (N : ℕ → Type 0) (o : OpenedContext) (f : ℕ → Image) : Type 0 where
   pub checked : Checked (o .bundle)
   pub substitutes : Substitutes V₀ N (o .bundle) (o .context)
   pub images : (x : ℕ) → image (o .bundle) (o .context) x ≡ f x

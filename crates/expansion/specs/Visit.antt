@@ -18,23 +18,23 @@ use Rattle.expansion.specs.Nodes.{Node, Nodes, leaf, node, scope, block,
 -- ---- Results are looked up before they are appended.
 
 -- a bundle, and a term of it
-pub record Placed : Type 0 where
+pub record PlacedTerm : Type 0 where
   pub bundle : Bundle
   pub term : ℕ
 
 -- The term that the lookup found, n; or, where it found none, a new one: its list of arguments just before it, then its record, made of the
 -- list's first link.
-abbrev pub placed : Bundle → List ℕ → (ℕ → TermRecord) → ℕ → Placed
+abbrev pub placed : Bundle → List ℕ → (ℕ → TermRecord) → ℕ → PlacedTerm
 placed b vs r zero = record { bundle = withTerms (addList b vs) (r (listStart b vs) ∷ []); term = suc (length (b .terms)) }
 placed b vs r (suc n) = record { bundle = b; term = suc n }
 
-abbrev pub placeVariable : Bundle → ℕ → Placed
+abbrev pub placeVariable : Bundle → ℕ → PlacedTerm
 placeVariable b y = placed b [] (λ s. record { kind = 1; a = y; b = 0; c = 0 }) (seek (sameVariable y) (b .terms))
 
-abbrev pub placeApplication : Bundle → ℕ → List ℕ → Placed
+abbrev pub placeApplication : Bundle → ℕ → List ℕ → PlacedTerm
 placeApplication b f ts = placed b ts (λ s. record { kind = 2; a = f; b = s; c = 0 }) (seek (sameApplication b f ts) (b .terms))
 
-abbrev pub placeBinder : Bundle → Binder → ℕ → ℕ → Placed
+abbrev pub placeBinder : Bundle → Binder → ℕ → ℕ → PlacedTerm
 placeBinder b q y t = placed b [] (λ s. record { kind = numberOf (binder q); a = y; b = t; c = 0 }) (seek (sameBinder q y t) (b .terms))
 
 -- ---- What a visit leaves: the bundle, the result's term, and the step that carries the visited term to it.
@@ -58,18 +58,18 @@ concluded b k c l r ps = record {
 }
 
 -- a bundle, and a context of it
-pub record Opened : Type 0 where
+pub record OpenedContext : Type 0 where
   pub bundle : Bundle
   pub context : ℕ
 
 -- a context that replaces the variables of the list vs by the terms ts, a new list just before it
-abbrev pub replacing : Bundle → (vs parent : ℕ) → List ℕ → Opened
+abbrev pub replacing : Bundle → (vs parent : ℕ) → List ℕ → OpenedContext
 replacing b vs c ts = record {
   bundle = withContexts (addList b ts) (record { kind = 2; a = vs; b = listStart b ts; parent = c } ∷ []);
   context = suc (length (b .contexts));
 }
 
-abbrev pub fixing : Bundle → (y parent : ℕ) → Opened
+abbrev pub fixing : Bundle → (y parent : ℕ) → OpenedContext
 fixing b y c = record { bundle = withContexts b (record { kind = 1; a = y; b = 0; parent = c } ∷ []); context = suc (length (b .contexts)) }
 
 -- ---- Variable: REFL, result its image.
@@ -82,7 +82,7 @@ imageTerm (Gives r) t = r
 
 abbrev pub closeApplication : (c t f : ℕ) → Visits → Visit
 closeApplication c t f v =
-    let p : Placed = placeApplication (v .bundle) f (v .results) in
+    let p : PlacedTerm = placeApplication (v .bundle) f (v .results) in
     concluded (p .bundle) 2 c t (p .term) (v .steps)
 
 -- ---- Quantifier: new variable of the same sort, its term, fixing context, replacing context, body, result, BIND.
@@ -92,21 +92,21 @@ abbrev pub newVariable : Bundle → ℕ
 newVariable b = suc (length (b .variables))
 
 -- the new variable, and its term
-abbrev pub fresh : Bundle → ℕ → Placed
+abbrev pub fresh : Bundle → ℕ → PlacedTerm
 fresh b x = placeVariable (withVariables b (sortOfVariable b x ∷ [])) (newVariable b)
 
 -- y fixed, then x replaced by the term t, which is y
-abbrev pub renaming : Bundle → (x y t parent : ℕ) → Opened
+abbrev pub renaming : Bundle → (x y t parent : ℕ) → OpenedContext
 renaming b x y t c =
-    let f : Opened = fixing b y c in
+    let f : OpenedContext = fixing b y c in
     replacing (addList (f .bundle) (x ∷ [])) (listStart (f .bundle) (x ∷ [])) (f .context) (t ∷ [])
 
-abbrev pub openBinder : Bundle → (x c : ℕ) → Opened
+abbrev pub openBinder : Bundle → (x c : ℕ) → OpenedContext
 openBinder b x c = renaming (fresh b x .bundle) x (newVariable b) (fresh b x .term) c
 
 abbrev pub closeBinder : (c t : ℕ) → Binder → (y : ℕ) → Visit → Visit
 closeBinder c t q y v =
-    let p : Placed = placeBinder (v .bundle) q y (v .result) in
+    let p : PlacedTerm = placeBinder (v .bundle) q y (v .result) in
     concluded (p .bundle) 4 c t (p .term) (v .step ∷ [])
 
 -- ---- THE VISITS, in context c. Let: bound terms in order, replacing context on the let's own variable list, body, LET.
@@ -121,7 +121,7 @@ unfoldable mutual
       closeBinder c t q (newVariable b) (visit u (openBinder b x c .context) (openBinder b x c .bundle))
   visit (block t s vs ns u) c b =
       let v : Visits = visitAll ns c b in
-      let o : Opened = replacing (v .bundle) s c (v .results) in
+      let o : OpenedContext = replacing (v .bundle) s c (v .results) in
       let w : Visit = visit u (o .context) (o .bundle) in
       concluded (w .bundle) 5 c t (w .result) (v .steps ++ (w .step ∷ []))
 

@@ -26,7 +26,7 @@ use Rattle.logic.specs.Longer.{Longer, addList, listStart}
 use Rattle.logic.proofs.Tests.{and-left, and-right, same-list}
 use Rattle.logic.proofs.Longer.{longer-refl, longer-trans, list-added}
 use Rattle.logic.proofs.Kept.{term-kept, arguments-kept}
-use Rattle.filing.specs.Filing.{mix, mixAll, rootDigest, digestOf, Digested, Reach, here, later, Filed, Indexed}
+use Rattle.filing.specs.Filing.{mix, mixAll, rootDigest, lookupDigest, Digested, Reach, here, later, FiledTo, Indexed}
 use Rattle.filing.proofs.Seeks.{seekFrom, seek-start, seek-here, seek-on, seek-end}
 
 pub mix-small : (d x : ℕ) → mix d x < 1024
@@ -38,8 +38,8 @@ unfolding mixAll
 all-small e [] l = l
 all-small e (x ∷ xs) l = all-small (mix e x) xs (mix-small e x)
 
-digest-small : (b : Bundle) (r : TermRecord) → digestOf b r < 1024
-unfolding digestOf
+digest-small : (b : Bundle) (r : TermRecord) → lookupDigest b r < 1024
+unfolding lookupDigest
 digest-small b r = all-small (rootDigest (r .kind) (r .a)) (cond (eqb (r .kind) 2) (items b (r .b)) []) (mix-small (mix 0 (r .kind)) (r .a))
 
 -- ---- what is looked up, and its digest
@@ -48,19 +48,19 @@ both : (p q : Bool) → (p && q) ≡ true → (p ≡ true) × (q ≡ true)
 both p q e = (and-left p q e, and-right p q e)
 
 -- a record whose kind is not 2
-plain : (b : Bundle) (r : TermRecord) → (r .kind ≡ 2 → ⊥) → digestOf b r ≡ rootDigest (r .kind) (r .a)
-unfolding digestOf mixAll
+plain : (b : Bundle) (r : TermRecord) → (r .kind ≡ 2 → ⊥) → lookupDigest b r ≡ rootDigest (r .kind) (r .a)
+unfolding lookupDigest mixAll
 plain b r h = rw (ne-eqb (r .kind) 2 h)
 
-pub variable-digest : (b : Bundle) (y : ℕ) (r : TermRecord) → sameVariable y r ≡ true → digestOf b r ≡ rootDigest 1 y
+pub variable-digest : (b : Bundle) (y : ℕ) (r : TermRecord) → sameVariable y r ≡ true → lookupDigest b r ≡ rootDigest 1 y
 unfolding sameVariable
 variable-digest b y r e =
     let p = both (eqb (r .kind) 1) (eqb (r .a) y) e in
     let k : r .kind ≡ 1 = eqb-true _ _ (p .0) in
     plain b r (λ z. omega arith) ∙ ap₂ rootDigest k (eqb-true _ _ (p .1))
 
-pub application-digest : (b : Bundle) (f : ℕ) (ts : List ℕ) (r : TermRecord) → sameApplication b f ts r ≡ true → digestOf b r ≡ mixAll (rootDigest 2 f) ts
-unfolding sameApplication digestOf
+pub application-digest : (b : Bundle) (f : ℕ) (ts : List ℕ) (r : TermRecord) → sameApplication b f ts r ≡ true → lookupDigest b r ≡ mixAll (rootDigest 2 f) ts
+unfolding sameApplication lookupDigest
 application-digest b f ts r e =
     let p = both (eqb (r .kind) 2) (eqb (r .a) f && sameList (items b (r .b)) ts) e in
     let q = both (eqb (r .a) f) (sameList (items b (r .b)) ts) (p .1) in
@@ -70,7 +70,7 @@ binder-kind : (q : Binder) → numberOf (binder q) ≡ 2 → ⊥
 binder-kind forAll e = omega arith
 binder-kind exists e = omega arith
 
-pub binder-digest : (b : Bundle) (q : Binder) (y t : ℕ) (r : TermRecord) → sameBinder q y t r ≡ true → digestOf b r ≡ rootDigest (numberOf (binder q)) y
+pub binder-digest : (b : Bundle) (q : Binder) (y t : ℕ) (r : TermRecord) → sameBinder q y t r ≡ true → lookupDigest b r ≡ rootDigest (numberOf (binder q)) y
 unfolding sameBinder
 binder-digest b q y t r e =
     let p = both (eqb (r .kind) (numberOf (binder q))) (eqb (r .a) y && eqb (r .b) t) e in
@@ -83,17 +83,17 @@ pub plain-digested : (b : Bundle) (r : TermRecord) → (r .kind ≡ 2 → ⊥) �
 plain-digested b r h B more = plain B r h
 
 pub application-digested : (b : Bundle) (f : ℕ) (vs : List ℕ) → Digested (addList b vs) (record { kind = 2; a = f; b = listStart b vs; c = 0 }) (mixAll (rootDigest 2 f) vs)
-unfolding digestOf
+unfolding lookupDigest
 application-digested b f vs B more = ap (mixAll (rootDigest 2 f)) (list-added b vs more)
 
 module _ {b : Bundle} (formed : TablesFormed b) (B : Bundle) (more : Longer b B) where
-  digest-kept : (t : ℕ) (p : Bool) → eqb (termOf b t .kind) 2 ≡ p → digestOf B (termOf b t) ≡ digestOf b (termOf b t)
-  unfolding digestOf
+  digest-kept : (t : ℕ) (p : Bool) → eqb (termOf b t .kind) 2 ≡ p → lookupDigest B (termOf b t) ≡ lookupDigest b (termOf b t)
+  unfolding lookupDigest
   digest-kept t true e = rw (e, arguments-kept more formed t (eqb-true _ _ e))
   digest-kept t false e = rw e
 
-  pub formed-digested : (t : ℕ) → t ≤ length (b .terms) → digestOf B (termOf B t) ≡ digestOf b (termOf b t)
-  formed-digested t l = ap (digestOf B) (term-kept more t l) ∙ digest-kept t (eqb (termOf b t .kind) 2) refl
+  pub formed-digested : (t : ℕ) → t ≤ length (b .terms) → lookupDigest B (termOf B t) ≡ lookupDigest b (termOf b t)
+  formed-digested t l = ap (lookupDigest B) (term-kept more t l) ∙ digest-kept t (eqb (termOf b t .kind) 2) refl
 
 -- ---- chains
 
@@ -115,7 +115,7 @@ reach-kept ix ix′ n falls same {h} {j} l (later ne r) =
 
 -- ---- filing
 
-pub filed-none : (b : Bundle) → Filed b (replicate 2049 0) 0
+pub filed-none : (b : Bundle) → FiledTo b (replicate 2049 0) 0
 filed-none b = record {
   long = length-replicate {A = ℕ} 2049 0;
   low = λ d l. omega (arith, zero-at 2049 d);
@@ -128,7 +128,7 @@ filed-none b = record {
     zero-at (suc n) zero = refl
     zero-at (suc n) (suc d) = zero-at n d
 
-module _ (b : Bundle) (ix : List ℕ) (n d : ℕ) (filed : Filed b ix n) (t : ℕ) (next : t ≡ suc n) (own : (B : Bundle) → Longer b B → digestOf B (termOf B t) ≡ d)
+module _ (b : Bundle) (ix : List ℕ) (n d : ℕ) (filed : FiledTo b ix n) (t : ℕ) (next : t ≡ suc n) (own : (B : Bundle) → Longer b B → lookupDigest B (termOf B t) ≡ d)
     (small : d < 1024) (room : t ≤ 1024) where
   abbrev mid : List ℕ
   mid = set ix (1024 + t) (getD ix d 0)
@@ -154,7 +154,7 @@ module _ (b : Bundle) (ix : List ℕ) (n d : ℕ) (filed : Filed b ix n) (t : �
   chain-other j q =
       getD-set-other mid d (1024 + j) t 0 (λ z. omega arith) ∙ getD-set-other ix (1024 + t) (1024 + j) (getD ix d 0) 0 (λ z. q (omega arith))
 
-  pub filed-on : Filed b (set (set ix (1024 + t) (getD ix d 0)) d t) t
+  pub filed-on : FiledTo b (set (set ix (1024 + t) (getD ix d 0)) d t) t
   filed-on = record {
     long = length-set mid d t ∙ mid-long;
     low = λ e l. low e l (ℕ-discrete e d);
@@ -171,9 +171,9 @@ module _ (b : Bundle) (ix : List ℕ) (n d : ℕ) (filed : Filed b ix n) (t : �
       falls j one (no q) = rw (chain-other j q) (filed .falls j one)
 
       -- an older term is on the chain that starts at the head that its digest had
-      older : (B : Bundle) → Longer b B → (j : ℕ) → 1 ≤ j → j ≤ n → Reach new (getD ix (digestOf B (termOf B j)) 0) j
+      older : (B : Bundle) → Longer b B → (j : ℕ) → 1 ≤ j → j ≤ n → Reach new (getD ix (lookupDigest B (termOf B j)) 0) j
       older B more j one l =
-          reach-kept ix new n (filed .falls) (λ i k. chain-other i (λ z. omega arith)) (filed .low (digestOf B (termOf B j)) (digest-small B (termOf B j))) (filed .reached B more j one l)
+          reach-kept ix new n (filed .falls) (λ i k. chain-other i (λ z. omega arith)) (filed .low (lookupDigest B (termOf B j)) (digest-small B (termOf B j))) (filed .reached B more j one l)
 
       under : (j e : ℕ) → e < 1024 → Dec (e ≡ d) → Reach new (getD ix e 0) j → Reach new (getD new e 0) j
       under j e l (yes q) r =
@@ -181,16 +181,16 @@ module _ (b : Bundle) (ix : List ℕ) (n d : ℕ) (filed : Filed b ix n) (t : �
           rw (q, head-new) (later {h = t} {j = j} some (rw chain-new (rw q at r)))
       under j e l (no q) r = rw (head-other e l q) r
 
-      reached : (B : Bundle) → Longer b B → (j : ℕ) → 1 ≤ j → j ≤ t → Dec (j ≡ t) → Reach new (getD new (digestOf B (termOf B j)) 0) j
+      reached : (B : Bundle) → Longer b B → (j : ℕ) → 1 ≤ j → j ≤ t → Dec (j ≡ t) → Reach new (getD new (lookupDigest B (termOf B j)) 0) j
       reached B more j one l (yes q) = rw (q, own B more, head-new) (here refl)
       reached B more j one l (no q) =
-          under j (digestOf B (termOf B j)) (digest-small B (termOf B j)) (ℕ-discrete (digestOf B (termOf B j)) d) (older B more j one (omega arith))
+          under j (lookupDigest B (termOf B j)) (digest-small B (termOf B j)) (ℕ-discrete (lookupDigest B (termOf B j)) d) (older B more j one (omega arith))
 
-pub filed-longer : {b b′ : Bundle} {ix : List ℕ} {n : ℕ} → Longer b b′ → Filed b ix n → Filed b′ ix n
+pub filed-longer : {b b′ : Bundle} {ix : List ℕ} {n : ℕ} → Longer b b′ → FiledTo b ix n → FiledTo b′ ix n
 filed-longer more filed = record { long = filed .long; low = filed .low; falls = filed .falls; reached = λ B on. filed .reached B (longer-trans more on) }
 
 pub indexed-on : {b b′ : Bundle} {ix : List ℕ} → Longer b b′ → length (b′ .terms) ≡ length (b .terms) → Indexed b ix → Indexed b′ ix
-indexed-on {b} {b′} {ix} more e filed = subst (Filed b′ ix) (sym e) (filed-longer more filed)
+indexed-on {b} {b′} {ix} more e filed = subst (FiledTo b′ ix) (sym e) (filed-longer more filed)
 
 -- ---- the walk
 
@@ -201,7 +201,7 @@ pub record Sought (b : Bundle) (ix : List ℕ) (p : TermRecord → Bool) (h m : 
   pub others : (j : ℕ) → 1 ≤ j → j ≤ length (b .terms) → p (termOf b j) ≡ true → Reach ix h j ⊎ ((1 ≤ m) × (m ≤ j))
 
 module _ (b : Bundle) (ix : List ℕ) (p : TermRecord → Bool) (indexed : Indexed b ix) where
-  pub sought-start : (d h : ℕ) → d < 1024 → ((r : TermRecord) → p r ≡ true → digestOf b r ≡ d) → h ≡ getD ix d 0 → Sought b ix p h 0
+  pub sought-start : (d h : ℕ) → d < 1024 → ((r : TermRecord) → p r ≡ true → lookupDigest b r ≡ d) → h ≡ getD ix d 0 → Sought b ix p h 0
   sought-start d h small own e = record {
     stands = omega (arith, indexed .low d small);
     found = inl refl;

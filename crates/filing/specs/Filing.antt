@@ -33,12 +33,12 @@ abbrev pub rootDigest : ℕ → ℕ → ℕ
 rootDigest kind first = mix (mix 0 kind) first
 
 -- the digest of a term's record
-unfoldable pub digestOf : Bundle → TermRecord → ℕ
-digestOf b r = mixAll (rootDigest (r .kind) (r .a)) (cond (eqb (r .kind) 2) (items b (r .b)) [])
+unfoldable pub lookupDigest : Bundle → TermRecord → ℕ
+lookupDigest b r = mixAll (rootDigest (r .kind) (r .a)) (cond (eqb (r .kind) 2) (items b (r .b)) [])
 
 -- d is the digest of the record in b, and in whatever b grows to
 abbrev pub Digested : Bundle → TermRecord → ℕ → Type 0
-Digested b r d = (B : Bundle) → Longer b B → digestOf B r ≡ d
+Digested b r d = (B : Bundle) → Longer b B → lookupDigest B r ≡ d
 
 -- j is on the chain that starts at h: it is h, or on the chain of the term before h. 0 ends a chain.
 pub data Reach (ix : List ℕ) : ℕ → ℕ → Type 0 where
@@ -46,12 +46,12 @@ pub data Reach (ix : List ℕ) : ℕ → ℕ → Type 0 where
   later : {h j : ℕ} → (h ≡ 0 → ⊥) → Reach ix (getD ix (digests + h) 0) j → Reach ix h j
 
 -- The index holds the terms 1 to n of b, and of whatever b grows to: each is on the chain that starts at its digest. Chains fall.
-pub record Filed (b : Bundle) (ix : List ℕ) (n : ℕ) : Type 0 where
+pub record FiledTo (b : Bundle) (ix : List ℕ) (n : ℕ) : Type 0 where
   pub long : length ix ≡ digests + limits .terms + 1
   pub low : (d : ℕ) → d < digests → getD ix d 0 ≤ n
   pub falls : (j : ℕ) → 1 ≤ j → getD ix (digests + j) 0 < j
-  pub reached : (B : Bundle) → Longer b B → (j : ℕ) → 1 ≤ j → j ≤ n → Reach ix (getD ix (digestOf B (termOf B j)) 0) j
+  pub reached : (B : Bundle) → Longer b B → (j : ℕ) → 1 ≤ j → j ≤ n → Reach ix (getD ix (lookupDigest B (termOf B j)) 0) j
 
 -- and holds all its terms
 abbrev pub Indexed : Bundle → List ℕ → Type 0
-Indexed b ix = Filed b ix (length (b .terms))
+Indexed b ix = FiledTo b ix (length (b .terms))

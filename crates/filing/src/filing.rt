@@ -10,7 +10,7 @@ ghost use Rattle.bundle.specs.Links.{items};
 ghost use Rattle.logic.specs.WellFormed.{TablesFormed};
 ghost use Rattle.scratch.specs.Scratch.{bundleIn, Roomy};
 ghost use Rattle.scratch.specs.Stack.{halves};
-ghost use Rattle.filing.specs.Filing.{digests, mix, mixAll, rootDigest, digestOf, Indexed};
+ghost use Rattle.filing.specs.Filing.{digests, mix, mixAll, rootDigest, lookupDigest, Indexed};
 use bundle::Bundle;
 use bundle::lists::first_link;
 use scratch::lists::half;
@@ -72,7 +72,7 @@ fn mixed_items(words: &[u32], c: Bundle, d: usize, list: usize) -> usize
 // The digest of the record of term t.
 fn digest(words: &[u32], c: Bundle, t: usize) -> usize
     requires { ⌜ Roomy (now words) c ⌝ }
-    ensures { λ r. ⌜ (r ≡ digestOf (bundleIn (now (words .entry)) c) (termOf (bundleIn (now (words .entry)) c) t)) × (r < digests) ⌝ }
+    ensures { λ r. ⌜ (r ≡ lookupDigest (bundleIn (now (words .entry)) c) (termOf (bundleIn (now (words .entry)) c) t)) × (r < digests) ⌝ }
 {
     let kind = term_field(words, c, t, 0);
     let first = term_field(words, c, t, 1);

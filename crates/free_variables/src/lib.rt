@@ -10,7 +10,7 @@ ghost use Rattle.bundle.specs.Lists.{has};
 ghost use Rattle.bundle.specs.File.{Whole, bundleAt};
 ghost use Rattle.sets.specs.Sets.{member};
 ghost use Rattle.logic.specs.Free.{freeBy, freeArea};
-ghost use Rattle.unions.specs.Put.{Room, Put, setBelow, Below, ownBy, listOf};
+ghost use Rattle.unions.specs.Put.{SetRoom, Put, setBelow, SetsBelow, ownBy, listOf};
 ghost use Rattle.unions.specs.Unions.{Unions};
 use bundle::Bundle;
 use bundle::lists::first_link;
@@ -37,7 +37,7 @@ fn remove_list(file: &[u8], b: Bundle, area: &mut [u64], n: usize, at: usize, li
 
 // Writes the free set of term t, but for the terms of its list, from the sets of the terms below it. Gives that list, 0 where it has none.
 fn free_own(file: &[u8], b: Bundle, area: &mut [u64], n: usize, t: usize, at: usize) -> usize
-    requires { ⌜ Whole (now file) b × Room (now area) n t at × (b .variables ≤ 64 * n) ⌝ }
+    requires { ⌜ Whole (now file) b × SetRoom (now area) n t at × (b .variables ≤ 64 * n) ⌝ }
     ensures { λ r. ⌜ (r ≡ listOf (termOf (bundleAt (now (file .entry)) b) t)) × Put (now (area .entry)) (now (area .exit)) n at (ownBy (bundleAt (now (file .entry)) b) (setBelow (now (area .entry)) n t) (termOf (bundleAt (now (file .entry)) b) t)) ⌝ }
 {
     let kind = term_field(file, b, t, 0);
@@ -78,7 +78,7 @@ fn free_term(
     lists: &mut [u64],
     marks: &mut [u16],
 )
-    requires { ⌜ Whole (now file) b × Room (now area) n t at × (b .variables ≤ 64 * n) × Below (now area) n t (bundleAt (now file) b) × Unions (bundleAt (now file) b) n t (now lists) (now marks) ⌝ }
+    requires { ⌜ Whole (now file) b × SetRoom (now area) n t at × (b .variables ≤ 64 * n) × SetsBelow (now area) n t (bundleAt (now file) b) × Unions (bundleAt (now file) b) n t (now lists) (now marks) ⌝ }
     ensures { λ _. ⌜ Put (now (area .entry)) (now (area .exit)) n at (freeBy (bundleAt (now (file .entry)) b) (setBelow (now (area .entry)) n t) (termOf (bundleAt (now (file .entry)) b) t)) ⌝ }
     ensures { λ _. ⌜ Unions (bundleAt (now (file .entry)) b) n t (now (lists .exit)) (now (marks .exit)) ⌝ }
 {
@@ -96,7 +96,7 @@ fn free_terms(
     marks: &mut [u16],
 )
     requires { ⌜ Whole (now file) b × (1 ≤ n) × (n * b .terms ≤ length (now area)) × (b .variables ≤ 64 * n) × Unions (bundleAt (now file) b) n 1 (now lists) (now marks) ⌝ }
-    ensures { λ _. ⌜ (length (now (area .exit)) ≡ length (now (area .entry))) × Below (now (area .exit)) n (b .terms + 1) (bundleAt (now (file .entry)) b) ⌝ }
+    ensures { λ _. ⌜ (length (now (area .exit)) ≡ length (now (area .entry))) × SetsBelow (now (area .exit)) n (b .terms + 1) (bundleAt (now (file .entry)) b) ⌝ }
 {
     let terms = b.terms;
     let mut t = 1;
@@ -109,7 +109,7 @@ fn free_terms(
 // The same, with room for the unions of the lists of up to 64, 512, or 2,048 links: small files ask for little room, since all of it is cleared.
 fn with_64_links(file: &[u8], b: Bundle, area: &mut [u64], n: usize)
     requires { ⌜ Whole (now file) b × (1 ≤ n) × (n ≤ setWords) × (n * b .terms ≤ length (now area)) × (b .variables ≤ 64 * n) × (b .links ≤ 64) ⌝ }
-    ensures { λ _. ⌜ (length (now (area .exit)) ≡ length (now (area .entry))) × Below (now (area .exit)) n (b .terms + 1) (bundleAt (now (file .entry)) b) ⌝ }
+    ensures { λ _. ⌜ (length (now (area .exit)) ≡ length (now (area .entry))) × SetsBelow (now (area .exit)) n (b .terms + 1) (bundleAt (now (file .entry)) b) ⌝ }
 {
     let mut lists = [0u64; Bundle::SET_WORDS * 65];
     let mut marks = [0u16; 65];
@@ -118,7 +118,7 @@ fn with_64_links(file: &[u8], b: Bundle, area: &mut [u64], n: usize)
 
 fn with_512_links(file: &[u8], b: Bundle, area: &mut [u64], n: usize)
     requires { ⌜ Whole (now file) b × (1 ≤ n) × (n ≤ setWords) × (n * b .terms ≤ length (now area)) × (b .variables ≤ 64 * n) × (b .links ≤ 512) ⌝ }
-    ensures { λ _. ⌜ (length (now (area .exit)) ≡ length (now (area .entry))) × Below (now (area .exit)) n (b .terms + 1) (bundleAt (now (file .entry)) b) ⌝ }
+    ensures { λ _. ⌜ (length (now (area .exit)) ≡ length (now (area .entry))) × SetsBelow (now (area .exit)) n (b .terms + 1) (bundleAt (now (file .entry)) b) ⌝ }
 {
     let mut lists = [0u64; Bundle::SET_WORDS * 513];
     let mut marks = [0u16; 513];
@@ -127,7 +127,7 @@ fn with_512_links(file: &[u8], b: Bundle, area: &mut [u64], n: usize)
 
 fn with_all_links(file: &[u8], b: Bundle, area: &mut [u64], n: usize)
     requires { ⌜ Whole (now file) b × (1 ≤ n) × (n ≤ setWords) × (n * b .terms ≤ length (now area)) × (b .variables ≤ 64 * n) ⌝ }
-    ensures { λ _. ⌜ (length (now (area .exit)) ≡ length (now (area .entry))) × Below (now (area .exit)) n (b .terms + 1) (bundleAt (now (file .entry)) b) ⌝ }
+    ensures { λ _. ⌜ (length (now (area .exit)) ≡ length (now (area .entry))) × SetsBelow (now (area .exit)) n (b .terms + 1) (bundleAt (now (file .entry)) b) ⌝ }
 {
     let mut lists = [0u64; Bundle::SET_WORDS * (Bundle::LINKS + 1)];
     let mut marks = [0u16; Bundle::LINKS + 1];
@@ -137,7 +137,7 @@ fn with_all_links(file: &[u8], b: Bundle, area: &mut [u64], n: usize)
 // The same, with room as the file asks for it.
 fn fitting(file: &[u8], b: Bundle, area: &mut [u64], n: usize)
     requires { ⌜ Whole (now file) b × (1 ≤ n) × (n ≤ setWords) × (n * b .terms ≤ length (now area)) × (b .variables ≤ 64 * n) ⌝ }
-    ensures { λ _. ⌜ (length (now (area .exit)) ≡ length (now (area .entry))) × Below (now (area .exit)) n (b .terms + 1) (bundleAt (now (file .entry)) b) ⌝ }
+    ensures { λ _. ⌜ (length (now (area .exit)) ≡ length (now (area .entry))) × SetsBelow (now (area .exit)) n (b .terms + 1) (bundleAt (now (file .entry)) b) ⌝ }
 {
     if b.links <= 64 {
         with_64_links(file, b, area, n);

@@ -23,7 +23,7 @@ use Rattle.judgement.specs.Judge.{required, claimTests, lateFault, fault
 use Rattle.logic.proofs.Headers.{header-exactly}
 use Rattle.judgement.proofs.Acceptance.{refused-where}
 
-pub record Small (r : Fault) : Type 0 where
+pub record SmallFault (r : Fault) : Type 0 where
   pub number : r .number ≤ 18
   pub place : r .«record» ≤ 2048
 
@@ -36,28 +36,28 @@ failing-le (t ∷ ts) h = go (t .holds) (failing-le ts (h .1))
     go true later = later
     go false later = h .0
 
-pub none-small : Small (fault 0 0)
+pub none-small : SmallFault (fault 0 0)
 none-small = record { number = omega arith; place = omega arith }
 
-pub else-small : (n i : ℕ) (rest : Fault) → n ≤ 18 → i ≤ 2048 → Small rest → Small (orElse n i rest)
+pub else-small : (n i : ℕ) (rest : Fault) → n ≤ 18 → i ≤ 2048 → SmallFault rest → SmallFault (orElse n i rest)
 unfolding orElse
 else-small zero i rest h l s = s
 else-small (suc n) i rest h l s = record { number = h; place = l }
 
-pub next-small : (a rest : Fault) → Small a → Small rest → Small (orNext a rest)
+pub next-small : (a rest : Fault) → SmallFault a → SmallFault rest → SmallFault (orNext a rest)
 next-small a rest s t = else-small (a .number) (a .«record») rest (s .number) (s .place) t
 
-from-small : (f : ℕ → ℕ) → ((i : ℕ) → f i ≤ 18) → (i left : ℕ) → i + left ≤ 2049 → Small (firstFrom f i left)
+from-small : (f : ℕ → ℕ) → ((i : ℕ) → f i ≤ 18) → (i left : ℕ) → i + left ≤ 2049 → SmallFault (firstFrom f i left)
 unfolding firstFrom
 from-small f h i zero l = none-small
 from-small f h i (suc left) l = else-small (f i) i (firstFrom f (suc i) left) (h i) (omega arith) (from-small f h (suc i) left (omega arith))
 
-section-small : (f : ℕ → ℕ) → ((i : ℕ) → f i ≤ 18) → (n : ℕ) → n ≤ 2048 → Small (firstFault f n)
+section-small : (f : ℕ → ℕ) → ((i : ℕ) → f i ≤ 18) → (n : ℕ) → n ≤ 2048 → SmallFault (firstFault f n)
 unfolding firstFault
 section-small f h n l = from-small f h 1 n (omega arith)
 
 module _ (f : List ℕ) (whole : Whole f (countsOf f)) where
-  late-small : Small (lateFault (bundleOf f))
+  late-small : SmallFault (lateFault (bundleOf f))
   unfolding lateFault contextsFault contextFault stepsFault stepFault bundleOf
   late-small =
       next-small (contextsFault b) (orNext (stepsFault b) claim) (section-small (contextFault b) (λ i. failing-le (contextTests b i) (omega arith, (omega arith, tt))) (length (b .contexts)) (omega (arith, contexts-length f (countsOf f), whole .within .contexts)))
@@ -70,7 +70,7 @@ module _ (f : List ℕ) (whole : Whole f (countsOf f)) where
       claim : Fault
       claim = orElse (firstFailing (claimTests b)) 0 (fault 0 0)
 
-  pub sections-small : Small (sectionsFault (bundleOf f))
+  pub sections-small : SmallFault (sectionsFault (bundleOf f))
   unfolding sectionsFault linksFault linkFault symbolsFault symbolFault variablesFault variableFault termsFault termFault bundleOf
   sections-small =
       next-small (linksFault b) (orNext (symbolsFault b) (orNext (variablesFault b) (termsFault b))) (section-small (linkFault b) (λ i. failing-le (linkTests b i) (omega arith, tt)) (length (b .links)) (omega (arith, links-length f (countsOf f), whole .within .links)))
@@ -85,19 +85,19 @@ header-le : (f : List ℕ) (lent required : ℕ) → headerFault f lent required
 unfolding headerFault
 header-le f lent required = failing-le (headerTests f lent required) (omega arith, (omega arith, (omega arith, (omega arith, (omega arith, tt)))))
 
-pub tables-small : (f : List ℕ) (lent required : ℕ) → Small (tablesFault f lent required)
+pub tables-small : (f : List ℕ) (lent required : ℕ) → SmallFault (tablesFault f lent required)
 unfolding tablesFault orElse
 tables-small f lent required = go (headerFault f lent required) refl
   where
-    go : (n : ℕ) → headerFault f lent required ≡ n → Small (orElse n 0 (sectionsFault (bundleOf f)))
+    go : (n : ℕ) → headerFault f lent required ≡ n → SmallFault (orElse n 0 (sectionsFault (bundleOf f)))
     go zero e = sections-small f (header-exactly f lent required .0 e .whole)
     go (suc n) e = record { number = omega (arith, header-le f lent required); place = omega arith }
 
-pub fault-small : (f : List ℕ) (m : ℕ) → Small (faultOf f m)
+pub fault-small : (f : List ℕ) (m : ℕ) → SmallFault (faultOf f m)
 unfolding faultOf tablesFault orElse
 fault-small f m = go (headerFault f m (required f)) refl
   where
-    go : (n : ℕ) → headerFault f m (required f) ≡ n → Small (orNext (orElse n 0 (sectionsFault (bundleOf f))) (lateFault (bundleOf f)))
+    go : (n : ℕ) → headerFault f m (required f) ≡ n → SmallFault (orNext (orElse n 0 (sectionsFault (bundleOf f))) (lateFault (bundleOf f)))
     go zero e =
         let whole : Whole f (countsOf f) = header-exactly f m (required f) .0 e .whole in
         next-small (sectionsFault (bundleOf f)) (lateFault (bundleOf f)) (sections-small f whole) (late-small f whole)
@@ -105,5 +105,5 @@ fault-small f m = go (headerFault f m (required f)) refl
 
 pub refused-small : (f : List ℕ) (m n i : ℕ) → judge f m ≡ Refused n i → (n ≤ 18) × (i ≤ 2048)
 refused-small f m n i e =
-    let s : Small (fault n i) = subst Small (refused-where f m n i .0 e .1) (fault-small f m) in
+    let s : SmallFault (fault n i) = subst SmallFault (refused-where f m n i .0 e .1) (fault-small f m) in
     (s .number, s .place)

@@ -49,17 +49,17 @@ stepped b k x l r p = record {
   step = suc (length (b .steps));
 }
 
-abbrev pub opened : Bundle → Context → unlimited.Opened
+abbrev pub opened : Bundle → Context → unlimited.OpenedContext
 opened b r = record { bundle = withContexts b (r ∷ []); context = suc (length (b .contexts)) }
 
-abbrev pub termed : Bundle → TermRecord → unlimited.Placed
+abbrev pub termed : Bundle → TermRecord → unlimited.PlacedTerm
 termed b r = record { bundle = withTerms b (r ∷ []); term = suc (length (b .terms)) }
 
 -- ---- the contexts of a quantifier only append
 
 listed-longer : (b : Bundle) (x y t v : ℕ) → Longer (addList (fixing b y v .bundle) (x ∷ [])) (renaming b x y t v .bundle)
 listed-longer b x y t v =
-    let f : unlimited.Opened = fixing b y v in
+    let f : unlimited.OpenedContext = fixing b y v in
     replacing-longer (addList (f .bundle) (x ∷ [])) (listStart (f .bundle) (x ∷ [])) (f .context) (t ∷ [])
 
 fixed-longer : (b : Bundle) (x y t v : ℕ) → Longer (fixing b y v .bundle) (renaming b x y t v .bundle)
@@ -122,7 +122,7 @@ found-is {w} {c} r vs f (suc n) m e h = place-is w c (r .room) (r .version) (pla
 
 -- ---- after a term
 
-module _ {p : unlimited.Placed} {w : List ℕ} {a : Placed} {c : Counts} {t : ℕ} (o : PlaceOutcome p w a) (e : a ≡ Placed.Done c t) {w′ : List ℕ} where
+module _ {p : unlimited.PlacedTerm} {w : List ℕ} {a : Placed} {c : Counts} {t : ℕ} (o : PlaceOutcome p w a) (e : a ≡ Placed.Done c t) {w′ : List ℕ} where
   pub concluded-on : {r : Visited} (u x l : ℕ) (vs : List ℕ) → VisitOutcome (concluded (bundleIn w c) u x l t vs) w′ r
       → VisitOutcome (concluded (p .bundle) u x l (p .term) vs) w′ r
   concluded-on {r} u x l vs h =
@@ -138,7 +138,7 @@ module _ {p : unlimited.Placed} {w : List ℕ} {a : Placed} {c : Counts} {t : �
       (subst (λ (i : ℕ). OpenOutcome (renaming (p .bundle) x y i v) w′ r) (k .1)
       (subst (λ (B : Bundle). OpenOutcome (renaming B x y t v) w′ r) (k .0 .bundle) h))
 
-module _ {p : unlimited.Placed} {w : List ℕ} {a : Placed} (o : PlaceOutcome p w a) (e : a ≡ Placed.Full) {w′ : List ℕ} where
+module _ {p : unlimited.PlacedTerm} {w : List ℕ} {a : Placed} (o : PlaceOutcome p w a) (e : a ≡ Placed.Full) {w′ : List ℕ} where
   pub concluded-full : (u x l t : ℕ) (vs : List ℕ) → VisitOutcome (concluded (p .bundle) u x l t vs) w′ Visited.Full
   concluded-full u x l t vs = VisitOutcome.full (longer-over (concluded-longer (p .bundle) u x l t vs) (place-full o e)) refl
 
@@ -199,7 +199,7 @@ module _ (b : Bundle) (y v : ℕ) {w : List ℕ} {a : Opened} (o : OpenOutcome (
       opened-on {d} {s} z {r} q =
           let k = open-done o e in
           let l = add-done h z in
-          let f : unlimited.Opened = fixing b y v in
+          let f : unlimited.OpenedContext = fixing b y v in
           subst (λ (j : ℕ). OpenOutcome (replacing (addList (f .bundle) (x ∷ [])) (listStart (f .bundle) (x ∷ [])) j (t ∷ [])) w′ r) (k .1)
           (subst (λ (B : Bundle). OpenOutcome (replacing (addList B (x ∷ [])) (listStart B (x ∷ [])) i (t ∷ [])) w′ r) (k .0 .bundle)
           (subst (λ (j : ℕ). OpenOutcome (replacing (addList (bundleIn w c) (x ∷ [])) j i (t ∷ [])) w′ r) (l .1)

@@ -13,7 +13,7 @@ use Rattle.bundle.specs.Bundle.{Bundle, TermRecord, termOf}
 use Rattle.logic.specs.Longer.{Longer, withVariables, withTerms}
 use Rattle.logic.proofs.Longer.{longer-trans, list-longer, variables-longer, terms-longer, term-added}
 use Rattle.scratch.specs.Scratch.{bundleIn}
-use Rattle.filing.specs.Filing.{mixAll, rootDigest, digestOf, Digested, Filed, Indexed}
+use Rattle.filing.specs.Filing.{mixAll, rootDigest, lookupDigest, Digested, FiledTo, Indexed}
 use Rattle.filing.proofs.Filed.{plain-digested, application-digested, filed-on, filed-longer, indexed-on}
 use Rattle.placing.specs.declared.Visited.{Visited}
 use Rattle.placing.specs.declared.Listed.{Listed}
@@ -91,7 +91,7 @@ pub application-filed : {b : Bundle} {vs w : List ℕ} {a : Added} {c : Counts} 
     → (f d : ℕ) → d ≡ mixAll (rootDigest 2 f) vs → Digested (bundleIn w c) (record { kind = 2; a = f; b = s; c = 0 }) d
 application-filed {b} {vs} {w} {a} {c} {s} o e f d own B more =
     let k = add-done o e in
-    ap (λ (n : ℕ). digestOf B (record { kind = 2; a = f; b = n; c = 0 })) (k .1)
+    ap (λ (n : ℕ). lookupDigest B (record { kind = 2; a = f; b = n; c = 0 })) (k .1)
     ∙ application-digested b f vs B (subst (λ (x : Bundle). Longer x B) (k .0 .bundle) more)
     ∙ sym own
 
@@ -102,9 +102,9 @@ pub term-indexed : {b : Bundle} {ix : List ℕ} → Indexed b ix → (r : TermRe
 term-indexed {b} {ix} indexed r d digested small room {t} next w c e {ix′} f =
     let b′ : Bundle = withTerms b (r ∷ []) in
     let longer : Longer b b′ = terms-longer b (r ∷ []) in
-    let own : (B : Bundle) → Longer b′ B → digestOf B (termOf B t) ≡ d =
-    λ B more. ap (λ (n : ℕ). digestOf B (termOf B n)) next ∙ ap (digestOf B) (term-added b r more) ∙ digested B (longer-trans longer more) in
-    let filed : Filed b′ (set (set ix (1024 + t) (getD ix d 0)) d t) t =
+    let own : (B : Bundle) → Longer b′ B → lookupDigest B (termOf B t) ≡ d =
+    λ B more. ap (λ (n : ℕ). lookupDigest B (termOf B n)) next ∙ ap (lookupDigest B) (term-added b r more) ∙ digested B (longer-trans longer more) in
+    let filed : FiledTo b′ (set (set ix (1024 + t) (getD ix d 0)) d t) t =
     filed-on b′ ix (length (b .terms)) d (filed-longer longer indexed) t next own small (omega arith) in
     let all : t ≡ length (b′ .terms) = omega (arith, length-append (b .terms) (r ∷ [])) in
-    subst (λ (B : Bundle). Indexed B ix′) (sym e) (subst (Filed b′ ix′) all (subst (λ (x : List ℕ). Filed b′ x t) (sym f) filed))
+    subst (λ (B : Bundle). Indexed B ix′) (sym e) (subst (FiledTo b′ ix′) all (subst (λ (x : List ℕ). FiledTo b′ x t) (sym f) filed))

@@ -27,7 +27,7 @@ use Rattle.placing.specs.declared.Opened.{Opened}
 use Rattle.expansion.specs.Visit as unlimited
 use Rattle.expansion.specs.Visit.{Visit, Visits}
 use Rattle.expansion.specs.File.{countsIn}
-use Rattle.placing.specs.Outcomes.{Holds, TooMuch, VisitOutcome, OpenOutcome, ListOutcome}
+use Rattle.placing.specs.Outcomes.{StandsFor, TooMuch, VisitOutcome, OpenOutcome, ListOutcome}
 use Rattle.expansion.proofs.SmallNumbers.{all-at, all-tab}
 use Rattle.placing.proofs.StandingKept.{Ends}
 
@@ -39,7 +39,7 @@ pub record StandFor (b : Bundle) (w : List ℕ) (n : Counts) : Type 0 where
   pub ready : Ready w n
   pub bundle : bundleIn w n ≡ b
 
-pub stand-for : {b : Bundle} {w : List ℕ} {n : Counts} → Holds w b → n ≡ countsIn b → StandFor b w n
+pub stand-for : {b : Bundle} {w : List ℕ} {n : Counts} → StandsFor w b → n ≡ countsIn b → StandFor b w n
 stand-for {b} {w} {n} h e = record {
   within = h .within;
   ready = subst (Ready w) (sym e) (h .ready);
@@ -59,15 +59,15 @@ pub visit-full : {v : Visit} {w : List ℕ} {r : Visited} → VisitOutcome v w r
 visit-full (VisitOutcome.done h e) t = let z : _≡_ {A = ℕ} 0 1 = cc in absurd (omega arith)
 visit-full (VisitOutcome.full f e) t = f
 
-pub record OpenDone (o : unlimited.Opened) (w : List ℕ) (n : Counts) (Γ : ℕ) : Type 0 where
+pub record OpenDone (o : unlimited.OpenedContext) (w : List ℕ) (n : Counts) (Γ : ℕ) : Type 0 where
   pub now : StandFor (o .bundle) w n
   pub context : Γ ≡ o .context
 
-pub open-done : {o : unlimited.Opened} {w : List ℕ} {r : Opened} {n : Counts} {Γ : ℕ} → OpenOutcome o w r → r ≡ Opened.Done n Γ → OpenDone o w n Γ
+pub open-done : {o : unlimited.OpenedContext} {w : List ℕ} {r : Opened} {n : Counts} {Γ : ℕ} → OpenOutcome o w r → r ≡ Opened.Done n Γ → OpenDone o w n Γ
 open-done (OpenOutcome.done h e) t = record { now = stand-for h (cc); context = cc }
 open-done (OpenOutcome.full f e) t = let z : _≡_ {A = ℕ} 0 1 = cc in absurd (omega arith)
 
-pub open-full : {o : unlimited.Opened} {w : List ℕ} {r : Opened} → OpenOutcome o w r → r ≡ Opened.Full → TooMuch (o .bundle)
+pub open-full : {o : unlimited.OpenedContext} {w : List ℕ} {r : Opened} → OpenOutcome o w r → r ≡ Opened.Full → TooMuch (o .bundle)
 open-full (OpenOutcome.done h e) t = let z : _≡_ {A = ℕ} 0 1 = cc in absurd (omega arith)
 open-full (OpenOutcome.full f e) t = f
 
@@ -134,7 +134,7 @@ counts-are w n v = λ i. record {
   steps = sym (steps-length w n) i;
 }
 
-pub holds : {w : List ℕ} {n : Counts} → Ready w n → Holds w (bundleIn w n)
+pub holds : {w : List ℕ} {n : Counts} → Ready w n → StandsFor w (bundleIn w n)
 holds {w} {n} r =
     let e = counts-are w n (r .version) in
     record {

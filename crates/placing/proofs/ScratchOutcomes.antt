@@ -31,8 +31,8 @@ use Rattle.placing.specs.declared.Added.{Added}
 use Rattle.expansion.specs.File.{countsIn, symbolWords, variableWords, termWords, linkWords, contextWords, stepWords}
 use Rattle.expansion.specs.Visit.{Visit, placed, imageTerm}
 use Rattle.expansion.specs.Visit as unlimited
-use Rattle.placing.specs.Outcomes.{Holds, TooMuch, VisitOutcome, OpenOutcome, PlaceOutcome, AddOutcome}
-use Rattle.expansion.proofs.SmallNumbers.{Word, Small, all-tab}
+use Rattle.placing.specs.Outcomes.{StandsFor, TooMuch, VisitOutcome, OpenOutcome, PlaceOutcome, AddOutcome}
+use Rattle.expansion.proofs.SmallNumbers.{Word, SmallBundle, all-tab}
 use Rattle.expansion.proofs.SmallWords.{image-small}
 
 -- ---- words and counts that stand for a bundle
@@ -52,7 +52,7 @@ counts-are w c v e = λ i. record {
   steps = steps-count w c e i;
 }
 
-holds : (w : List ℕ) (c : Counts) {b : Bundle} → Roomy w c → c .version ≡ 1 → bundleIn w c ≡ b → Holds w b
+holds : (w : List ℕ) (c : Counts) {b : Bundle} → Roomy w c → c .version ≡ 1 → bundleIn w c ≡ b → StandsFor w b
 holds w c {b} r v e =
     let k : c ≡ countsIn b = counts-are w c v e in
     record {
@@ -61,7 +61,7 @@ holds w c {b} r v e =
       bundle = ap (bundleIn w) (sym k) ∙ e;
     }
 
-known-of : (w : List ℕ) (c : Counts) (b : Bundle) → Holds w b → c ≡ countsIn b → Known w c b
+known-of : (w : List ℕ) (c : Counts) (b : Bundle) → StandsFor w b → c ≡ countsIn b → Known w c b
 known-of w c b h k = record { ready = subst (Ready w) (sym k) (h .ready); bundle = ap (bundleIn w) k ∙ h .bundle }
 
 -- ---- the outcome where the section has room
@@ -70,10 +70,10 @@ module _ (w : List ℕ) (c : Counts) (r : Roomy w c) (v : c .version ≡ 1) wher
   pub add-is : (b : Bundle) (vs : List ℕ) (n : ℕ) → bundleIn w c ≡ addList b vs → n ≡ listStart b vs → AddOutcome b vs w (Added.Done c n)
   add-is b vs n e k = AddOutcome.done (holds w c r v e) (ap₂ Added.Done (counts-are w c v e) k)
 
-  pub place-is : (p : unlimited.Placed) (n : ℕ) → bundleIn w c ≡ p .bundle → n ≡ p .term → PlaceOutcome p w (Placed.Done c n)
+  pub place-is : (p : unlimited.PlacedTerm) (n : ℕ) → bundleIn w c ≡ p .bundle → n ≡ p .term → PlaceOutcome p w (Placed.Done c n)
   place-is p n e k = PlaceOutcome.done (holds w c r v e) (ap₂ Placed.Done (counts-are w c v e) k)
 
-  pub open-is : (o : unlimited.Opened) (n : ℕ) → bundleIn w c ≡ o .bundle → n ≡ o .context → OpenOutcome o w (Opened.Done c n)
+  pub open-is : (o : unlimited.OpenedContext) (n : ℕ) → bundleIn w c ≡ o .bundle → n ≡ o .context → OpenOutcome o w (Opened.Done c n)
   open-is o n e k = OpenOutcome.done (holds w c r v e) (ap₂ Opened.Done (counts-are w c v e) k)
 
   pub visit-is : (u : Visit) (n : ℕ) → bundleIn w c ≡ u .bundle → n ≡ u .step → VisitOutcome u w (Visited.Done c (u .result) n)
@@ -86,11 +86,11 @@ module _ {w : List ℕ} {c : Counts} {n : ℕ} where
   add-done (AddOutcome.done h e) k = (known-of w c _ h (cc), cc)
   add-done (AddOutcome.full h e) k = let z : _≡_ {A = ℕ} 0 1 = cc in absurd (omega arith)
 
-  pub place-done : {p : unlimited.Placed} {r : Placed} → PlaceOutcome p w r → r ≡ Placed.Done c n → Known w c (p .bundle) × (n ≡ p .term)
+  pub place-done : {p : unlimited.PlacedTerm} {r : Placed} → PlaceOutcome p w r → r ≡ Placed.Done c n → Known w c (p .bundle) × (n ≡ p .term)
   place-done (PlaceOutcome.done h e) k = (known-of w c _ h (cc), cc)
   place-done (PlaceOutcome.full h e) k = let z : _≡_ {A = ℕ} 0 1 = cc in absurd (omega arith)
 
-  pub open-done : {o : unlimited.Opened} {r : Opened} → OpenOutcome o w r → r ≡ Opened.Done c n → Known w c (o .bundle) × (n ≡ o .context)
+  pub open-done : {o : unlimited.OpenedContext} {r : Opened} → OpenOutcome o w r → r ≡ Opened.Done c n → Known w c (o .bundle) × (n ≡ o .context)
   open-done (OpenOutcome.done h e) k = (known-of w c _ h (cc), cc)
   open-done (OpenOutcome.full h e) k = let z : _≡_ {A = ℕ} 0 1 = cc in absurd (omega arith)
 
@@ -99,11 +99,11 @@ module _ {w : List ℕ} where
   add-full (AddOutcome.done h e) k = let z : _≡_ {A = ℕ} 0 1 = cc in absurd (omega arith)
   add-full (AddOutcome.full h e) k = h
 
-  pub place-full : {p : unlimited.Placed} {r : Placed} → PlaceOutcome p w r → r ≡ Placed.Full → TooMuch (p .bundle)
+  pub place-full : {p : unlimited.PlacedTerm} {r : Placed} → PlaceOutcome p w r → r ≡ Placed.Full → TooMuch (p .bundle)
   place-full (PlaceOutcome.done h e) k = let z : _≡_ {A = ℕ} 0 1 = cc in absurd (omega arith)
   place-full (PlaceOutcome.full h e) k = h
 
-  pub open-full : {o : unlimited.Opened} {r : Opened} → OpenOutcome o w r → r ≡ Opened.Full → TooMuch (o .bundle)
+  pub open-full : {o : unlimited.OpenedContext} {r : Opened} → OpenOutcome o w r → r ≡ Opened.Full → TooMuch (o .bundle)
   open-full (OpenOutcome.done h e) k = let z : _≡_ {A = ℕ} 0 1 = cc in absurd (omega arith)
   open-full (OpenOutcome.full h e) k = h
 
@@ -154,7 +154,7 @@ placed-word w c b vs r zero l k =
     omega (arith, k .ready .room .within .terms, terms-count w c (k .bundle), length-append (b .terms) (r (listStart b vs) ∷ []))
 placed-word w c b vs r (suc n) l k = omega (arith, k .ready .room .within .terms, terms-count w c (k .bundle))
 
-pub scratch-small : (w : List ℕ) (c : Counts) → ((i : ℕ) → Word (getD w i 0)) → Small (bundleIn w c)
+pub scratch-small : (w : List ℕ) (c : Counts) → ((i : ℕ) → Word (getD w i 0)) → SmallBundle (bundleIn w c)
 unfolding bundleIn
 scratch-small w c h =
     let word : (start size j k : ℕ) → Word (wordIn w start size j k) = λ start size j k. h (start + size * j + k) in

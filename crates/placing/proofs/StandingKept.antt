@@ -20,7 +20,7 @@ use Rattle.logic.specs.Contexts.{image}
 use Rattle.logic.specs.Longer.{Longer, addList, listStart}
 use Rattle.logic.proofs.Longer.{prefix-at, longer-refl, longer-trans, sizes}
 use Rattle.expansion.specs.Nodes.{Node, Nodes, leaf, node, scope, block, nil, cons}
-use Rattle.expansion.specs.Visit.{Visit, Visits, visit, visitAll, concluded, Opened, openBinder, replacing, fixing, fresh, newVariable, imageTerm}
+use Rattle.expansion.specs.Visit.{Visit, Visits, visit, visitAll, concluded, OpenedContext, openBinder, replacing, fixing, fresh, newVariable, imageTerm}
 use Rattle.placing.specs.Outcomes.{Stands, StandAll}
 use Rattle.expansion.proofs.Grown.{application-longer, binder-longer, concluded-longer, replacing-longer, open-longer, visit-longer, visitAll-longer}
 
@@ -127,7 +127,7 @@ open-context b x c =
 -- ---- a visit only appends to what its parts leave
 
 -- the context that a let opens, once its bound terms are visited
-abbrev pub opening : Bundle → (s c : ℕ) → Nodes → Opened
+abbrev pub opening : Bundle → (s c : ℕ) → Nodes → OpenedContext
 opening b s c ns = replacing (visitAll ns c b .bundle) s c (visitAll ns c b .results)
 
 pub opening-longer : (b : Bundle) (s c : ℕ) (ns : Nodes) → Longer (visitAll ns c b .bundle) (opening b s c ns .bundle)

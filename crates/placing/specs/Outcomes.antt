@@ -26,7 +26,7 @@ use Rattle.expansion.specs.Visit as unlimited
 use Rattle.expansion.specs.File.{countsIn}
 
 -- the words w, after the call, stand for the bundle b, which is within the limits
-pub record Holds (w : List ℕ) (b : Bundle) : Type 0 where
+pub record StandsFor (w : List ℕ) (b : Bundle) : Type 0 where
   pub within : Within (countsIn b)
   pub ready : Ready w (countsIn b)
   pub bundle : bundleIn w (countsIn b) ≡ b
@@ -37,25 +37,25 @@ TooMuch b = Within (countsIn b) → ⊥
 
 -- r, and the words w after the call, are what the visit v gives
 pub data VisitOutcome (v : Visit) (w : List ℕ) (r : Visited) : Type 0 where
-  done : Holds w (v .bundle) → r ≡ Visited.Done (countsIn (v .bundle)) (v .result) (v .step) → VisitOutcome v w r
+  done : StandsFor w (v .bundle) → r ≡ Visited.Done (countsIn (v .bundle)) (v .result) (v .step) → VisitOutcome v w r
   full : TooMuch (v .bundle) → r ≡ Visited.Full → VisitOutcome v w r
 
-pub data OpenOutcome (o : unlimited.Opened) (w : List ℕ) (r : Opened) : Type 0 where
-  done : Holds w (o .bundle) → r ≡ Opened.Done (countsIn (o .bundle)) (o .context) → OpenOutcome o w r
+pub data OpenOutcome (o : unlimited.OpenedContext) (w : List ℕ) (r : Opened) : Type 0 where
+  done : StandsFor w (o .bundle) → r ≡ Opened.Done (countsIn (o .bundle)) (o .context) → OpenOutcome o w r
   full : TooMuch (o .bundle) → r ≡ Opened.Full → OpenOutcome o w r
 
-pub data PlaceOutcome (p : unlimited.Placed) (w : List ℕ) (r : Placed) : Type 0 where
-  done : Holds w (p .bundle) → r ≡ Placed.Done (countsIn (p .bundle)) (p .term) → PlaceOutcome p w r
+pub data PlaceOutcome (p : unlimited.PlacedTerm) (w : List ℕ) (r : Placed) : Type 0 where
+  done : StandsFor w (p .bundle) → r ≡ Placed.Done (countsIn (p .bundle)) (p .term) → PlaceOutcome p w r
   full : TooMuch (p .bundle) → r ≡ Placed.Full → PlaceOutcome p w r
 
 -- the same of a list of values that is appended
 pub data AddOutcome (b : Bundle) (vs : List ℕ) (w : List ℕ) (r : Added) : Type 0 where
-  done : Holds w (addList b vs) → r ≡ Added.Done (countsIn (addList b vs)) (listStart b vs) → AddOutcome b vs w r
+  done : StandsFor w (addList b vs) → r ≡ Added.Done (countsIn (addList b vs)) (listStart b vs) → AddOutcome b vs w r
   full : TooMuch (addList b vs) → r ≡ Added.Full → AddOutcome b vs w r
 
 -- the same of a visit to a list, whose pairs stand on the stack s from height h on
 pub data ListOutcome (v : Visits) (h : ℕ) (w s : List ℕ) (r : Listed) : Type 0 where
-  done : Holds w (v .bundle) → r ≡ Listed.Done (countsIn (v .bundle)) (h + length (v .results))
+  done : StandsFor w (v .bundle) → r ≡ Listed.Done (countsIn (v .bundle)) (h + length (v .results))
       → halves true s h (h + length (v .results)) ≡ v .results → halves false s h (h + length (v .results)) ≡ v .steps → ListOutcome v h w s r
   full : TooMuch (v .bundle) → r ≡ Listed.Full → ListOutcome v h w s r
 
@@ -106,7 +106,7 @@ pub record Pending (s : List ℕ) (c : Counts) (h : ℕ) : Type 0 where
   pub height : h ≤ c .steps
 
 -- a visit leaves the stack as long as it was, and as it was below the height
-pub record Below (s s′ : List ℕ) (h : ℕ) : Type 0 where
+pub record StackKept (s s′ : List ℕ) (h : ℕ) : Type 0 where
   pub long : length s′ ≡ length s
   pub below : take h s′ ≡ take h s
 
@@ -119,7 +119,7 @@ pub record TermAsks (w s : List ℕ) (c : Counts) (Γ h t : ℕ) : Type 0 where
 
 pub record TermGives (w s : List ℕ) (c : Counts) (Γ h t : ℕ) (w′ s′ : List ℕ) (r : Visited) : Type 0 where
   pub long : length w′ ≡ length w
-  pub kept : Below s s′ h
+  pub kept : StackKept s s′ h
   pub outcome : (τ : Node) → Stands (bundleIn w c) t τ → VisitOutcome (visit τ Γ (bundleIn w c)) w′ r
 
 pub record ListAsks (w s : List ℕ) (c : Counts) (Γ h o l : ℕ) : Type 0 where
@@ -131,5 +131,5 @@ pub record ListAsks (w s : List ℕ) (c : Counts) (Γ h o l : ℕ) : Type 0 wher
 
 pub record ListGives (w s : List ℕ) (c : Counts) (Γ h o l : ℕ) (w′ s′ : List ℕ) (r : Listed) : Type 0 where
   pub long : length w′ ≡ length w
-  pub kept : Below s s′ h
+  pub kept : StackKept s s′ h
   pub outcome : (ns : Nodes) → StandAll (bundleIn w c) o l ns → ListOutcome (visitAll ns Γ (bundleIn w c)) h w′ s′ r

@@ -149,13 +149,13 @@ counted c v t l x s = record {
 }
 
 -- what an append leaves: room, as many words, and the bundle b
-abbrev pub Left : List ℕ → List ℕ → Counts → Counts → Bundle → Type 0
-Left w v c r b = Roomy v r × (length v ≡ length w) × (bundleIn v r ≡ b) × (r .version ≡ c .version)
+abbrev pub Grows : List ℕ → List ℕ → Counts → Counts → Bundle → Type 0
+Grows w v c r b = Roomy v r × (length v ≡ length w) × (bundleIn v r ≡ b) × (r .version ≡ c .version)
 
 -- the words of a new record at the end of its section, and all else as it was
 module _ (w v : List ℕ) (c : Counts) (g : Roomy w c) where
   pub variable-appended : {x : ℕ} → c .variables < 64 → Written w v (variablesAt limits + 1 * c .variables) (x ∷ [])
-      → Left w v c (counted c (c .variables + 1) (c .terms) (c .links) (c .contexts) (c .steps)) (withVariables (bundleIn w c) (x ∷ []))
+      → Grows w v c (counted c (c .variables + 1) (c .terms) (c .links) (c .contexts) (c .steps)) (withVariables (bundleIn w c) (x ∷ []))
   unfolding bundleIn
   variable-appended {x} l o = (
     record {
@@ -183,7 +183,7 @@ module _ (w v : List ℕ) (c : Counts) (g : Roomy w c) where
   )
 
   pub term-appended : {kind a b d : ℕ} → c .terms < 1024 → Written w v (termsAt limits + 4 * c .terms) (kind ∷ a ∷ b ∷ d ∷ [])
-      → Left w v c (counted c (c .variables) (c .terms + 1) (c .links) (c .contexts) (c .steps)) (withTerms (bundleIn w c) (record { kind = kind; a = a; b = b; c = d } ∷ []))
+      → Grows w v c (counted c (c .variables) (c .terms + 1) (c .links) (c .contexts) (c .steps)) (withTerms (bundleIn w c) (record { kind = kind; a = a; b = b; c = d } ∷ []))
   unfolding bundleIn
   term-appended {kind} {a} {b} {d} l o = (
     record {
@@ -211,7 +211,7 @@ module _ (w v : List ℕ) (c : Counts) (g : Roomy w c) where
   )
 
   pub link-appended : {value next : ℕ} → c .links < 2048 → Written w v (linksAt limits + 2 * c .links) (value ∷ next ∷ [])
-      → Left w v c (counted c (c .variables) (c .terms) (c .links + 1) (c .contexts) (c .steps)) (withLinks (bundleIn w c) (record { value = value; next = next } ∷ []))
+      → Grows w v c (counted c (c .variables) (c .terms) (c .links + 1) (c .contexts) (c .steps)) (withLinks (bundleIn w c) (record { value = value; next = next } ∷ []))
   unfolding bundleIn
   link-appended {value} {next} l o = (
     record {
@@ -239,7 +239,7 @@ module _ (w v : List ℕ) (c : Counts) (g : Roomy w c) where
   )
 
   pub context-appended : {kind a b parent : ℕ} → c .contexts < 256 → Written w v (contextsAt limits + 4 * c .contexts) (kind ∷ a ∷ b ∷ parent ∷ [])
-      → Left w v c (counted c (c .variables) (c .terms) (c .links) (c .contexts + 1) (c .steps)) (withContexts (bundleIn w c) (record { kind = kind; a = a; b = b; parent = parent } ∷ []))
+      → Grows w v c (counted c (c .variables) (c .terms) (c .links) (c .contexts + 1) (c .steps)) (withContexts (bundleIn w c) (record { kind = kind; a = a; b = b; parent = parent } ∷ []))
   unfolding bundleIn
   context-appended {kind} {a} {b} {parent} l o = (
     record {
@@ -267,7 +267,7 @@ module _ (w v : List ℕ) (c : Counts) (g : Roomy w c) where
   )
 
   pub step-appended : {rule context left right premises : ℕ} → c .steps < 1024 → Written w v (stepsAt limits + 5 * c .steps) (rule ∷ context ∷ left ∷ right ∷ premises ∷ [])
-      → Left w v c (counted c (c .variables) (c .terms) (c .links) (c .contexts) (c .steps + 1)) (withSteps (bundleIn w c) (record { rule = rule; context = context; left = left; right = right; premises = premises } ∷ []))
+      → Grows w v c (counted c (c .variables) (c .terms) (c .links) (c .contexts) (c .steps + 1)) (withSteps (bundleIn w c) (record { rule = rule; context = context; left = left; right = right; premises = premises } ∷ []))
   unfolding bundleIn
   step-appended {rule} {context} {left} {right} {premises} l o = (
     record {

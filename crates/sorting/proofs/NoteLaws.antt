@@ -29,7 +29,7 @@ use Rattle.logic.specs.Symbols.{truthSort}
 use Rattle.logic.specs.Terms.{kindOf}
 use Rattle.logic.specs.Sorts.{sortAs, sortBy, sortAt}
 use Rattle.logic.proofs.Tests.{and-left, and-right, and-both, numbers-of, numbers-in}
-use Rattle.sorting.specs.Notes.{Zeros, Sorted, Noted, Lower}
+use Rattle.sorting.specs.Notes.{Zeros, Sorted, Noted, LowerNoted}
 use Rattle.sorting.proofs.SortOf.{sort-below}
 
 pub zeros : (n : ℕ) → Zeros (replicate n 0)
@@ -104,7 +104,7 @@ module _ (f : List ℕ) (c : Counts) (n : ℕ) (i : ℕ) where
   unfolding each
   each-on x r ne few value next good = rw (walk-cons f c i x r ne few value next, numbers-not, good)
 
-pub lower-up : (f : List ℕ) (c : Counts) (n m : ℕ) (w : List ℕ) → n ≤ m → Lower f c n w → Lower f c m w
+pub lower-up : (f : List ℕ) (c : Counts) (n m : ℕ) (w : List ℕ) → n ≤ m → LowerNoted f c n w → LowerNoted f c m w
 lower-up f c n m w h so = record { enough = so .enough; sound = λ p some. each-up n m (items (bundleAt f c) p) h (so .sound p some) }
 
 -- ---- sorts

@@ -29,12 +29,12 @@ abbrev pub AllTo : List ℕ → Counts → ℕ → ℕ → ℕ → Type 0
 AllTo f c n v p = each (numbers n) (items (bundleAt f c) p) ≡ true
 
 -- the terms of the list from link p on have the sorts of the list that starts at link q, one each
-abbrev pub Fits : List ℕ → Counts → ℕ → ℕ → Type 0
-Fits f c q p = sameList (items (bundleAt f c) q) (map (sortAt (bundleAt f c)) (items (bundleAt f c) p)) ≡ true
+abbrev pub SortsFit : List ℕ → Counts → ℕ → ℕ → Type 0
+SortsFit f c q p = sameList (items (bundleAt f c) q) (map (sortAt (bundleAt f c)) (items (bundleAt f c) p)) ≡ true
 
 -- links from which each item is 1 to n; links from which terms have the sorts of the list noted there
-abbrev pub Lower : List ℕ → Counts → ℕ → List ℕ → Type 0
-Lower f c n w = Noted (AllTo f c n) (c .links) w
+abbrev pub LowerNoted : List ℕ → Counts → ℕ → List ℕ → Type 0
+LowerNoted f c n w = Noted (AllTo f c n) (c .links) w
 
 abbrev pub Fitting : List ℕ → Counts → List ℕ → Type 0
-Fitting f c w = Noted (Fits f c) (c .links) w
+Fitting f c w = Noted (SortsFit f c) (c .links) w

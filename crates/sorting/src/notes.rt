@@ -8,7 +8,7 @@ ghost use Rattle.bundle.specs.Links.{items};
 ghost use Rattle.bundle.specs.Lists.{numbers, each};
 ghost use Rattle.bundle.specs.File.{Whole, bundleAt};
 ghost use Rattle.logic.specs.Sorts.{sortBy};
-ghost use Rattle.sorting.specs.Notes.{Zeros, Sorted, Lower};
+ghost use Rattle.sorting.specs.Notes.{Zeros, Sorted, LowerNoted};
 use super::sorts::result_sort;
 use super::sorts::signature_of;
 use super::sorts::sort_in;
@@ -54,8 +54,8 @@ pub fn note_sorts(file: &[u8], b: Bundle, sorts: &mut [usize])
 // Whether each item from link `start` on is 1 to n: up to a link from which that is noted. Each link on the way is noted before the rest of its
 // list is known, so what is noted holds only where the answer is yes.
 fn far_lower(file: &[u8], b: Bundle, lower: &mut [u8], start: usize, n: usize) -> bool
-    requires { ⌜ Whole (now file) b × Lower (now file) b n (now lower) × (start ≤ b .links) ⌝ }
-    ensures { λ r. ⌜ (r ≡ each (numbers n) (items (bundleAt (now (file .entry)) b) start)) × (r ≡ true → Lower (now (file .entry)) b n (now (lower .exit))) ⌝ }
+    requires { ⌜ Whole (now file) b × LowerNoted (now file) b n (now lower) × (start ≤ b .links) ⌝ }
+    ensures { λ r. ⌜ (r ≡ each (numbers n) (items (bundleAt (now (file .entry)) b) start)) × (r ≡ true → LowerNoted (now (file .entry)) b n (now (lower .exit))) ⌝ }
 {
     let mut i = start;
     while i != 0 {
@@ -74,8 +74,8 @@ fn far_lower(file: &[u8], b: Bundle, lower: &mut [u8], start: usize, n: usize) -
 
 // Whether each item of a list is 1 to n. Most lists end before anything is noted.
 pub fn all_lower(file: &[u8], b: Bundle, lower: &mut [u8], list: usize, n: usize) -> bool
-    requires { ⌜ Whole (now file) b × Lower (now file) b n (now lower) ⌝ }
-    ensures { λ r. ⌜ (r ≡ each (numbers n) (items (bundleAt (now (file .entry)) b) list)) × (r ≡ true → Lower (now (file .entry)) b n (now (lower .exit))) ⌝ }
+    requires { ⌜ Whole (now file) b × LowerNoted (now file) b n (now lower) ⌝ }
+    ensures { λ r. ⌜ (r ≡ each (numbers n) (items (bundleAt (now (file .entry)) b) list)) × (r ≡ true → LowerNoted (now (file .entry)) b n (now (lower .exit))) ⌝ }
 {
     let mut i = first_link(b, list);
     let mut left = 8usize;

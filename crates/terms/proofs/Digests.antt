@@ -18,7 +18,7 @@ use Rattle.bundle.specs.Bundle.{Bundle, TermRecord, termOf}
 use Rattle.logic.specs.Checks.{firstIsList, secondIsList, sameField, sameTerm, isNew}
 use Rattle.logic.proofs.Tests.{passed-each, same-list, not-in, up-to-all}
 use Rattle.logic.proofs.Passes.{new-before}
-use Rattle.terms.specs.Digests.{mix, mixItems, mixField, digestOf, Reach, here, later, Filed}
+use Rattle.terms.specs.Digests.{mix, mixItems, mixField, termDigest, Reach, here, later, FiledBelow}
 use Rattle.sorting.specs.Notes.{Zeros}
 
 pub mix-small : (d x : ℕ) → mix d x < 2048
@@ -48,8 +48,8 @@ unfolding sameField mixField
 field-digest b true d x y e = ap (mixItems 8 d) (same-list _ _ e)
 field-digest b false d x y e = ap (mix d) (eqb-true x y e)
 
-pub same-digest : (b : Bundle) (r s : TermRecord) → sameTerm b r s ≡ true → digestOf b r ≡ digestOf b s
-unfolding sameTerm digestOf
+pub same-digest : (b : Bundle) (r s : TermRecord) → sameTerm b r s ≡ true → termDigest b r ≡ termDigest b s
+unfolding sameTerm termDigest
 same-digest b r s e =
     let p = passed-each (
     eqb (r .kind) (s .kind)
@@ -82,16 +82,16 @@ reach-kept next i v falls {h} {j} l (later ne r) =
 
 -- ---- filing
 
-pub filed-none : (b : Bundle) (heads next : List ℕ) → Zeros heads → Zeros next → Filed b heads next 1
+pub filed-none : (b : Bundle) (heads next : List ℕ) → Zeros heads → Zeros next → FiledBelow b heads next 1
 filed-none b heads next none none-next = record {
   low = λ d. omega (arith, none .zero d);
   falls = λ j one. omega (arith, none-next .zero j);
   reached = λ j one l. absurd (omega arith);
 }
 
-module _ (b : Bundle) (heads next : List ℕ) (i d : ℕ) (filed : Filed b heads next i) (own : d ≡ digestOf b (termOf b i))
+module _ (b : Bundle) (heads next : List ℕ) (i d : ℕ) (filed : FiledBelow b heads next i) (own : d ≡ termDigest b (termOf b i))
     (heads-room : d < length heads) (next-room : i < length next) where
-  pub filed-on : Filed b (set heads d i) (set next i (getD heads d 0)) (i + 1)
+  pub filed-on : FiledBelow b (set heads d i) (set next i (getD heads d 0)) (i + 1)
   filed-on = record {
     low = λ e. low e (ℕ-discrete e d);
     falls = λ j one. falls j one (ℕ-discrete j i);
@@ -107,8 +107,8 @@ module _ (b : Bundle) (heads next : List ℕ) (i d : ℕ) (filed : Filed b heads
       falls j one (no q) = rw (getD-set-other next i j (getD heads d 0) 0 q) (filed .falls j one)
 
       -- an older term is on the chain that starts at the head that its digest had
-      older : (j : ℕ) → 1 ≤ j → j < i → Reach (set next i (getD heads d 0)) (getD heads (digestOf b (termOf b j)) 0) j
-      older j one l = reach-kept next i (getD heads d 0) (filed .falls) (filed .low (digestOf b (termOf b j))) (filed .reached j one l)
+      older : (j : ℕ) → 1 ≤ j → j < i → Reach (set next i (getD heads d 0)) (getD heads (termDigest b (termOf b j)) 0) j
+      older j one l = reach-kept next i (getD heads d 0) (filed .falls) (filed .low (termDigest b (termOf b j))) (filed .reached j one l)
 
       under : (j e : ℕ) → Dec (e ≡ d) → 1 ≤ j → j < i → Reach (set next i (getD heads d 0)) (getD heads e 0) j
           → Reach (set next i (getD heads d 0)) (getD (set heads d i) e 0) j
@@ -118,11 +118,11 @@ module _ (b : Bundle) (heads next : List ℕ) (i d : ℕ) (filed : Filed b heads
           (later {h = i} {j = j} some (rw (getD-set-same next i (getD heads d 0) 0 next-room) (rw q at r)))
       under j e (no q) one l r = rw (getD-set-other heads d e i 0 q) r
 
-      reached : (j : ℕ) → 1 ≤ j → j < i + 1 → Dec (j ≡ i) → Reach (set next i (getD heads d 0)) (getD (set heads d i) (digestOf b (termOf b j)) 0) j
+      reached : (j : ℕ) → 1 ≤ j → j < i + 1 → Dec (j ≡ i) → Reach (set next i (getD heads d 0)) (getD (set heads d i) (termDigest b (termOf b j)) 0) j
       reached j one l (yes q) = rw (q, ← own, getD-set-same heads d i 0 heads-room) (here refl)
       reached j one l (no q) =
           let lower : j < i = omega arith in
-          under j (digestOf b (termOf b j)) (ℕ-discrete (digestOf b (termOf b j)) d) one lower (older j one lower)
+          under j (termDigest b (termOf b j)) (ℕ-discrete (termDigest b (termOf b j)) d) one lower (older j one lower)
 
 -- ---- the walk
 
@@ -130,7 +130,7 @@ abbrev pub Sought : Bundle → List ℕ → ℕ → ℕ → Type 0
 Sought b next i h = (j : ℕ) → 1 ≤ j → j < i → sameTerm b (termOf b j) (termOf b i) ≡ true → Reach next h j
 
 module _ (b : Bundle) (next : List ℕ) (i : ℕ) where
-  pub sought-start : (heads : List ℕ) (d h : ℕ) → Filed b heads next i → d ≡ digestOf b (termOf b i) → h ≡ getD heads d 0 → Sought b next i h
+  pub sought-start : (heads : List ℕ) (d h : ℕ) → FiledBelow b heads next i → d ≡ termDigest b (termOf b i) → h ≡ getD heads d 0 → Sought b next i h
   sought-start heads d h filed own e j one l same =
       rw (e, own, ← same-digest b (termOf b j) (termOf b i) same) (filed .reached j one l)
 

@@ -29,8 +29,8 @@ mixField b true d x = mixItems 8 d (items b x)
 mixField b false d x = mix d x
 
 -- the digest of a term's record: its kind, then its fields as they are compared
-unfoldable pub digestOf : Bundle → TermRecord → ℕ
-digestOf b r = mix (mixField b (secondIsList (r .kind)) (mixField b (firstIsList (r .kind)) (mix 0 (r .kind)) (r .a)) (r .b)) (r .c)
+unfoldable pub termDigest : Bundle → TermRecord → ℕ
+termDigest b r = mix (mixField b (secondIsList (r .kind)) (mixField b (firstIsList (r .kind)) (mix 0 (r .kind)) (r .a)) (r .b)) (r .c)
 
 -- j is on the chain that starts at h: it is h, or on the chain of what follows h. 0 ends a chain.
 pub data Reach (next : List ℕ) : ℕ → ℕ → Type 0 where
@@ -38,7 +38,7 @@ pub data Reach (next : List ℕ) : ℕ → ℕ → Type 0 where
   later : {h j : ℕ} → (h ≡ 0 → ⊥) → Reach next (getD next h 0) j → Reach next h j
 
 -- `heads` and `next` hold the terms below i: each is on the chain that starts at the head of its digest. Chains fall.
-pub record Filed (b : Bundle) (heads next : List ℕ) (i : ℕ) : Type 0 where
+pub record FiledBelow (b : Bundle) (heads next : List ℕ) (i : ℕ) : Type 0 where
   pub low : (d : ℕ) → getD heads d 0 < i
   pub falls : (j : ℕ) → 1 ≤ j → getD next j 0 < j
-  pub reached : (j : ℕ) → 1 ≤ j → j < i → Reach next (getD heads (digestOf b (termOf b j)) 0) j
+  pub reached : (j : ℕ) → 1 ≤ j → j < i → Reach next (getD heads (termDigest b (termOf b j)) 0) j

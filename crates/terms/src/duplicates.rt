@@ -7,7 +7,7 @@ ghost use Rattle.bundle.specs.Bundle.{termOf};
 ghost use Rattle.bundle.specs.Links.{items};
 ghost use Rattle.bundle.specs.File.{Whole, bundleAt};
 ghost use Rattle.logic.specs.Checks.{sameField, sameTerm, isNew};
-ghost use Rattle.terms.specs.Digests.{digests, mix, mixItems, mixField, digestOf, Filed};
+ghost use Rattle.terms.specs.Digests.{digests, mix, mixItems, mixField, termDigest, FiledBelow};
 use bundle::Bundle;
 use bundle::halves::wide;
 use bundle::lists::first_link;
@@ -62,7 +62,7 @@ fn mixed_field(file: &[u8], b: Bundle, list: bool, d: usize, x: usize) -> usize
 // The digest of the record of term i.
 pub fn digest(file: &[u8], b: Bundle, i: usize) -> usize
     requires { ⌜ Whole (now file) b ⌝ }
-    ensures { λ r. ⌜ (r ≡ digestOf (bundleAt (now (file .entry)) b) (termOf (bundleAt (now (file .entry)) b) i)) × (r < digests) ⌝ }
+    ensures { λ r. ⌜ (r ≡ termDigest (bundleAt (now (file .entry)) b) (termOf (bundleAt (now (file .entry)) b) i)) × (r < digests) ⌝ }
 {
     let kind = term_field(file, b, i, 0);
     let first = term_field(file, b, i, 1);
@@ -121,7 +121,7 @@ pub fn is_new(
     i: usize,
     d: usize,
 ) -> bool
-    requires { ⌜ Whole (now file) b × Filed (bundleAt (now file) b) (now heads) (now next) i × (i < length (now next)) × (d < digests) × (d ≡ digestOf (bundleAt (now file) b) (termOf (bundleAt (now file) b) i)) ⌝ }
+    requires { ⌜ Whole (now file) b × FiledBelow (bundleAt (now file) b) (now heads) (now next) i × (i < length (now next)) × (d < digests) × (d ≡ termDigest (bundleAt (now file) b) (termOf (bundleAt (now file) b) i)) ⌝ }
     ensures { λ r. ⌜ r ≡ isNew (bundleAt (now (file .entry)) b) i ⌝ }
 {
     let mut j = wide(heads[d]);

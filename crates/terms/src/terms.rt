@@ -7,8 +7,8 @@ ghost use Rattle.bundle.specs.Bundle.{termOf};
 ghost use Rattle.bundle.specs.Lists.{numbers};
 ghost use Rattle.bundle.specs.File.{Whole, bundleAt};
 ghost use Rattle.logic.specs.Checks.{refers, sorted, termFault, termsFault};
-ghost use Rattle.terms.specs.Digests.{digests, digestOf, Filed};
-ghost use Rattle.sorting.specs.Notes.{Zeros, Sorted, Lower, Fitting};
+ghost use Rattle.terms.specs.Digests.{digests, termDigest, FiledBelow};
+ghost use Rattle.sorting.specs.Notes.{Zeros, Sorted, LowerNoted, Fitting};
 use super::duplicates::DIGESTS;
 use super::duplicates::digest;
 use super::duplicates::is_new;
@@ -34,8 +34,8 @@ fn is_number(n: usize, x: usize) -> bool
 
 // 7: whether the kind of term i is one, its unused fields are zero, and it refers to variables, symbols, links and lower terms.
 pub fn term_refers(file: &[u8], b: Bundle, lower: &mut [u8], i: usize) -> bool
-    requires { ⌜ Whole (now file) b × Lower (now file) b (i - 1) (now lower) × (1 ≤ i) ⌝ }
-    ensures { λ r. ⌜ (r ≡ refers (bundleAt (now (file .entry)) b) i) × (r ≡ true → Lower (now (file .entry)) b (i - 1) (now (lower .exit))) ⌝ }
+    requires { ⌜ Whole (now file) b × LowerNoted (now file) b (i - 1) (now lower) × (1 ≤ i) ⌝ }
+    ensures { λ r. ⌜ (r ≡ refers (bundleAt (now (file .entry)) b) i) × (r ≡ true → LowerNoted (now (file .entry)) b (i - 1) (now (lower .exit))) ⌝ }
 {
     let kind = term_field(file, b, i, 0);
     let first = term_field(file, b, i, 1);
@@ -94,9 +94,9 @@ fn term_fault(
     i: usize,
     d: usize,
 ) -> usize
-    requires { ⌜ Whole (now file) b × Sorted (now file) b (now sorts) × Lower (now file) b (i - 1) (now lower) × Fitting (now file) b (now fitting) ⌝ }
-    requires { ⌜ Filed (bundleAt (now file) b) (now heads) (now next) i × (1 ≤ i) × (i < length (now next)) × (d < digests) × (d ≡ digestOf (bundleAt (now file) b) (termOf (bundleAt (now file) b) i)) ⌝ }
-    ensures { λ r. ⌜ (r ≡ termFault (bundleAt (now (file .entry)) b) i) × (r ≡ 0 → Lower (now (file .entry)) b (i - 1) (now (lower .exit)) × Fitting (now (file .entry)) b (now (fitting .exit))) ⌝ }
+    requires { ⌜ Whole (now file) b × Sorted (now file) b (now sorts) × LowerNoted (now file) b (i - 1) (now lower) × Fitting (now file) b (now fitting) ⌝ }
+    requires { ⌜ FiledBelow (bundleAt (now file) b) (now heads) (now next) i × (1 ≤ i) × (i < length (now next)) × (d < digests) × (d ≡ termDigest (bundleAt (now file) b) (termOf (bundleAt (now file) b) i)) ⌝ }
+    ensures { λ r. ⌜ (r ≡ termFault (bundleAt (now (file .entry)) b) i) × (r ≡ 0 → LowerNoted (now (file .entry)) b (i - 1) (now (lower .exit)) × Fitting (now (file .entry)) b (now (fitting .exit))) ⌝ }
 {
     if !term_refers(file, b, lower, i) {
         return 7;

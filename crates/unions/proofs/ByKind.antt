@@ -24,7 +24,7 @@ use Rattle.logic.proofs.Tables.{table-below}
 use Rattle.logic.proofs.Tests.{numbers-of}
 use Rattle.logic.specs.Terms.{Kind, kindOf, variable, application, binder, letting, other}
 use Rattle.logic.specs.Free.{freesOf, freeAs, freeBy, freeAt, nothingFree}
-use Rattle.unions.specs.Put.{Room, Kept, Put, setBelow, listAs, listOf, ownAs, ownBy}
+use Rattle.unions.specs.Put.{SetRoom, Kept, Put, setBelow, listAs, listOf, ownAs, ownBy}
 use Rattle.logic.proofs.KindTests.{termRecord, record-is, kind-binder, kind-other}
 use Rattle.unions.proofs.Puts.{kept-trans, below-kept, room-kept, remove-put}
 
@@ -38,7 +38,7 @@ put-clear w v n at room e = rw e (record {
 pub record Ready (b : Bundle) (m : ℕ) (w v : List ℕ) (n t at k a y z : ℕ) : Type 0 where
   pub variables : length (b .variables) ≡ m
   pub enough : m ≤ 64 * n
-  pub room : Room w n t at
+  pub room : SetRoom w n t at
   pub kind : k ≡ termOf b t .kind
   pub first : a ≡ termOf b t .a
   pub second : y ≡ termOf b t .b
@@ -55,7 +55,7 @@ module _ {b : Bundle} {m : ℕ} {w v : List ℕ} {n t at k a y z : ℕ} (ready :
   empty : (x : ℕ) → member v at n x ≡ false
   empty x = none .members x
 
-  pub ready-room : Room v n t at
+  pub ready-room : SetRoom v n t at
   ready-room = room-kept w v n t at (ready .room) (none .kept)
 
   -- lower sets are read as they were
@@ -158,7 +158,7 @@ unfolding freeBy ownBy listOf
 parts b f r x nil = parts-as b (kindOf (r .kind)) f r x nil
 
 -- the set of term t, once the sets of the terms of its list are added
-pub both-parts : (b : Bundle) (w v u : List ℕ) (n t at l : ℕ) → items b 0 ≡ [] → Room w n t at → l ≡ listOf (termOf b t)
+pub both-parts : (b : Bundle) (w v u : List ℕ) (n t at l : ℕ) → items b 0 ≡ [] → SetRoom w n t at → l ≡ listOf (termOf b t)
     → Put w v n at (ownBy b (setBelow w n t) (termOf b t)) → Put v u n at (λ x. member v at n x || freesOf (setBelow v n t) (items b l) x)
     → Put w u n at (freeBy b (setBelow w n t) (termOf b t))
 both-parts b w v u n t at l nil room e own rest =
@@ -189,7 +189,7 @@ free-below : (b : Bundle) (t : ℕ) → freeAt b t ≡ freeBy b (below nothingFr
 unfolding freeAt freeBy
 free-below b t = table-below (freeBy b) nothingFree noTerm (λ f. refl) (b .terms) t
 
-pub so-on : (w v : List ℕ) (n t at : ℕ) (b : Bundle) → Room w n t at → SoFar w n t b → Put w v n at (freeBy b (setBelow w n t) (termOf b t)) → SoFar v n (t + 1) b
+pub so-on : (w v : List ℕ) (n t at : ℕ) (b : Bundle) → SetRoom w n t at → SoFar w n t b → Put w v n at (freeBy b (setBelow w n t) (termOf b t)) → SoFar v n (t + 1) b
 so-on w v n t at b room so put i x one low = go (ℕ-discrete i t)
   where
     go : Dec (i ≡ t) → member v (n * (i - 1)) n x ≡ freeAt b i x

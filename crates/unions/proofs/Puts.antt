@@ -18,7 +18,7 @@ use Rattle.bundle.proofs.Fields.{record-within}
 use Rattle.sets.specs.Sets.{holds, member, withoutBit, changed, removed, united}
 use Rattle.sets.proofs.Members.{member-same, member-removed, member-united, changed-length, changed-out, filled-length, filled-out}
 use Rattle.logic.specs.Free.{freesOf}
-use Rattle.unions.specs.Put.{Room, Kept, Put, setBelow}
+use Rattle.unions.specs.Put.{SetRoom, Kept, Put, setBelow}
 
 but-assoc : (m p q : Bool) → (m && not (p || q)) ≡ ((not p && m) && not q)
 but-assoc true true q = refl
@@ -33,7 +33,7 @@ pub kept-trans : (w v u : List ℕ) (n at : ℕ) → Kept w v n at → Kept v u 
 kept-trans w v u n at p q = record { long = q .long ∙ p .long; others = λ j out. q .others j out ∙ p .others j out }
 
 -- the sets below t are as they were where only that of t is written
-pub below-kept : (w v : List ℕ) (n t at : ℕ) → Room w n t at → Kept w v n at → (i x : ℕ) → setBelow v n t i x ≡ setBelow w n t i x
+pub below-kept : (w v : List ℕ) (n t at : ℕ) → SetRoom w n t at → Kept w v n at → (i x : ℕ) → setBelow v n t i x ≡ setBelow w n t i x
 unfolding setBelow
 below-kept w v n t at room kept i x = go (ltb 0 i) refl (ltb i t) refl
   where
@@ -60,7 +60,7 @@ module _ (w : List ℕ) (n t at i : ℕ) where
   pub unite-high : t ≤ i → Put w w n at (λ x. member w at n x || setBelow w n t i x)
   unite-high h = none-below (rw (le-ltb i t h) (and-false (ltb 0 i)))
 
-  pub unite-low : (v : List ℕ) → Room w n t at → (i ≡ 0 → ⊥) → i < t → v ≡ united w at (n * (i - 1)) n → Put w v n at (λ x. member w at n x || setBelow w n t i x)
+  pub unite-low : (v : List ℕ) → SetRoom w n t at → (i ≡ 0 → ⊥) → i < t → v ≡ united w at (n * (i - 1)) n → Put w v n at (λ x. member w at n x || setBelow w n t i x)
   unfolding setBelow
   unite-low v room ne low e = rw e (record {
     kept = record {
@@ -99,10 +99,10 @@ remove-put w v n at y room e = rw e (record {
 
 -- ---- lists: what is left to add or to remove, and the set so far, make up the whole
 
-pub room-kept : (w v : List ℕ) (n t at : ℕ) → Room w n t at → Kept w v n at → Room v n t at
+pub room-kept : (w v : List ℕ) (n t at : ℕ) → SetRoom w n t at → Kept w v n at → SetRoom v n t at
 room-kept w v n t at room kept = record { one = room .one; start = room .start; room = omega (arith, room .room, kept .long) }
 
-module _ (w : List ℕ) (n t at : ℕ) (room : Room w n t at) (whole : List ℕ) where
+module _ (w : List ℕ) (n t at : ℕ) (room : SetRoom w n t at) (whole : List ℕ) where
   abbrev pub Adding : List ℕ → List ℕ → Type 0
   Adding v ys = (x : ℕ) → (member v at n x || freesOf (setBelow w n t) ys x) ≡ (member w at n x || freesOf (setBelow w n t) whole x)
 

@@ -32,7 +32,7 @@ use Rattle.sets.proofs.Digits.{bit-or, bit-none}
 use Rattle.sets.proofs.Members.{held, member-same, filled-length, filled-in, filled-out}
 use Rattle.logic.specs.Free.{freesOf, freeBy, freeAt}
 use Rattle.logic.proofs.Tests.{and-left, and-right, and-both, numbers-of, numbers-in, or-neither}
-use Rattle.unions.specs.Put.{Room, Kept, Put, setBelow, Below}
+use Rattle.unions.specs.Put.{SetRoom, Kept, Put, setBelow, SetsBelow}
 use Rattle.unions.specs.Unions.{known, unmet, Fewer, joined, Unions, Partly}
 use Rattle.unions.proofs.Puts.{kept-trans, below-kept}
 use Rattle.unions.proofs.ByKind.{so-on}
@@ -130,7 +130,7 @@ link-fits n k links m h room = let l : n * k ≤ n * links = mul-le-mul-left n h
 
 -- ---- the terms of a known list are lower, so that their sets are as they will be
 
-lower-set : (w : List ℕ) (n t : ℕ) (b : Bundle) → Below w n t b → (i x : ℕ) → numbers (t - 1) i ≡ true → setBelow w n t i x ≡ freeAt b i x
+lower-set : (w : List ℕ) (n t : ℕ) (b : Bundle) → SetsBelow w n t b → (i x : ℕ) → numbers (t - 1) i ≡ true → setBelow w n t i x ≡ freeAt b i x
 unfolding setBelow
 lower-set w n t b so i x e =
     let p : (1 ≤ i) × (i ≤ t - 1) = numbers-of (t - 1) i e in
@@ -138,7 +138,7 @@ lower-set w n t b so i x e =
     let low : i < t = omega arith in
     rw (lt-ltb 0 i (p .0), lt-ltb i t low) (so .sets i x (p .0) low)
 
-pub frees-lower : (w : List ℕ) (n t : ℕ) (b : Bundle) → Below w n t b → (ys : List ℕ) → each (numbers (t - 1)) ys ≡ true
+pub frees-lower : (w : List ℕ) (n t : ℕ) (b : Bundle) → SetsBelow w n t b → (ys : List ℕ) → each (numbers (t - 1)) ys ≡ true
     → (x : ℕ) → freesOf (freeAt b) ys x ≡ freesOf (setBelow w n t) ys x
 unfolding freesOf each
 frees-lower w n t b so [] e x = refl
@@ -148,7 +148,7 @@ frees-lower w n t b so (y ∷ ys) e x =
       frees-lower w n t b so ys (and-right (numbers (t - 1) y) (each (numbers (t - 1)) ys) e) x,
     )
 
-pub known-put : (w v lists marks : List ℕ) (n t at k : ℕ) (b : Bundle) → at + n ≤ length w → Below w n t b → Unions b n t lists marks → known marks k ≡ true
+pub known-put : (w v lists marks : List ℕ) (n t at k : ℕ) (b : Bundle) → at + n ≤ length w → SetsBelow w n t b → Unions b n t lists marks → known marks k ≡ true
     → v ≡ joined w at lists (n * k) w at n → Put w v n at (λ x. member w at n x || freesOf (setBelow w n t) (items b k) x)
 known-put w v lists marks n t at k b room so unions e same =
     let put = joined-put w at lists (n * k) w at n room in
@@ -159,7 +159,7 @@ known-put w v lists marks n t at k b room so unions e same =
 
 -- ---- a link made known
 
-module _ (area lists marks : List ℕ) (n t k term next : ℕ) (b : Bundle) (so : Below area n t b) (unions : Unions b n t lists marks)
+module _ (area lists marks : List ℕ) (n t k term next : ℕ) (b : Bundle) (so : SetsBelow area n t b) (unions : Unions b n t lists marks)
     (some : 1 ≤ k) (link : k ≤ length (b .links)) (here : items b k ≡ term ∷ items b next) (low : numbers (t - 1) term ≡ true) (then : known marks next ≡ true) where
   written : List ℕ
   written = joined area (n * (term - 1)) lists (n * next) lists (n * k) n
@@ -269,10 +269,10 @@ unions-later b n t lists marks so = record {
   union = so .union;
 }
 
-pub below-none : (w : List ℕ) (n : ℕ) (b : Bundle) → Below w n 1 b
+pub below-none : (w : List ℕ) (n : ℕ) (b : Bundle) → SetsBelow w n 1 b
 below-none w n b = record { one = omega arith; fits = omega arith; sets = λ i x one low. absurd (omega arith) }
 
-pub below-same : (w v : List ℕ) (n t at : ℕ) (b : Bundle) → Room w n t at → Kept w v n at → Below w n t b → Below v n t b
+pub below-same : (w v : List ℕ) (n t at : ℕ) (b : Bundle) → SetRoom w n t at → Kept w v n at → SetsBelow w n t b → SetsBelow v n t b
 below-same w v n t at b room kept so = record {
   one = so .one;
   fits = omega (arith, so .fits, kept .long);
@@ -283,7 +283,7 @@ below-same w v n t at b room kept so = record {
       );
 }
 
-pub below-on : (w v : List ℕ) (n t at : ℕ) (b : Bundle) → Room w n t at → Below w n t b → Put w v n at (freeBy b (setBelow w n t) (termOf b t)) → Below v n (t + 1) b
+pub below-on : (w v : List ℕ) (n t at : ℕ) (b : Bundle) → SetRoom w n t at → SetsBelow w n t b → Put w v n at (freeBy b (setBelow w n t) (termOf b t)) → SetsBelow v n (t + 1) b
 below-on w v n t at b room so put =
     let start : at ≡ n * (t - 1) = room .start in
     let e : n * (t - 1 + 1) ≡ n * (t - 1) + n = rw (mul-add, mul-one) in
@@ -297,7 +297,7 @@ below-on w v n t at b room so put =
 
 -- ---- the first terms, then the rest
 
-pub partly-put : (w v u : List ℕ) (n t at : ℕ) (whole rest : List ℕ) → Room w n t at → Partly w v n t at whole rest
+pub partly-put : (w v u : List ℕ) (n t at : ℕ) (whole rest : List ℕ) → SetRoom w n t at → Partly w v n t at whole rest
     → Put v u n at (λ x. member v at n x || freesOf (setBelow v n t) rest x) → Put w u n at (λ x. member w at n x || freesOf (setBelow w n t) whole x)
 unfolding freesOf
 partly-put w v u n t at whole rest room part put = record {

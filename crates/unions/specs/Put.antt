@@ -14,7 +14,7 @@ use Rattle.logic.specs.Terms.{Kind, kindOf, variable, application, binder, lett
 use Rattle.logic.specs.Free.{freeAt}
 
 -- the set of term t, n words, stands at word `at`, within the words
-pub record Room (w : List ℕ) (n t at : ℕ) : Type 0 where
+pub record SetRoom (w : List ℕ) (n t at : ℕ) : Type 0 where
   pub one : 1 ≤ t
   pub start : at ≡ n * (t - 1)
   pub room : at + n ≤ length w
@@ -34,7 +34,7 @@ unfoldable pub setBelow : List ℕ → ℕ → ℕ → ℕ → ℕ → Bool
 setBelow w n t i x = cond (ltb 0 i && ltb i t) (member w (n * (i - 1)) n x) false
 
 -- there is room for the sets of the terms below t, and they are their free variables
-pub record Below (w : List ℕ) (n t : ℕ) (b : Bundle) : Type 0 where
+pub record SetsBelow (w : List ℕ) (n t : ℕ) (b : Bundle) : Type 0 where
   pub one : 1 ≤ t
   pub fits : n * (t - 1) ≤ length w
   pub sets : (i x : ℕ) → 1 ≤ i → i < t → member w (n * (i - 1)) n x ≡ freeAt b i x

@@ -11,7 +11,7 @@ ghost use Rattle.bundle.specs.Lists.{numbers};
 ghost use Rattle.bundle.specs.File.{Whole, bundleAt};
 ghost use Rattle.sets.specs.Sets.{member};
 ghost use Rattle.logic.specs.Free.{freesOf};
-ghost use Rattle.unions.specs.Put.{Room, Put, setBelow, Below};
+ghost use Rattle.unions.specs.Put.{SetRoom, Put, setBelow, SetsBelow};
 ghost use Rattle.unions.specs.Unions.{known, unmet, joined, Fewer, Unions, Partly};
 use bundle::Bundle;
 use bundle::halves::wide;
@@ -29,7 +29,7 @@ const SHORT: usize = 4;
 
 // Adds the set of term i, if it is lower, to that of term t, which stands at word `at`.
 pub fn unite_term(area: &mut [u64], n: usize, t: usize, at: usize, i: usize)
-    requires { ⌜ Room (now area) n t at ⌝ }
+    requires { ⌜ SetRoom (now area) n t at ⌝ }
     ensures { λ _. ⌜ Put (now (area .entry)) (now (area .exit)) n at (λ x. member (now (area .entry)) at n x || setBelow (now (area .entry)) n t i x) ⌝ }
 {
     if i == 0 {
@@ -43,7 +43,7 @@ pub fn unite_term(area: &mut [u64], n: usize, t: usize, at: usize, i: usize)
 
 // Adds the sets of the terms of a list, one by one.
 fn unite_each(file: &[u8], b: Bundle, area: &mut [u64], n: usize, t: usize, at: usize, list: usize)
-    requires { ⌜ Whole (now file) b × Room (now area) n t at ⌝ }
+    requires { ⌜ Whole (now file) b × SetRoom (now area) n t at ⌝ }
     ensures { λ _. ⌜ Put (now (area .entry)) (now (area .exit)) n at (λ x. member (now (area .entry)) at n x || freesOf (setBelow (now (area .entry)) n t) (items (bundleAt (now (file .entry)) b) list) x) ⌝ }
 {
     let mut i = first_link(b, list);
@@ -64,7 +64,7 @@ fn unite_first(
     at: usize,
     list: usize,
 ) -> usize
-    requires { ⌜ Whole (now file) b × Room (now area) n t at ⌝ }
+    requires { ⌜ Whole (now file) b × SetRoom (now area) n t at ⌝ }
     ensures { λ r. ⌜ (r ≤ b .links) × Partly (now (area .entry)) (now (area .exit)) n t at (items (bundleAt (now (file .entry)) b) list) (items (bundleAt (now (file .entry)) b) r) ⌝ }
 {
     let mut left = SHORT;
@@ -152,7 +152,7 @@ fn learn_link(
     marks: &mut [u16],
     k: usize,
 ) -> usize
-    requires { ⌜ Whole (now file) b × Below (now area) n t (bundleAt (now file) b) × Unions (bundleAt (now file) b) n t (now lists) (now marks) × (1 ≤ k) × (k ≤ b .links) ⌝ }
+    requires { ⌜ Whole (now file) b × SetsBelow (now area) n t (bundleAt (now file) b) × Unions (bundleAt (now file) b) n t (now lists) (now marks) × (1 ≤ k) × (k ≤ b .links) ⌝ }
     ensures { λ r. ⌜ (r < k) × Unions (bundleAt (now (file .entry)) b) n t (now (lists .exit)) (now (marks .exit)) ⌝ }
 {
     let term = link_field(file, b, k, 0);
@@ -183,7 +183,7 @@ fn walk_back(
     marks: &mut [u16],
     last: usize,
 )
-    requires { ⌜ Whole (now file) b × Below (now area) n t (bundleAt (now file) b) × Unions (bundleAt (now file) b) n t (now lists) (now marks) × (last ≤ b .links) ⌝ }
+    requires { ⌜ Whole (now file) b × SetsBelow (now area) n t (bundleAt (now file) b) × Unions (bundleAt (now file) b) n t (now lists) (now marks) × (last ≤ b .links) ⌝ }
     ensures { λ _. ⌜ Unions (bundleAt (now (file .entry)) b) n t (now (lists .exit)) (now (marks .exit)) ⌝ }
 {
     let mut k = last;
@@ -205,7 +205,7 @@ fn unite_met(
     lists: &mut [u64],
     marks: &mut [u16],
 )
-    requires { ⌜ Whole (now file) b × Room (now area) n t at × Below (now area) n t (bundleAt (now file) b) × Unions (bundleAt (now file) b) n t (now lists) (now marks) × (i ≤ b .links) ⌝ }
+    requires { ⌜ Whole (now file) b × SetRoom (now area) n t at × SetsBelow (now area) n t (bundleAt (now file) b) × Unions (bundleAt (now file) b) n t (now lists) (now marks) × (i ≤ b .links) ⌝ }
     ensures { λ _. ⌜ Put (now (area .entry)) (now (area .exit)) n at (λ x. member (now (area .entry)) at n x || freesOf (setBelow (now (area .entry)) n t) (items (bundleAt (now (file .entry)) b) i) x) ⌝ }
     ensures { λ _. ⌜ Unions (bundleAt (now (file .entry)) b) n t (now (lists .exit)) (now (marks .exit)) ⌝ }
 {
@@ -239,7 +239,7 @@ fn unite_new(
     start: usize,
     marks: &mut [u16],
 ) -> usize
-    requires { ⌜ Whole (now file) b × Room (now area) n t at × (b .links < length (now marks)) × (start ≤ b .links) ⌝ }
+    requires { ⌜ Whole (now file) b × SetRoom (now area) n t at × (b .links < length (now marks)) × (start ≤ b .links) ⌝ }
     ensures { λ r. ⌜ (r ≤ b .links) × Partly (now (area .entry)) (now (area .exit)) n t at (items (bundleAt (now (file .entry)) b) start) (items (bundleAt (now (file .entry)) b) r) ⌝ }
     ensures { λ _. ⌜ Fewer (now (marks .entry)) (now (marks .exit)) ⌝ }
 {
@@ -265,7 +265,7 @@ fn unite_rest(
     lists: &mut [u64],
     marks: &mut [u16],
 )
-    requires { ⌜ Whole (now file) b × Room (now area) n t at × Below (now area) n t (bundleAt (now file) b) × Unions (bundleAt (now file) b) n t (now lists) (now marks) × (i ≤ b .links) ⌝ }
+    requires { ⌜ Whole (now file) b × SetRoom (now area) n t at × SetsBelow (now area) n t (bundleAt (now file) b) × Unions (bundleAt (now file) b) n t (now lists) (now marks) × (i ≤ b .links) ⌝ }
     ensures { λ _. ⌜ Put (now (area .entry)) (now (area .exit)) n at (λ x. member (now (area .entry)) at n x || freesOf (setBelow (now (area .entry)) n t) (items (bundleAt (now (file .entry)) b) i) x) ⌝ }
     ensures { λ _. ⌜ Unions (bundleAt (now (file .entry)) b) n t (now (lists .exit)) (now (marks .exit)) ⌝ }
 {
@@ -287,7 +287,7 @@ pub fn unite_list(
     lists: &mut [u64],
     marks: &mut [u16],
 )
-    requires { ⌜ Whole (now file) b × Room (now area) n t at × Below (now area) n t (bundleAt (now file) b) × Unions (bundleAt (now file) b) n t (now lists) (now marks) ⌝ }
+    requires { ⌜ Whole (now file) b × SetRoom (now area) n t at × SetsBelow (now area) n t (bundleAt (now file) b) × Unions (bundleAt (now file) b) n t (now lists) (now marks) ⌝ }
     ensures { λ _. ⌜ Put (now (area .entry)) (now (area .exit)) n at (λ x. member (now (area .entry)) at n x || freesOf (setBelow (now (area .entry)) n t) (items (bundleAt (now (file .entry)) b) list) x) ⌝ }
     ensures { λ _. ⌜ Unions (bundleAt (now (file .entry)) b) n t (now (lists .exit)) (now (marks .exit)) ⌝ }
 {

@@ -272,7 +272,7 @@ module _ {w s : List ℕ} {n : Counts} {Γ h t : ℕ} (asks : TermAsks w s n Γ 
             let-opened : (ns : Nodes) → StandAll (bundleIn w n) t second ns → OpenOutcome (opening (bundleIn w n) first Γ ns) w2 r2
             let-opened ns k =
                 let d = args-done ns k in
-                subst (λ (o : unlimited.Opened). OpenOutcome o w2 r2) (λ j. replacing (d .now .bundle j) first Γ (d .results j)) opened
+                subst (λ (o : unlimited.OpenedContext). OpenOutcome o w2 r2) (λ j. replacing (d .now .bundle j) first Γ (d .results j)) opened
 
             -- there was no room for it
             pub let-closed : r2 ≡ Opened.Full → TermGives w s n Γ h t w2 s1 Visited.Full

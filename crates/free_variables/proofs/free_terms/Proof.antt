@@ -7,7 +7,7 @@ use mathlib.Core.Path.{_≡_, refl, _∙_}
 use lib.ListN.{length}
 use Rattle.bundle.specs.File.{bundleAt}
 use Rattle.bundle.proofs.Fields.{record-within}
-use Rattle.unions.specs.Put.{Room, Below}
+use Rattle.unions.specs.Put.{SetRoom, SetsBelow}
 use Rattle.unions.specs.Unions.{Unions}
 use Rattle.unions.proofs.Unions.{below-none, below-on, unions-later}
 use Rattle.free_variables.proofs.free_terms.Statement.{statement}
@@ -16,7 +16,7 @@ use Rattle.free_variables.proofs.free_terms.Tie as tie
 abbrev Inv-loop : tie.InvT-loop
 Inv-loop file b area₀ n lists₀ marks₀ terms t₀ area lists marks t =
     (t ≤ b .terms + 1) × (length area ≡ length area₀) × (length lists ≡ length lists₀) × (length marks ≡ length marks₀)
-    × Below area n t (bundleAt file b) × Unions (bundleAt file b) n t lists marks
+    × SetsBelow area n t (bundleAt file b) × Unions (bundleAt file b) n t lists marks
 
 abbrev μ-loop : tie.MeasureT-loop
 μ-loop file b area₀ n lists₀ marks₀ terms t₀ area lists marks t = b .terms + 1 - t
@@ -55,7 +55,7 @@ loop-again c =
     let l = c .before .before .before .before .before .before .before .before .before .before .before .loop in
     let B = bundleAt (a .file .now) (a .b) in
     let put = c .before .before .before .before .before .before .free-term .ensures .0 in
-    let room : Room (l .area) (a .n) (l .t) (a .n * (l .t - 1)) = record { one = l .inv .4 .one; start = refl; room = omega (arith, record-within (a .n) (a .b .terms) (l .t) (λ z. omega (arith, l .inv .4 .one)) (c .before .before .before .before .before .before .before .before .before .before .loop-test .taken), c .before .before .before .before .before .before .before .before .before .before .before .before .before .before .before .before .pre .2, l .inv .1) } in (
+    let room : SetRoom (l .area) (a .n) (l .t) (a .n * (l .t - 1)) = record { one = l .inv .4 .one; start = refl; room = omega (arith, record-within (a .n) (a .b .terms) (l .t) (λ z. omega (arith, l .inv .4 .one)) (c .before .before .before .before .before .before .before .before .before .before .loop-test .taken), c .before .before .before .before .before .before .before .before .before .before .before .before .before .before .before .before .pre .2, l .inv .1) } in (
       omega (arith, c .before .before .before .before .before .before .before .before .before .before .loop-test .taken),
       put .kept .long ∙ l .inv .1,
       search needs,

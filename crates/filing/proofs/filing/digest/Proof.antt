@@ -1,7 +1,7 @@
 -- `filing::digest` meets its contract: the definition, on the fields that the readers give.
 use borrow.Author.Needs.{needs}
 use borrow.Author.Tests.{eq-eqb, ne-eqb}
-use Rattle.filing.specs.Filing.{mixAll, digestOf}
+use Rattle.filing.specs.Filing.{mixAll, lookupDigest}
 use Rattle.filing.proofs.filing.digest.Statement.{statement}
 use Rattle.filing.proofs.filing.digest.Tie as tie
 
@@ -21,14 +21,14 @@ mixed-items-requires : tie.Need-mixed-items-requires
 mixed-items-requires c κs = search needs
 
 returns : tie.Need-returns
-unfolding digestOf
+unfolding lookupDigest
 returns c = (
   rw (← c .before .before .before .before .before .term-field .ensures .0, ← c .before .before .before .before .term-field2 .ensures .0, ← c .before .before .before .term-field3 .ensures .0, eq-eqb _ 2 (c .before .if1 .taken), ← c .before .before .root-digest .ensures .0) (c .mixed-items .ensures .0),
   c .mixed-items .ensures .1,
 )
 
 returns-2 : tie.Need-returns-2
-unfolding digestOf mixAll
+unfolding lookupDigest mixAll
 returns-2 c = (rw (← c .before .before .before .before .term-field .ensures .0, ← c .before .before .before .term-field2 .ensures .0, ne-eqb _ 2 (c .if1 .left)) (c .before .root-digest .ensures .0), c .before .root-digest .ensures .1)
 
 pub digest-spec : {M : Type 1} → statement M

@@ -6,14 +6,14 @@ use mathlib.Core.Path.{_≡_, _∙_, sym, subst}
 use mathlib.Core.List.{List}
 use lib.ListN.{length}
 use Rattle.scratch.specs.Scratch.{bundleIn}
-use Rattle.filing.specs.Filing.{Filed}
+use Rattle.filing.specs.Filing.{FiledTo}
 use Rattle.scratch.proofs.ScratchFields.{terms-length}
 use Rattle.filing.proofs.Filed.{formed-digested, filed-none, filed-on}
 use Rattle.filing.proofs.filing.file_terms.Statement.{statement}
 use Rattle.filing.proofs.filing.file_terms.Tie as tie
 
 abbrev Inv-loop : tie.InvT-loop
-Inv-loop words c index₀ terms t₀ index t = (1 ≤ t) × (t ≤ terms + 1) × Filed (bundleIn words c) index (t - 1)
+Inv-loop words c index₀ terms t₀ index t = (1 ≤ t) × (t ≤ terms + 1) × FiledTo (bundleIn words c) index (t - 1)
 
 abbrev μ-loop : tie.MeasureT-loop
 μ-loop words c index₀ terms t₀ index t = terms + 1 - t
@@ -22,7 +22,7 @@ loop-holds : tie.Need-loop-holds Inv-loop μ-loop
 loop-holds c =
     let a = c .before .args in
     let z = c .before .pre .2 in
-    (omega arith, omega arith, subst (λ (ix : List ℕ). Filed (bundleIn (a .words .now) (a .c)) ix 0) (sym z) (filed-none (bundleIn (a .words .now) (a .c))))
+    (omega arith, omega arith, subst (λ (ix : List ℕ). FiledTo (bundleIn (a .words .now) (a .c)) ix 0) (sym z) (filed-none (bundleIn (a .words .now) (a .c))))
 
 digest-requires : tie.Need-digest-requires Inv-loop μ-loop
 digest-requires c κs = search needs
@@ -48,7 +48,7 @@ loop-again c =
     (d .ensures .1) (omega (arith, c .before .before .before .before .before .before .pre .0 .within .terms)) in (
       omega arith,
       omega arith,
-      subst (Filed b (c .file-term .last .0)) (sym e) (subst (λ (ix : List ℕ). Filed b ix (l .t)) (sym (c .file-term .ensures)) filed),
+      subst (FiledTo b (c .file-term .last .0)) (sym e) (subst (λ (ix : List ℕ). FiledTo b ix (l .t)) (sym (c .file-term .ensures)) filed),
     )
 
 returns : tie.Need-returns Inv-loop μ-loop
@@ -56,7 +56,7 @@ returns c =
     let a = c .before .before .before .args in
     let l = c .before .loop in
     let e : l .t - 1 ≡ length (bundleIn (a .words .now) (a .c) .terms) = omega (arith, terms-length (a .words .now) (a .c)) in
-    subst (Filed (bundleIn (a .words .now) (a .c)) (l .index)) e (l .inv .2)
+    subst (FiledTo (bundleIn (a .words .now) (a .c)) (l .index)) e (l .inv .2)
 
 pub file-terms-spec : {M : Type 1} → statement M
 file-terms-spec =

@@ -10,7 +10,7 @@ use Rattle.bundle.specs.Links.{items}
 use Rattle.bundle.specs.File.{bundleAt}
 use Rattle.bundle.specs.Lists.{sameList}
 use Rattle.bundle.proofs.Walks.{walk-le, walk-up, walk-nil, walk-cons, walk-some, walk-length}
-use Rattle.sorting.specs.Notes.{Fits}
+use Rattle.sorting.specs.Notes.{SortsFit}
 use Rattle.sorting.proofs.NoteLaws.{OnWay, way-start, way-on, way-end}
 use Rattle.sorting.proofs.SortLists.{termSorts, ended, short, differs, on}
 use Rattle.sorting.proofs.sorts.far_sorts.Statement.{statement}
@@ -20,13 +20,13 @@ abbrev Inv-loop : tie.InvT-loop
 Inv-loop file b sorts fitting₀ list terms i₀ j₀ fitting i j =
     (i ≤ b .links) × (j ≤ b .links) × (length fitting ≡ length fitting₀)
     × (sameList (items (bundleAt file b) list) (termSorts file b terms) ≡ sameList (items (bundleAt file b) i) (termSorts file b j))
-    × OnWay (Fits file b) fitting i j
+    × OnWay (SortsFit file b) fitting i j
 
 abbrev μ-loop : tie.MeasureT-loop
 μ-loop file b sorts fitting₀ list terms i₀ j₀ fitting i j = length (items (bundleAt file b) i)
 
 loop-holds : tie.Need-loop-holds Inv-loop μ-loop
-loop-holds c = (c .before .before .before .pre .3, c .before .before .before .pre .4, refl, refl, way-start (Fits (c .before .before .before .args .file .now) (c .before .before .before .args .b)) (c .before .before .before .args .b .links) (c .before .before .before .args .fitting .now) (c .before .before .before .args .list) (c .before .before .before .args .terms) (c .before .before .before .pre .2))
+loop-holds c = (c .before .before .before .pre .3, c .before .before .before .pre .4, refl, refl, way-start (SortsFit (c .before .before .before .args .file .now) (c .before .before .before .args .b)) (c .before .before .before .args .b .links) (c .before .before .before .args .fitting .now) (c .before .before .before .args .list) (c .before .before .before .args .terms) (c .before .before .before .pre .2))
 
 same-length : tie.Need-same-length Inv-loop μ-loop
 same-length c = c .before .before .loop .inv .2
@@ -55,8 +55,8 @@ returns-2 c =
     let l = c .before .before .before .before .before .loop in
     let here : l .j ≤ l .j = omega arith in
     let is = sym (c .before .wide .ensures) ∙ c .if2 .taken in
-    let good : Fits (a .file .now) (a .b) (l .i) (l .j) = rw is at (l .inv .4 .above (l .j) here (c .before .before .before .if1 .left) (λ z. c .before .before .before .before .loop-test .taken (sym is ∙ z))) in
-    (sym (l .inv .3 ∙ good), λ e. way-end (Fits (a .file .now) (a .b)) (a .b .links) (l .fitting) (l .i) (l .j) (l .inv .4) good (omega (arith, l .inv .2, c .before .before .before .before .before .before .before .before .before .pre .2 .enough)))
+    let good : SortsFit (a .file .now) (a .b) (l .i) (l .j) = rw is at (l .inv .4 .above (l .j) here (c .before .before .before .if1 .left) (λ z. c .before .before .before .before .loop-test .taken (sym is ∙ z))) in
+    (sym (l .inv .3 ∙ good), λ e. way-end (SortsFit (a .file .now) (a .b)) (a .b .links) (l .fitting) (l .i) (l .j) (l .inv .4) good (omega (arith, l .inv .2, c .before .before .before .before .before .before .before .before .before .pre .2 .enough)))
 
 cast-fitting : tie.Need-cast-fitting Inv-loop μ-loop
 cast-fitting c = omega (arith, c .before .before .before .before .before .loop .inv .0, c .before .before .before .before .before .before .before .before .before .pre .0 .within .links)
@@ -111,7 +111,7 @@ loop-again c =
       walk-le (a .file .now) (a .b) (l .j) (n .result) (n .ensures),
       length-set (l .fitting) (l .j) (l .i) ∙ l .inv .2,
       l .inv .3 ∙ same,
-      way-on (Fits (a .file .now) (a .b)) (l .fitting) (l .i) (l .j) (m .result) (n .result) (l .inv .4) (c .before .before .before .before .before .before .before .before .before .if1 .left) room
+      way-on (SortsFit (a .file .now) (a .b)) (l .fitting) (l .i) (l .j) (m .result) (n .result) (l .inv .4) (c .before .before .before .before .before .before .before .before .before .if1 .left) room
           (walk-up (a .file .now) (a .b) (l .j) (n .result) (n .ensures)) (λ e. same ∙ e),
     )
 
@@ -123,7 +123,7 @@ returns-4 c =
     let a = c .before .before .before .before .before .args in
     let l = c .before .loop in
     let end = ended (a .file .now) (a .b) (walk-nil (a .file .now) (a .b) (l .i) (c .loop-test .left)) (l .inv .1) in
-    (sym (l .inv .3 ∙ end), λ e. way-end (Fits (a .file .now) (a .b)) (a .b .links) (l .fitting) (l .i) (l .j) (l .inv .4) (end ∙ e) (omega (arith, l .inv .2, c .before .before .before .before .before .pre .2 .enough)))
+    (sym (l .inv .3 ∙ end), λ e. way-end (SortsFit (a .file .now) (a .b)) (a .b .links) (l .fitting) (l .i) (l .j) (l .inv .4) (end ∙ e) (omega (arith, l .inv .2, c .before .before .before .before .before .pre .2 .enough)))
 
 pub far-sorts-spec : {M : Type 1} → statement M
 far-sorts-spec =

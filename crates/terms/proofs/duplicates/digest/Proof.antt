@@ -1,6 +1,6 @@
 -- `duplicates::digest` meets its contract: the definition, on the fields that the readers give.
 use borrow.Author.Needs.{needs}
-use Rattle.terms.specs.Digests.{digestOf}
+use Rattle.terms.specs.Digests.{termDigest}
 use Rattle.terms.proofs.duplicates.digest.Statement.{statement}
 use Rattle.terms.proofs.duplicates.digest.Tie as tie
 
@@ -29,7 +29,7 @@ mixed-requires-2 : tie.Need-mixed-requires-2
 mixed-requires-2 c κs = search needs
 
 returns : tie.Need-returns
-unfolding digestOf
+unfolding termDigest
 returns c = (
   rw (
     ← c .before .before .before .before .before .before .before .term-field .ensures,

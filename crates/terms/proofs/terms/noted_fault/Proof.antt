@@ -9,8 +9,8 @@ use Rattle.bundle.specs.File.{bundleAt}
 use Rattle.bundle.proofs.Fields.{terms-length}
 use Rattle.logic.specs.Checks.{termFault, termsFault}
 use Rattle.logic.proofs.Firsts.{restFault, rest-start, rest-on, rest-here, rest-end}
-use Rattle.terms.specs.Digests.{Filed}
-use Rattle.sorting.specs.Notes.{AllTo, Fits, Lower, Fitting}
+use Rattle.terms.specs.Digests.{FiledBelow}
+use Rattle.sorting.specs.Notes.{AllTo, Fits, LowerNoted, Fitting}
 use Rattle.sorting.proofs.NoteLaws.{zeros, noted-none, lower-up}
 use Rattle.terms.proofs.Digests.{filed-none, filed-on}
 use Rattle.terms.proofs.terms.noted_fault.Statement.{statement}
@@ -18,9 +18,9 @@ use Rattle.terms.proofs.terms.noted_fault.Tie as tie
 
 abbrev Inv-loop : tie.InvT-loop
 Inv-loop file b sorts lower₀ fitting₀ next₀ terms heads₀ i₀ lower fitting next heads i =
-    (1 ≤ i) × (length heads ≡ 2048) × (length next ≡ length next₀) × Filed (bundleAt file b) heads next i
+    (1 ≤ i) × (length heads ≡ 2048) × (length next ≡ length next₀) × FiledBelow (bundleAt file b) heads next i
     × (termsFault (bundleAt file b) ≡ restFault (termFault (bundleAt file b)) (b .terms) i)
-    × Lower file b (i - 1) lower × Fitting file b fitting × (length lower ≡ length lower₀) × (length fitting ≡ length fitting₀)
+    × LowerNoted file b (i - 1) lower × Fitting file b fitting × (length lower ≡ length lower₀) × (length fitting ≡ length fitting₀)
 
 abbrev μ-loop : tie.MeasureT-loop
 μ-loop file b sorts lower₀ fitting₀ next₀ terms heads₀ i₀ lower fitting next heads i = b .terms + 1 - i
