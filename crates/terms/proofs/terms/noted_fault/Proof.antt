@@ -10,7 +10,7 @@ use Rattle.bundle.proofs.Fields.{terms-length}
 use Rattle.logic.specs.Checks.{termFault, termsFault}
 use Rattle.logic.proofs.Firsts.{restFault, rest-start, rest-on, rest-here, rest-end}
 use Rattle.terms.specs.Digests.{FiledBelow}
-use Rattle.sorting.specs.Notes.{AllTo, Fits, LowerNoted, Fitting}
+use Rattle.sorting.specs.Notes.{AllTo, SortsFit, LowerNoted, Fitting}
 use Rattle.sorting.proofs.NoteLaws.{zeros, noted-none, lower-up}
 use Rattle.terms.proofs.Digests.{filed-none, filed-on}
 use Rattle.terms.proofs.terms.noted_fault.Statement.{statement}
@@ -35,7 +35,7 @@ loop-holds c =
       filed-none _ _ _ (zeros 2048) (c .before .before .before .before .before .pre .7),
       rw terms-length (rest-start _ _),
       noted-none (AllTo (a .file .now) (a .b) 0) (a .b .links) (a .lower .now) (c .before .before .before .before .before .pre .3) (c .before .before .before .before .before .pre .2),
-      noted-none (Fits (a .file .now) (a .b)) (a .b .links) (a .fitting .now) (c .before .before .before .before .before .pre .5) (c .before .before .before .before .before .pre .4),
+      noted-none (SortsFit (a .file .now) (a .b)) (a .b .links) (a .fitting .now) (c .before .before .before .before .before .pre .5) (c .before .before .before .before .before .pre .4),
       refl,
       refl,
     )
