@@ -19,7 +19,7 @@ use Rattle.bundle.specs.Words.{encode}
 use Rattle.bundle.specs.Limits.{limits, headerWords, symbolsAt, variablesAt, termsAt, linksAt, contextsAt, stepsAt, bytesOf}
 use Rattle.bundle.specs.File.{tab, symbolFrom, linkFrom, termFrom, contextFrom, stepFrom}
 use Rattle.scratch.specs.Scratch.{wordIn, bundleIn, Roomy}
-use Rattle.scratch.proofs.Encoded.{encode-append}
+use Rattle.files.proofs.Encoded.{encode-append}
 use Rattle.scratch.proofs.ScratchFields.{symbols-length, variables-length, terms-length, links-length, contexts-length, steps-length, symbols-fit, variables-fit, terms-fit, links-fit, contexts-fit, steps-fit}
 use Rattle.expansion.specs.Visit.{claiming}
 use Rattle.expansion.specs.File.{flat, symbolWords, variableWords, termWords, linkWords, contextWords, stepWords, headerWordsOf, fileWords, fileOf}

@@ -18,7 +18,7 @@ use Rattle.bundle.specs.File.{tab, recordWord, symbolFrom, linkFrom, termFrom, 
 use Rattle.bundle.proofs.Fields.{record-within}
 use Rattle.scratch.specs.Scratch.{wordIn, bundleIn}
 use Rattle.scratch.proofs.Tabs.{tab-ext}
-use Rattle.scratch.proofs.Copied.{copied, getD-copied, getD-copied-below}
+use Rattle.files.proofs.Copied.{copied, getD-copied, getD-copied-below}
 use Rattle.files.proofs.SectionPlaces.{Apart, apart}
 
 -- ---- words

@@ -5,8 +5,8 @@ ghost use lib.ListN.{length};
 ghost use Rattle.bundle.specs.Limits.{limits, wordsOf};
 ghost use Rattle.bundle.specs.File.{Whole, bundleAt};
 ghost use Rattle.scratch.specs.Scratch.{bundleIn};
+use super::sections::copy_section;
 use bundle::Bundle;
-use scratch::sections::copy_section;
 
 // Copies the header and every section of the job into its place in the scratch.
 pub fn copy_job(job: &[u8], b: Bundle, words: &mut [u32])

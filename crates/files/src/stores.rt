@@ -9,9 +9,9 @@ ghost use Rattle.scratch.specs.Scratch.{bundleIn, Ready};
 ghost use Rattle.expansion.specs.Visit.{claiming};
 ghost use Rattle.expansion.specs.File.{fileOf};
 ghost use Rattle.files.specs.HeaderWritten.{HeaderWritten};
+use super::sections::store_section;
 use bundle::Bundle;
 use bundle::words::as_word;
-use scratch::sections::store_section;
 
 // Writes the header into the scratch: version, counts, claim.
 fn write_header(words: &mut [u32], c: Bundle, left: usize, right: usize)

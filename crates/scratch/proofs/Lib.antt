@@ -5,13 +5,9 @@
 --     Appended        words stored at the end of a section are a record appended
 --     Halves          the results, or the steps, of a part of the stack
 --     Pushed          a list of links appended one by one
---     Copied          words copied from a file
---     Encoded         words stored as bytes
 pub mod Tabs
 pub mod ScratchFields
 pub mod ScratchWalks
 pub mod Appended
 pub mod Halves
 pub mod Pushed
-pub mod Copied
-pub mod Encoded

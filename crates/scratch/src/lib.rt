@@ -3,4 +3,3 @@ pub mod records; // records.rt: the fields of a record
 pub mod lists; // lists.rt: walks of lists of links, and lists appended
 pub mod appends; // appends.rt: one record appended
 pub mod images; // images.rt: images of variables
-pub mod sections; // sections.rt: sections copied in from a file, and stored into a file

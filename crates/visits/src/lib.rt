@@ -1,3 +1,2 @@
 // The visits of the writer.
-pub mod closers; // closers.rt: what a visit opens and closes with
 pub mod visits; // visits.rt: the visit to a term and the visit to a list, which call on each other

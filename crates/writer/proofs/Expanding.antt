@@ -40,7 +40,7 @@ use Rattle.expansion.specs.Visit.{Visit, visit, visited, expanded, claiming}
 use Rattle.expansion.specs.File.{countsIn, fileOf}
 use Rattle.expansion.specs.Expansion.{longEnough, earlyTests, jobTests, jobFault, outcomeOf, expansion}
 use Rattle.expansion.specs.Demands.{LongEnough, Bytes}
-use Rattle.placing.specs.Outcomes.{Holds, TooMuch, VisitOutcome, done, full, Stands, TermAsks}
+use Rattle.placing.specs.Outcomes.{StandsFor, TooMuch, VisitOutcome, done, full, Stands, TermAsks}
 use Rattle.expansion.specs.AreasAfter.{Left, Stored}
 use Rattle.expansion.proofs.Files.{file-length}
 use Rattle.expansion.proofs.SmallWords.{file-small, expanded-small}
@@ -84,7 +84,7 @@ off false h = refl
 pub record Told (v : Visit) (w : List ℕ) (c : Counts) (x : ℕ) : Type 0 where
   pub counts : c ≡ countsIn (v .bundle)
   pub result : x ≡ v .result
-  pub holds : Holds w (v .bundle)
+  pub holds : StandsFor w (v .bundle)
 
 pub told-done : {v : Visit} {w : List ℕ} {r : Visited} → VisitOutcome v w r → {c : Counts} {x y : ℕ} → r ≡ Visited.Done c x y → Told v w c x
 told-done (done h e) k = record { counts = cc; result = cc; holds = h }

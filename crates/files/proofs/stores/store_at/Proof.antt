@@ -6,7 +6,7 @@ use native.Mathlib.Omega.{arith}
 use lib.ListN.{length, take, drop, length-drop}
 use lib.Seq.{length-take-le}
 use Rattle.bundle.specs.Words.{encode}
-use Rattle.scratch.proofs.Encoded.{encode-length}
+use Rattle.files.proofs.Encoded.{encode-length}
 use Rattle.files.proofs.FileStored.{part-stored}
 use Rattle.files.proofs.stores.store_at.Statement.{statement}
 use Rattle.files.proofs.stores.store_at.Tie as tie

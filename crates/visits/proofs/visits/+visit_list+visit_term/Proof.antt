@@ -23,12 +23,12 @@ use Rattle.visits.proofs.visits.+visit_list+visit_term.Lts-visit_term a
 use Rattle.scratch.proofs.lists.pack.Reads as pack-reads
 use Rattle.scratch.proofs.records.link_field.Reads as link-field-reads
 use Rattle.scratch.proofs.records.term_field.Reads as term-field-reads
-use Rattle.visits.proofs.closers.close_application.Reads as close-application-reads
-use Rattle.visits.proofs.closers.close_quantifier.Reads as close-quantifier-reads
-use Rattle.visits.proofs.closers.close_variable.Reads as close-variable-reads
-use Rattle.visits.proofs.closers.conclude.Reads as conclude-reads
-use Rattle.visits.proofs.closers.open_let.Reads as open-let-reads
-use Rattle.visits.proofs.closers.open_quantifier.Reads as open-quantifier-reads
+use Rattle.closers.proofs.close_application.Reads as close-application-reads
+use Rattle.closers.proofs.close_quantifier.Reads as close-quantifier-reads
+use Rattle.closers.proofs.close_variable.Reads as close-variable-reads
+use Rattle.closers.proofs.conclude.Reads as conclude-reads
+use Rattle.closers.proofs.open_let.Reads as open-let-reads
+use Rattle.closers.proofs.open_quantifier.Reads as open-quantifier-reads
 use Rattle.visits.proofs.visits.+visit_list+visit_term.{statement}
 use Rattle.visits.proofs.visits.+visit_list+visit_term.Tie.{close}
 

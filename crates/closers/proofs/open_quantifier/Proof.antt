@@ -9,8 +9,8 @@ use Rattle.expansion.specs.Visit.{newVariable}
 use Rattle.placing.proofs.CallOutcomes.{fresh-asks, renaming-on, renaming-full}
 use Rattle.placing.proofs.Indexes.{full-open, renaming-indexed}
 use borrow.Author.Needs.{needs}
-use Rattle.visits.proofs.closers.open_quantifier.Statement.{statement}
-use Rattle.visits.proofs.closers.open_quantifier.Tie as tie
+use Rattle.closers.proofs.open_quantifier.Statement.{statement}
+use Rattle.closers.proofs.open_quantifier.Tie as tie
 
 add-y : tie.Need-add-y
 add-y c = search needs

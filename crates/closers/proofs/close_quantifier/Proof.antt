@@ -6,8 +6,8 @@ use Rattle.scratch.specs.Scratch.{bundleIn}
 use Rattle.placing.proofs.CallOutcomes.{binder-of, binder-asks, concluded-on, concluded-full}
 use Rattle.placing.proofs.Indexes.{full-visit, step-indexed}
 use borrow.Author.Needs.{needs}
-use Rattle.visits.proofs.closers.close_quantifier.Statement.{statement}
-use Rattle.visits.proofs.closers.close_quantifier.Tie as tie
+use Rattle.closers.proofs.close_quantifier.Statement.{statement}
+use Rattle.closers.proofs.close_quantifier.Tie as tie
 
 place-binder-requires : tie.Need-place-binder-requires
 place-binder-requires c κs = search needs

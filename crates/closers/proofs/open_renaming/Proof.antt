@@ -3,8 +3,8 @@ use mathlib.Core.Path.{_∙_}
 use Rattle.scratch.specs.Scratch.{bundleIn}
 use Rattle.placing.proofs.CallOutcomes.{add-asks, fixed-asks, fixed-full, listed-full, opened-on}
 use borrow.Author.Needs.{needs}
-use Rattle.visits.proofs.closers.open_renaming.Statement.{statement}
-use Rattle.visits.proofs.closers.open_renaming.Tie as tie
+use Rattle.closers.proofs.open_renaming.Statement.{statement}
+use Rattle.closers.proofs.open_renaming.Tie as tie
 
 add-context-requires : tie.Need-add-context-requires
 add-context-requires c κs = search needs

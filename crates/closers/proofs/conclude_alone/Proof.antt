@@ -2,8 +2,8 @@
 use mathlib.Core.Path.{refl}
 use Rattle.placing.proofs.CallOutcomes.{no-list, step-on}
 use borrow.Author.Needs.{needs}
-use Rattle.visits.proofs.closers.conclude_alone.Statement.{statement}
-use Rattle.visits.proofs.closers.conclude_alone.Tie as tie
+use Rattle.closers.proofs.conclude_alone.Statement.{statement}
+use Rattle.closers.proofs.conclude_alone.Tie as tie
 
 add-step-requires : tie.Need-add-step-requires
 add-step-requires c κs = search needs

@@ -1,10 +1,10 @@
--- `closers::conclude` meets its contract: the list of premises, then the step.
+-- `closers::open_let` meets its contract: the list of terms, then the context.
 use mathlib.Core.Path.{_∙_}
 use native.Mathlib.Omega.{arith}
-use Rattle.placing.proofs.CallOutcomes.{add-asks, step-on, step-full}
+use Rattle.placing.proofs.CallOutcomes.{add-asks, context-on, context-full}
 use borrow.Author.Needs.{needs}
-use Rattle.visits.proofs.closers.conclude.Statement.{statement}
-use Rattle.visits.proofs.closers.conclude.Tie as tie
+use Rattle.closers.proofs.open_let.Statement.{statement}
+use Rattle.closers.proofs.open_let.Tie as tie
 
 add-halves-requires : tie.Need-add-halves-requires
 add-halves-requires c κs = search needs
@@ -15,11 +15,11 @@ enum-told c = search needs
 enum-known-listed : tie.Need-enum-known-listed
 enum-known-listed c = search needs
 
-add-step-requires : tie.Need-add-step-requires
-add-step-requires c κs =
+add-context-requires : tie.Need-add-context-requires
+add-context-requires c κs =
     let s = c .before .before .before .before .before .before .before .before .before .before in
     let k = add-asks (c .before .before .before .before .before .before .add-halves .ensures .1) (c .before .before .listed .given .1) in
-    (k .0, omega (arith, s .pre .1), s .pre .2, s .pre .3, s .pre .4, k .1)
+    (k .0, omega arith, s .pre .1, k .1, s .pre .2)
 
 same-length : tie.Need-same-length
 same-length c = search needs
@@ -28,7 +28,7 @@ returns : tie.Need-returns
 returns c =
     let a = c .before .before .before .before .before .before .before .before .args in
     let l = c .before .before .before .before .add-halves in
-    (l .ensures .0, step-full (l .ensures .1) (c .enum-told .given .1) (a .rule) (a .context) (a .left) (a .right))
+    (l .ensures .0, context-full (l .ensures .1) (c .enum-told .given .1) (a .variables) (a .parent))
 
 same-length-2 : tie.Need-same-length-2
 same-length-2 c = search needs
@@ -37,19 +37,17 @@ returns-2 : tie.Need-returns-2
 returns-2 c =
     let a = c .before .before .before .before .before .before .before .before .before .before .before .before .before .args in
     let l = c .before .before .before .before .before .before .before .before .before .add-halves in
-    let t = c .before .before .add-step in (
-      t .ensures .0 ∙ l .ensures .0,
-      step-on (l .ensures .1) (c .before .before .before .before .before .listed .given .1) (a .rule) (a .context) (a .left) (a .right) (t .ensures .1),
-    )
+    let t = c .before .before .add-context in
+    (t .ensures .0 ∙ l .ensures .0, context-on (l .ensures .1) (c .before .before .before .before .before .listed .given .1) (a .variables) (a .parent) (t .ensures .1))
 
-pub conclude-spec : {M : Type 1} → statement M
-conclude-spec =
+pub open-let-spec : {M : Type 1} → statement M
+open-let-spec =
     tie.close
     (tie.spec
     add-halves-requires
     enum-told
     enum-known-listed
-    add-step-requires
+    add-context-requires
     same-length
     returns
     same-length-2

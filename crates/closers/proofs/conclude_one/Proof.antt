@@ -3,8 +3,8 @@ use mathlib.Core.Path.{_∙_}
 use native.Mathlib.Omega.{arith}
 use Rattle.placing.proofs.CallOutcomes.{add-asks, step-on, step-full}
 use borrow.Author.Needs.{needs}
-use Rattle.visits.proofs.closers.conclude_one.Statement.{statement}
-use Rattle.visits.proofs.closers.conclude_one.Tie as tie
+use Rattle.closers.proofs.conclude_one.Statement.{statement}
+use Rattle.closers.proofs.conclude_one.Tie as tie
 
 add-value-requires : tie.Need-add-value-requires
 add-value-requires c κs = search needs

@@ -5,9 +5,9 @@ use Prim.Native.Nat.{_+_, _-_, _≤_, _<_}
 use native.Mathlib.Omega.{arith}
 use lib.ListN.{length, getD, drop, length-set, length-drop}
 use lib.Seq.{getD-drop}
-use Rattle.scratch.proofs.Encoded.{stored, stored-none, stored-more}
-use Rattle.scratch.proofs.sections.store_section.Statement.{statement}
-use Rattle.scratch.proofs.sections.store_section.Tie as tie
+use Rattle.files.proofs.Encoded.{stored, stored-none, stored-more}
+use Rattle.files.proofs.sections.store_section.Statement.{statement}
+use Rattle.files.proofs.sections.store_section.Tie as tie
 
 abbrev Inv-loop : tie.InvT-loop
 Inv-loop words from count part₀ i₀ part i =

@@ -5,8 +5,8 @@ use Rattle.scratch.specs.Scratch.{bundleIn}
 use Rattle.placing.proofs.ScratchOutcomes.{given-word}
 use Rattle.placing.proofs.CallOutcomes.{leaf-own, leaf-gives}
 use borrow.Author.Needs.{needs}
-use Rattle.visits.proofs.closers.close_variable.Statement.{statement}
-use Rattle.visits.proofs.closers.close_variable.Tie as tie
+use Rattle.closers.proofs.close_variable.Statement.{statement}
+use Rattle.closers.proofs.close_variable.Tie as tie
 
 image-in-requires : tie.Need-image-in-requires
 image-in-requires c κs = search needs

@@ -7,8 +7,8 @@ use Rattle.scratch.specs.Stack.{halves}
 use Rattle.placing.proofs.CallOutcomes.{application-asks, concluded-on, concluded-full}
 use Rattle.placing.proofs.Indexes.{full-visit, step-indexed}
 use borrow.Author.Needs.{needs}
-use Rattle.visits.proofs.closers.close_application.Statement.{statement}
-use Rattle.visits.proofs.closers.close_application.Tie as tie
+use Rattle.closers.proofs.close_application.Statement.{statement}
+use Rattle.closers.proofs.close_application.Tie as tie
 
 place-application-requires : tie.Need-place-application-requires
 place-application-requires c κs = search needs

@@ -3,9 +3,9 @@ use mathlib.Core.Path.{_≡_, refl}
 use Prim.Native.Nat.{_-_, _≤_}
 use native.Mathlib.Omega.{arith}
 use lib.ListN.{length, length-set}
-use Rattle.scratch.proofs.Copied.{copied, copied-none, copied-more}
-use Rattle.scratch.proofs.sections.copy_section.Statement.{statement}
-use Rattle.scratch.proofs.sections.copy_section.Tie as tie
+use Rattle.files.proofs.Copied.{copied, copied-none, copied-more}
+use Rattle.files.proofs.sections.copy_section.Statement.{statement}
+use Rattle.files.proofs.sections.copy_section.Tie as tie
 
 abbrev Inv-loop : tie.InvT-loop
 Inv-loop file from words₀ to count i₀ words i =

@@ -4,7 +4,7 @@ ghost use mathlib.Core.List.{_++_};
 ghost use Prim.Native.Nat.{ℕ, _+_, _*_, _/_, _%_, _≤_};
 ghost use lib.ListN.{length, take, drop};
 ghost use Rattle.bundle.specs.Words.{wordAt, encode};
-ghost use Rattle.scratch.specs.Copies.{wordsFrom};
+ghost use Rattle.files.specs.Copies.{wordsFrom};
 use bundle::words::as_word;
 use bundle::words::word_at;
 

@@ -12,7 +12,7 @@ use native.Mathlib.Omega.{arith}
 use lib.ListN.{length, getD, set, take, drop, length-append, length-drop, take-append-drop, List·getD-append}
 use lib.Seq.{length-take-le, drop-cons, set-at, getD-append-add, getD-take, getD-drop}
 use Rattle.bundle.specs.Words.{wordAt}
-use Rattle.scratch.specs.Copies.{wordsFrom}
+use Rattle.files.specs.Copies.{wordsFrom}
 
 pub length-wordsFrom : (f : List ℕ) (k n : ℕ) → length (wordsFrom f k n) ≡ n
 unfolding wordsFrom
