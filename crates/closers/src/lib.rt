@@ -15,9 +15,7 @@ ghost use Rattle.placing.specs.Outcomes.{VisitOutcome, OpenOutcome, VisitIndexe
 use bundle::Bundle;
 use filing::filing::DIGESTS;
 use logic::Image;
-use placing::Added;
-use placing::Opened;
-use placing::Placed;
+use placing::Recorded;
 use placing::Visited;
 use placing::add_context;
 use placing::add_halves;
@@ -60,10 +58,11 @@ fn conclude_one(
 {
     let listed = add_value(words, c, premise);
     match listed {
-        Added::Full => Visited::Full,
-        Added::Done { counts, start } => {
-            add_step(words, counts, rule, context, left, right, start)
-        }
+        Recorded::Full => Visited::Full,
+        Recorded::Done {
+            counts,
+            number: start,
+        } => { add_step(words, counts, rule, context, left, right, start) }
     }
 }
 
@@ -84,10 +83,11 @@ pub fn conclude(
 {
     let listed = add_halves(words, c, stack, false, from, to);
     match listed {
-        Added::Full => Visited::Full,
-        Added::Done { counts, start } => {
-            add_step(words, counts, rule, context, left, right, start)
-        }
+        Recorded::Full => Visited::Full,
+        Recorded::Done {
+            counts,
+            number: start,
+        } => { add_step(words, counts, rule, context, left, right, start) }
     }
 }
 
@@ -100,26 +100,32 @@ pub fn open_let(
     stack: &[u64],
     from: usize,
     to: usize,
-) -> Opened
+) -> Recorded
     requires { ⌜ Ready (now words) c × (variables ≤ 4294967295) × (parent ≤ 4294967295) × (from ≤ to) × (to ≤ length (now stack)) ⌝ }
     ensures { λ r. ⌜ (length (now (words .exit)) ≡ length (now (words .entry))) × OpenOutcome (replacing (bundleIn (now (words .entry)) c) variables parent (halves true (now (stack .entry)) from to)) (now (words .exit)) r ⌝ }
 {
     let listed = add_halves(words, c, stack, true, from, to);
     match listed {
-        Added::Full => Opened::Full,
-        Added::Done { counts, start } => add_context(words, counts, 2, variables, start, parent),
+        Recorded::Full => Recorded::Full,
+        Recorded::Done {
+            counts,
+            number: start,
+        } => add_context(words, counts, 2, variables, start, parent),
     }
 }
 
 // A context that replaces the variables of a list by one term.
-fn open_one(words: &mut [u32], c: Bundle, variables: usize, parent: usize, term: usize) -> Opened
+fn open_one(words: &mut [u32], c: Bundle, variables: usize, parent: usize, term: usize) -> Recorded
     requires { ⌜ Ready (now words) c × (variables ≤ 4294967295) × (parent ≤ 4294967295) × (term ≤ 4294967295) ⌝ }
     ensures { λ r. ⌜ (length (now (words .exit)) ≡ length (now (words .entry))) × OpenOutcome (replacing (bundleIn (now (words .entry)) c) variables parent (term ∷ [])) (now (words .exit)) r ⌝ }
 {
     let listed = add_value(words, c, term);
     match listed {
-        Added::Full => Opened::Full,
-        Added::Done { counts, start } => add_context(words, counts, 2, variables, start, parent),
+        Recorded::Full => Recorded::Full,
+        Recorded::Done {
+            counts,
+            number: start,
+        } => add_context(words, counts, 2, variables, start, parent),
     }
 }
 
@@ -159,10 +165,10 @@ pub fn close_application(
 {
     let placed = place_application(words, c, symbol, stack, from, to, index);
     match placed {
-        Placed::Full => Visited::Full,
-        Placed::Done {
+        Recorded::Full => Visited::Full,
+        Recorded::Done {
             counts,
-            term: right,
+            number: right,
         } => conclude(words, counts, 2, context, term, right, stack, from, to),
     }
 }
@@ -175,21 +181,24 @@ fn open_renaming(
     y: usize,
     t: usize,
     parent: usize,
-) -> Opened
+) -> Recorded
     requires { ⌜ Ready (now words) c × (x ≤ 4294967295) × (y ≤ 4294967295) × (t ≤ 4294967295) × (parent ≤ 4294967295) ⌝ }
     ensures { λ r. ⌜ (length (now (words .exit)) ≡ length (now (words .entry))) × OpenOutcome (renaming (bundleIn (now (words .entry)) c) x y t parent) (now (words .exit)) r ⌝ }
 {
     let fixed = add_context(words, c, 1, y, 0, parent);
     match fixed {
-        Opened::Full => Opened::Full,
-        Opened::Done {
+        Recorded::Full => Recorded::Full,
+        Recorded::Done {
             counts: with_y,
-            context,
+            number: context,
         } => {
             let listed = add_value(words, with_y, x);
             match listed {
-                Added::Full => Opened::Full,
-                Added::Done { counts, start } => open_one(words, counts, start, context, t),
+                Recorded::Full => Recorded::Full,
+                Recorded::Done {
+                    counts,
+                    number: start,
+                } => open_one(words, counts, start, context, t),
             }
         }
     }
@@ -202,15 +211,18 @@ pub fn open_quantifier(
     x: usize,
     context: usize,
     index: &mut [u16; DIGESTS + Bundle::TERMS + 1],
-) -> Opened
+) -> Recorded
     requires { ⌜ Ready (now words) c × (x ≤ 4294967295) × (context ≤ 4294967295) × Indexed (bundleIn (now words) c) (now index) ⌝ }
     ensures { λ r. ⌜ (length (now (words .exit)) ≡ length (now (words .entry))) × OpenOutcome (openBinder (bundleIn (now (words .entry)) c) x context) (now (words .exit)) r × OpenIndexed (now (words .exit)) (now (index .exit)) r ⌝ }
 {
     let y = c.variables + 1;
     let placed = place_fresh(words, c, x, index);
     match placed {
-        Placed::Full => Opened::Full,
-        Placed::Done { counts, term } => open_renaming(words, counts, x, y, term, context),
+        Recorded::Full => Recorded::Full,
+        Recorded::Done {
+            counts,
+            number: term,
+        } => open_renaming(words, counts, x, y, term, context),
     }
 }
 
@@ -231,10 +243,10 @@ pub fn close_quantifier(
 {
     let placed = place_binder(words, c, kind, y, result, index);
     match placed {
-        Placed::Full => Visited::Full,
-        Placed::Done {
+        Recorded::Full => Visited::Full,
+        Recorded::Done {
             counts,
-            term: right,
+            number: right,
         } => conclude_one(words, counts, 4, context, term, right, step),
     }
 }

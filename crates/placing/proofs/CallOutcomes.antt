@@ -30,9 +30,7 @@ use Rattle.scratch.proofs.ScratchFields.{contexts-count}
 use Rattle.filing.proofs.Seeks.{seek-le}
 use Rattle.scratch.proofs.Pushed.{add-none}
 use Rattle.placing.specs.declared.Visited.{Visited}
-use Rattle.placing.specs.declared.Opened.{Opened}
-use Rattle.placing.specs.declared.Placed.{Placed}
-use Rattle.placing.specs.declared.Added.{Added}
+use Rattle.placing.specs.declared.Recorded.{Recorded}
 use Rattle.expansion.specs.Nodes.{leaf}
 use Rattle.expansion.specs.Visit.{Visit, placed, placeVariable, placeApplication, placeBinder, concluded, replacing, fixing, newVariable, fresh, renaming, visit}
 use Rattle.expansion.specs.Visit as unlimited
@@ -70,7 +68,7 @@ renaming-longer b x y t v = longer-trans (contexts-longer b _) (fixed-longer b x
 
 -- ---- after a list of values
 
-module _ {b : Bundle} {vs w : List ℕ} {a : Added} {c : Counts} {s : ℕ} (o : AddOutcome b vs w a) (e : a ≡ Added.Done c s) where
+module _ {b : Bundle} {vs w : List ℕ} {a : Recorded} {c : Counts} {s : ℕ} (o : AddOutcome b vs w a) (e : a ≡ Recorded.Done c s) where
   pub add-asks : Ready w c × (s ≤ 4294967295)
   add-asks = let k = add-done o e in (k .0 .ready, omega (arith, k .1, start-word w c b vs (k .0)))
 
@@ -81,7 +79,7 @@ module _ {b : Bundle} {vs w : List ℕ} {a : Added} {c : Counts} {s : ℕ} (o : 
         subst (λ (n : ℕ). VisitOutcome (stepped (addList b vs) u x l t n) w′ r) (k .1)
         (subst (λ (B : Bundle). VisitOutcome (stepped B u x l t s) w′ r) (k .0 .bundle) h)
 
-    pub context-on : {r : Opened} (x p : ℕ) → OpenOutcome (opened (bundleIn w c) (record { kind = 2; a = x; b = s; parent = p })) w′ r
+    pub context-on : {r : Recorded} (x p : ℕ) → OpenOutcome (opened (bundleIn w c) (record { kind = 2; a = x; b = s; parent = p })) w′ r
         → OpenOutcome (replacing b x p vs) w′ r
     context-on {r} x p h =
         let k = add-done o e in
@@ -89,7 +87,7 @@ module _ {b : Bundle} {vs w : List ℕ} {a : Added} {c : Counts} {s : ℕ} (o : 
         (subst (λ (B : Bundle). OpenOutcome (opened B (record { kind = 2; a = x; b = s; parent = p })) w′ r) (k .0 .bundle) h)
 
     -- m is what the lookup found: 0
-    pub term-on : {r : Placed} (f : ℕ → TermRecord) (n m : ℕ) → m ≡ n → m ≡ 0 → PlaceOutcome (termed (bundleIn w c) (f s)) w′ r
+    pub term-on : {r : Recorded} (f : ℕ → TermRecord) (n m : ℕ) → m ≡ n → m ≡ 0 → PlaceOutcome (termed (bundleIn w c) (f s)) w′ r
         → PlaceOutcome (placed b vs f n) w′ r
     term-on {r} f n m d z h =
         let k = add-done o e in
@@ -97,32 +95,32 @@ module _ {b : Bundle} {vs w : List ℕ} {a : Added} {c : Counts} {s : ℕ} (o : 
         (subst (λ (i : ℕ). PlaceOutcome (termed (addList b vs) (f i)) w′ r) (k .1)
         (subst (λ (B : Bundle). PlaceOutcome (termed B (f s)) w′ r) (k .0 .bundle) h))
 
-module _ {b : Bundle} {vs w : List ℕ} {a : Added} (o : AddOutcome b vs w a) (e : a ≡ Added.Full) {w′ : List ℕ} where
+module _ {b : Bundle} {vs w : List ℕ} {a : Recorded} (o : AddOutcome b vs w a) (e : a ≡ Recorded.Full) {w′ : List ℕ} where
   pub step-full : (u x l t : ℕ) → VisitOutcome (concluded b u x l t vs) w′ Visited.Full
   step-full u x l t = VisitOutcome.full (longer-over (steps-longer (addList b vs) _) (add-full o e)) refl
 
-  pub context-full : (x p : ℕ) → OpenOutcome (replacing b x p vs) w′ Opened.Full
+  pub context-full : (x p : ℕ) → OpenOutcome (replacing b x p vs) w′ Recorded.Full
   context-full x p = OpenOutcome.full (longer-over (contexts-longer (addList b vs) _) (add-full o e)) refl
 
-  pub term-full : (f : ℕ → TermRecord) (n m : ℕ) → m ≡ n → m ≡ 0 → PlaceOutcome (placed b vs f n) w′ Placed.Full
+  pub term-full : (f : ℕ → TermRecord) (n m : ℕ) → m ≡ n → m ≡ 0 → PlaceOutcome (placed b vs f n) w′ Recorded.Full
   term-full f n m d z =
-      subst (λ (i : ℕ). PlaceOutcome (placed b vs f i) w′ Placed.Full) (sym z ∙ d)
+      subst (λ (i : ℕ). PlaceOutcome (placed b vs f i) w′ Recorded.Full) (sym z ∙ d)
       (PlaceOutcome.full (longer-over (terms-longer (addList b vs) _) (add-full o e)) refl)
 
 -- ---- no list, no new term
 
-pub no-list : {w : List ℕ} {c : Counts} → Ready w c → AddOutcome (bundleIn w c) [] w (Added.Done c 0)
+pub no-list : {w : List ℕ} {c : Counts} → Ready w c → AddOutcome (bundleIn w c) [] w (Recorded.Done c 0)
 no-list {w} {c} r = add-is w c (r .room) (r .version) (bundleIn w c) [] 0 (sym (add-none (bundleIn w c))) refl
 
 -- m is what the lookup found, a term
 pub found-is : {w : List ℕ} {c : Counts} → Ready w c → (vs : List ℕ) (f : ℕ → TermRecord) (n m : ℕ) → m ≡ n → (m ≡ 0 → ⊥)
-    → PlaceOutcome (placed (bundleIn w c) vs f n) w (Placed.Done c m)
+    → PlaceOutcome (placed (bundleIn w c) vs f n) w (Recorded.Done c m)
 found-is r vs f zero m e h = absurd (h e)
 found-is {w} {c} r vs f (suc n) m e h = place-is w c (r .room) (r .version) (placed (bundleIn w c) vs f (suc n)) m refl e
 
 -- ---- after a term
 
-module _ {p : unlimited.PlacedTerm} {w : List ℕ} {a : Placed} {c : Counts} {t : ℕ} (o : PlaceOutcome p w a) (e : a ≡ Placed.Done c t) {w′ : List ℕ} where
+module _ {p : unlimited.PlacedTerm} {w : List ℕ} {a : Recorded} {c : Counts} {t : ℕ} (o : PlaceOutcome p w a) (e : a ≡ Recorded.Done c t) {w′ : List ℕ} where
   pub concluded-on : {r : Visited} (u x l : ℕ) (vs : List ℕ) → VisitOutcome (concluded (bundleIn w c) u x l t vs) w′ r
       → VisitOutcome (concluded (p .bundle) u x l (p .term) vs) w′ r
   concluded-on {r} u x l vs h =
@@ -130,7 +128,7 @@ module _ {p : unlimited.PlacedTerm} {w : List ℕ} {a : Placed} {c : Counts} {t 
       subst (λ (n : ℕ). VisitOutcome (concluded (p .bundle) u x l n vs) w′ r) (k .1)
       (subst (λ (B : Bundle). VisitOutcome (concluded B u x l t vs) w′ r) (k .0 .bundle) h)
 
-  pub renaming-on : {r : Opened} (x y z v : ℕ) → y ≡ z → OpenOutcome (renaming (bundleIn w c) x y t v) w′ r
+  pub renaming-on : {r : Recorded} (x y z v : ℕ) → y ≡ z → OpenOutcome (renaming (bundleIn w c) x y t v) w′ r
       → OpenOutcome (renaming (p .bundle) x z (p .term) v) w′ r
   renaming-on {r} x y z v d h =
       let k = place-done o e in
@@ -138,11 +136,11 @@ module _ {p : unlimited.PlacedTerm} {w : List ℕ} {a : Placed} {c : Counts} {t 
       (subst (λ (i : ℕ). OpenOutcome (renaming (p .bundle) x y i v) w′ r) (k .1)
       (subst (λ (B : Bundle). OpenOutcome (renaming B x y t v) w′ r) (k .0 .bundle) h))
 
-module _ {p : unlimited.PlacedTerm} {w : List ℕ} {a : Placed} (o : PlaceOutcome p w a) (e : a ≡ Placed.Full) {w′ : List ℕ} where
+module _ {p : unlimited.PlacedTerm} {w : List ℕ} {a : Recorded} (o : PlaceOutcome p w a) (e : a ≡ Recorded.Full) {w′ : List ℕ} where
   pub concluded-full : (u x l t : ℕ) (vs : List ℕ) → VisitOutcome (concluded (p .bundle) u x l t vs) w′ Visited.Full
   concluded-full u x l t vs = VisitOutcome.full (longer-over (concluded-longer (p .bundle) u x l t vs) (place-full o e)) refl
 
-  pub renaming-full : (x y t v : ℕ) → OpenOutcome (renaming (p .bundle) x y t v) w′ Opened.Full
+  pub renaming-full : (x y t v : ℕ) → OpenOutcome (renaming (p .bundle) x y t v) w′ Recorded.Full
   renaming-full x y t v = OpenOutcome.full (longer-over (renaming-longer (p .bundle) x y t v) (place-full o e)) refl
 
 -- ---- Variable
@@ -160,12 +158,12 @@ module _ (b : Bundle) (x t y : ℕ) {w : List ℕ} {r : Visited} where
 
 -- w and c are those after the variable y, of sort s, was appended
 pub fresh-on : (w : List ℕ) (c : Counts) (b : Bundle) (x s y : ℕ) → bundleIn w c ≡ withVariables b (s ∷ []) → s ≡ sortOfVariable b x → y ≡ newVariable b
-    → {w′ : List ℕ} {r : Placed} → PlaceOutcome (placeVariable (bundleIn w c) y) w′ r → PlaceOutcome (fresh b x) w′ r
+    → {w′ : List ℕ} {r : Recorded} → PlaceOutcome (placeVariable (bundleIn w c) y) w′ r → PlaceOutcome (fresh b x) w′ r
 fresh-on w c b x s y e d n {w′} {r} o =
     subst (λ (i : ℕ). PlaceOutcome (placeVariable (withVariables b (sortOfVariable b x ∷ [])) i) w′ r) n
     (subst (λ (B : Bundle). PlaceOutcome (placeVariable B y) w′ r) (e ∙ ap (λ (i : ℕ). withVariables b (i ∷ [])) d) o)
 
-pub variable-full : (w : List ℕ) (c : Counts) (x : ℕ) → 64 ≤ c .variables → {w′ : List ℕ} → PlaceOutcome (fresh (bundleIn w c) x) w′ Placed.Full
+pub variable-full : (w : List ℕ) (c : Counts) (x : ℕ) → 64 ≤ c .variables → {w′ : List ℕ} → PlaceOutcome (fresh (bundleIn w c) x) w′ Recorded.Full
 variable-full w c x l =
     let b : Bundle = bundleIn w c in
     let v : Bundle = withVariables b (sortOfVariable b x ∷ []) in
@@ -174,11 +172,11 @@ variable-full w c x l =
 -- ---- the contexts of a quantifier
 
 -- w, c and i are what fixing y left
-module _ (b : Bundle) (y v : ℕ) {w : List ℕ} {a : Opened} (o : OpenOutcome (fixing b y v) w a) where
-  pub fixed-full : a ≡ Opened.Full → (x t : ℕ) {w′ : List ℕ} → OpenOutcome (renaming b x y t v) w′ Opened.Full
+module _ (b : Bundle) (y v : ℕ) {w : List ℕ} {a : Recorded} (o : OpenOutcome (fixing b y v) w a) where
+  pub fixed-full : a ≡ Recorded.Full → (x t : ℕ) {w′ : List ℕ} → OpenOutcome (renaming b x y t v) w′ Recorded.Full
   fixed-full e x t = OpenOutcome.full (longer-over (fixed-longer b x y t v) (open-full o e)) refl
 
-  module _ {c : Counts} {i : ℕ} (e : a ≡ Opened.Done c i) where
+  module _ {c : Counts} {i : ℕ} (e : a ≡ Recorded.Done c i) where
     pub fixed-asks : Ready w c × (i ≤ 4294967295)
     fixed-asks =
         let k = open-done o e in (
@@ -187,14 +185,14 @@ module _ (b : Bundle) (y v : ℕ) {w : List ℕ} {a : Opened} (o : OpenOutcome (
         )
 
     -- w₂, d and s are what the list of x left
-    module _ (x t : ℕ) {w₂ : List ℕ} {g : Added} (h : AddOutcome (bundleIn w c) (x ∷ []) w₂ g) {w′ : List ℕ} where
-      pub listed-full : g ≡ Added.Full → OpenOutcome (renaming b x y t v) w′ Opened.Full
+    module _ (x t : ℕ) {w₂ : List ℕ} {g : Recorded} (h : AddOutcome (bundleIn w c) (x ∷ []) w₂ g) {w′ : List ℕ} where
+      pub listed-full : g ≡ Recorded.Full → OpenOutcome (renaming b x y t v) w′ Recorded.Full
       listed-full z =
           OpenOutcome.full
           (longer-over (listed-longer b x y t v) (subst (λ (B : Bundle). TooMuch (addList B (x ∷ []))) (open-done o e .0 .bundle) (add-full h z)))
           refl
 
-      pub opened-on : {d : Counts} {s : ℕ} → g ≡ Added.Done d s → {r : Opened} → OpenOutcome (replacing (bundleIn w₂ d) s i (t ∷ [])) w′ r
+      pub opened-on : {d : Counts} {s : ℕ} → g ≡ Recorded.Done d s → {r : Recorded} → OpenOutcome (replacing (bundleIn w₂ d) s i (t ∷ [])) w′ r
           → OpenOutcome (renaming b x y t v) w′ r
       opened-on {d} {s} z {r} q =
           let k = open-done o e in
@@ -207,18 +205,18 @@ module _ (b : Bundle) (y v : ℕ) {w : List ℕ} {a : Opened} (o : OpenOutcome (
 
 -- ---- terms placed are words of 32 bits
 
-module _ (b : Bundle) {w : List ℕ} {a : Placed} {c : Counts} {n : ℕ} where
-  pub application-asks : (f : ℕ) (vs : List ℕ) → PlaceOutcome (placeApplication b f vs) w a → a ≡ Placed.Done c n → Ready w c × (n ≤ 4294967295)
+module _ (b : Bundle) {w : List ℕ} {a : Recorded} {c : Counts} {n : ℕ} where
+  pub application-asks : (f : ℕ) (vs : List ℕ) → PlaceOutcome (placeApplication b f vs) w a → a ≡ Recorded.Done c n → Ready w c × (n ≤ 4294967295)
   application-asks f vs o e =
       let k = place-done o e in
       (k .0 .ready, omega (arith, k .1, placed-word w c b vs (λ s. record { kind = 2; a = f; b = s; c = 0 }) (seek (sameApplication b f vs) (b .terms)) (seek-le (sameApplication b f vs) (b .terms)) (k .0)))
 
-  pub binder-asks : (q : Binder) (y t : ℕ) → PlaceOutcome (placeBinder b q y t) w a → a ≡ Placed.Done c n → Ready w c × (n ≤ 4294967295)
+  pub binder-asks : (q : Binder) (y t : ℕ) → PlaceOutcome (placeBinder b q y t) w a → a ≡ Recorded.Done c n → Ready w c × (n ≤ 4294967295)
   binder-asks q y t o e =
       let k = place-done o e in
       (k .0 .ready, omega (arith, k .1, placed-word w c b [] (λ s. record { kind = numberOf (binder q); a = y; b = t; c = 0 }) (seek (sameBinder q y t) (b .terms)) (seek-le (sameBinder q y t) (b .terms)) (k .0)))
 
-  pub fresh-asks : (x : ℕ) → PlaceOutcome (fresh b x) w a → a ≡ Placed.Done c n → Ready w c × (n ≤ 4294967295)
+  pub fresh-asks : (x : ℕ) → PlaceOutcome (fresh b x) w a → a ≡ Recorded.Done c n → Ready w c × (n ≤ 4294967295)
   fresh-asks x o e =
       let k = place-done o e in
       let v : Bundle = withVariables b (sortOfVariable b x ∷ []) in

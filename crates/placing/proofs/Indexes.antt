@@ -17,9 +17,7 @@ use Rattle.filing.specs.Filing.{mixAll, rootDigest, lookupDigest, Digested, Fil
 use Rattle.filing.proofs.Filed.{plain-digested, application-digested, filed-on, filed-longer, indexed-on}
 use Rattle.placing.specs.declared.Visited.{Visited}
 use Rattle.placing.specs.declared.Listed.{Listed}
-use Rattle.placing.specs.declared.Opened.{Opened}
-use Rattle.placing.specs.declared.Placed.{Placed}
-use Rattle.placing.specs.declared.Added.{Added}
+use Rattle.placing.specs.declared.Recorded.{Recorded}
 use Rattle.expansion.specs.Nodes.{leaf}
 use Rattle.expansion.specs.Visit as unlimited
 use Rattle.expansion.specs.Visit.{concluded, replacing, renaming, visit}
@@ -34,7 +32,7 @@ use Rattle.placing.proofs.OutcomeFacts.{visit-done, open-done}
 same-counts : (w : List ℕ) {ix : List ℕ} {c d : Counts} → c ≡ d → Indexed (bundleIn w c) ix → Indexed (bundleIn w d) ix
 same-counts w {ix} e indexed = subst (λ (k : Counts). Indexed (bundleIn w k) ix) e indexed
 
-pub place-holds : {w ix : List ℕ} {c : Counts} {t : ℕ} → Indexed (bundleIn w c) ix → PlaceIndexed w ix (Placed.Done c t)
+pub place-holds : {w ix : List ℕ} {c : Counts} {t : ℕ} → Indexed (bundleIn w c) ix → PlaceIndexed w ix (Recorded.Done c t)
 place-holds {w} indexed = record { held = λ d n e. same-counts w (cc) indexed }
 
 pub list-holds : {w ix : List ℕ} {c : Counts} {h : ℕ} → Indexed (bundleIn w c) ix → ListIndexed w ix (Listed.Done c h)
@@ -46,10 +44,10 @@ module _ {w ix : List ℕ} where
   pub full-visit : VisitIndexed w ix Visited.Full
   full-visit = record { held = λ c t s e. let z : _≡_ {A = ℕ} 0 1 = cc in absurd (omega arith) }
 
-  pub full-open : OpenIndexed w ix Opened.Full
+  pub full-open : OpenIndexed w ix Recorded.Full
   full-open = record { held = λ c n e. let z : _≡_ {A = ℕ} 0 1 = cc in absurd (omega arith) }
 
-  pub full-place : PlaceIndexed w ix Placed.Full
+  pub full-place : PlaceIndexed w ix Recorded.Full
   full-place = record { held = λ c t e. let z : _≡_ {A = ℕ} 0 1 = cc in absurd (omega arith) }
 
   pub full-list : ListIndexed w ix Listed.Full
@@ -65,7 +63,7 @@ module _ {b : Bundle} {ix : List ℕ} (indexed : Indexed b ix) where
   variable-indexed w c s e = still w c (variables-longer b (s ∷ [])) refl e
 
   module _ {w : List ℕ} where
-    pub list-indexed : {vs : List ℕ} {a : Added} {c : Counts} {s : ℕ} → AddOutcome b vs w a → a ≡ Added.Done c s → Indexed (bundleIn w c) ix
+    pub list-indexed : {vs : List ℕ} {a : Recorded} {c : Counts} {s : ℕ} → AddOutcome b vs w a → a ≡ Recorded.Done c s → Indexed (bundleIn w c) ix
     list-indexed {vs} {a} {c} o e = still w c (list-longer b vs) refl (add-done o e .0 .bundle)
 
     pub step-indexed : {r : Visited} (u x l t : ℕ) (vs : List ℕ) → VisitOutcome (concluded b u x l t vs) w r → VisitIndexed w ix r
@@ -75,10 +73,10 @@ module _ {b : Bundle} {ix : List ℕ} (indexed : Indexed b ix) where
     unfolding visit
     leaf-indexed t y x o = record { held = λ c n s e. still w c (visit-longer (leaf t y) x b) refl (visit-done o e .now .bundle) }
 
-    pub let-indexed : {r : Opened} (x p : ℕ) (vs : List ℕ) → OpenOutcome (replacing b x p vs) w r → OpenIndexed w ix r
+    pub let-indexed : {r : Recorded} (x p : ℕ) (vs : List ℕ) → OpenOutcome (replacing b x p vs) w r → OpenIndexed w ix r
     let-indexed x p vs o = record { held = λ c n e. still w c (replacing-longer b x p vs) refl (open-done o e .now .bundle) }
 
-    pub renaming-indexed : {r : Opened} (x y t v : ℕ) → OpenOutcome (renaming b x y t v) w r → OpenIndexed w ix r
+    pub renaming-indexed : {r : Recorded} (x y t v : ℕ) → OpenOutcome (renaming b x y t v) w r → OpenIndexed w ix r
     renaming-indexed x y t v o = record { held = λ c n e. still w c (renaming-longer b x y t v) refl (open-done o e .now .bundle) }
 
 -- ---- a term was appended, and filed
@@ -87,7 +85,7 @@ pub plain-filed : (b : Bundle) (k f x d : ℕ) → (k ≡ 2 → ⊥) → d ≡ r
 plain-filed b k f x d h e B more = plain-digested b (record { kind = k; a = f; b = x; c = 0 }) h B more ∙ sym e
 
 -- w and c are those after the list was appended, and s is where it starts
-pub application-filed : {b : Bundle} {vs w : List ℕ} {a : Added} {c : Counts} {s : ℕ} → AddOutcome b vs w a → a ≡ Added.Done c s
+pub application-filed : {b : Bundle} {vs w : List ℕ} {a : Recorded} {c : Counts} {s : ℕ} → AddOutcome b vs w a → a ≡ Recorded.Done c s
     → (f d : ℕ) → d ≡ mixAll (rootDigest 2 f) vs → Digested (bundleIn w c) (record { kind = 2; a = f; b = s; c = 0 }) d
 application-filed {b} {vs} {w} {a} {c} {s} o e f d own B more =
     let k = add-done o e in

@@ -23,7 +23,7 @@ use Rattle.scratch.specs.Stack.{halves}
 use Rattle.scratch.proofs.ScratchFields.{symbols-length, variables-length, terms-length, links-length, contexts-length, steps-length, step-is}
 use Rattle.placing.specs.declared.Visited.{Visited}
 use Rattle.placing.specs.declared.Listed.{Listed}
-use Rattle.placing.specs.declared.Opened.{Opened}
+use Rattle.placing.specs.declared.Recorded.{Recorded}
 use Rattle.expansion.specs.Visit as unlimited
 use Rattle.expansion.specs.Visit.{Visit, Visits}
 use Rattle.expansion.specs.File.{countsIn}
@@ -63,11 +63,11 @@ pub record OpenDone (o : unlimited.OpenedContext) (w : List ℕ) (n : Counts) (�
   pub now : StandFor (o .bundle) w n
   pub context : Γ ≡ o .context
 
-pub open-done : {o : unlimited.OpenedContext} {w : List ℕ} {r : Opened} {n : Counts} {Γ : ℕ} → OpenOutcome o w r → r ≡ Opened.Done n Γ → OpenDone o w n Γ
+pub open-done : {o : unlimited.OpenedContext} {w : List ℕ} {r : Recorded} {n : Counts} {Γ : ℕ} → OpenOutcome o w r → r ≡ Recorded.Done n Γ → OpenDone o w n Γ
 open-done (OpenOutcome.done h e) t = record { now = stand-for h (cc); context = cc }
 open-done (OpenOutcome.full f e) t = let z : _≡_ {A = ℕ} 0 1 = cc in absurd (omega arith)
 
-pub open-full : {o : unlimited.OpenedContext} {w : List ℕ} {r : Opened} → OpenOutcome o w r → r ≡ Opened.Full → TooMuch (o .bundle)
+pub open-full : {o : unlimited.OpenedContext} {w : List ℕ} {r : Recorded} → OpenOutcome o w r → r ≡ Recorded.Full → TooMuch (o .bundle)
 open-full (OpenOutcome.done h e) t = let z : _≡_ {A = ℕ} 0 1 = cc in absurd (omega arith)
 open-full (OpenOutcome.full f e) t = f
 

@@ -25,9 +25,7 @@ use Rattle.logic.proofs.Longer.{sizes, consecutive-length}
 use Rattle.scratch.specs.Scratch.{wordIn, bundleIn, Roomy, Ready}
 use Rattle.scratch.proofs.ScratchFields.{symbols-count, variables-count, terms-count, links-count, contexts-count, steps-count, variables-length, terms-length, links-length, contexts-length, steps-length}
 use Rattle.placing.specs.declared.Visited.{Visited}
-use Rattle.placing.specs.declared.Opened.{Opened}
-use Rattle.placing.specs.declared.Placed.{Placed}
-use Rattle.placing.specs.declared.Added.{Added}
+use Rattle.placing.specs.declared.Recorded.{Recorded}
 use Rattle.expansion.specs.File.{countsIn, symbolWords, variableWords, termWords, linkWords, contextWords, stepWords}
 use Rattle.expansion.specs.Visit.{Visit, placed, imageTerm}
 use Rattle.expansion.specs.Visit as unlimited
@@ -67,14 +65,14 @@ known-of w c b h k = record { ready = subst (Ready w) (sym k) (h .ready); bundle
 -- ---- the outcome where the section has room
 
 module _ (w : List ℕ) (c : Counts) (r : Roomy w c) (v : c .version ≡ 1) where
-  pub add-is : (b : Bundle) (vs : List ℕ) (n : ℕ) → bundleIn w c ≡ addList b vs → n ≡ listStart b vs → AddOutcome b vs w (Added.Done c n)
-  add-is b vs n e k = AddOutcome.done (holds w c r v e) (ap₂ Added.Done (counts-are w c v e) k)
+  pub add-is : (b : Bundle) (vs : List ℕ) (n : ℕ) → bundleIn w c ≡ addList b vs → n ≡ listStart b vs → AddOutcome b vs w (Recorded.Done c n)
+  add-is b vs n e k = AddOutcome.done (holds w c r v e) (ap₂ Recorded.Done (counts-are w c v e) k)
 
-  pub place-is : (p : unlimited.PlacedTerm) (n : ℕ) → bundleIn w c ≡ p .bundle → n ≡ p .term → PlaceOutcome p w (Placed.Done c n)
-  place-is p n e k = PlaceOutcome.done (holds w c r v e) (ap₂ Placed.Done (counts-are w c v e) k)
+  pub place-is : (p : unlimited.PlacedTerm) (n : ℕ) → bundleIn w c ≡ p .bundle → n ≡ p .term → PlaceOutcome p w (Recorded.Done c n)
+  place-is p n e k = PlaceOutcome.done (holds w c r v e) (ap₂ Recorded.Done (counts-are w c v e) k)
 
-  pub open-is : (o : unlimited.OpenedContext) (n : ℕ) → bundleIn w c ≡ o .bundle → n ≡ o .context → OpenOutcome o w (Opened.Done c n)
-  open-is o n e k = OpenOutcome.done (holds w c r v e) (ap₂ Opened.Done (counts-are w c v e) k)
+  pub open-is : (o : unlimited.OpenedContext) (n : ℕ) → bundleIn w c ≡ o .bundle → n ≡ o .context → OpenOutcome o w (Recorded.Done c n)
+  open-is o n e k = OpenOutcome.done (holds w c r v e) (ap₂ Recorded.Done (counts-are w c v e) k)
 
   pub visit-is : (u : Visit) (n : ℕ) → bundleIn w c ≡ u .bundle → n ≡ u .step → VisitOutcome u w (Visited.Done c (u .result) n)
   visit-is u n e k = VisitOutcome.done (holds w c r v e) (ap₂ (λ (d : Counts) (m : ℕ). Visited.Done d (u .result) m) (counts-are w c v e) k)
@@ -82,28 +80,28 @@ module _ (w : List ℕ) (c : Counts) (r : Roomy w c) (v : c .version ≡ 1) wher
 -- ---- what a call was: done or full
 
 module _ {w : List ℕ} {c : Counts} {n : ℕ} where
-  pub add-done : {b : Bundle} {vs : List ℕ} {r : Added} → AddOutcome b vs w r → r ≡ Added.Done c n → Known w c (addList b vs) × (n ≡ listStart b vs)
+  pub add-done : {b : Bundle} {vs : List ℕ} {r : Recorded} → AddOutcome b vs w r → r ≡ Recorded.Done c n → Known w c (addList b vs) × (n ≡ listStart b vs)
   add-done (AddOutcome.done h e) k = (known-of w c _ h (cc), cc)
   add-done (AddOutcome.full h e) k = let z : _≡_ {A = ℕ} 0 1 = cc in absurd (omega arith)
 
-  pub place-done : {p : unlimited.PlacedTerm} {r : Placed} → PlaceOutcome p w r → r ≡ Placed.Done c n → Known w c (p .bundle) × (n ≡ p .term)
+  pub place-done : {p : unlimited.PlacedTerm} {r : Recorded} → PlaceOutcome p w r → r ≡ Recorded.Done c n → Known w c (p .bundle) × (n ≡ p .term)
   place-done (PlaceOutcome.done h e) k = (known-of w c _ h (cc), cc)
   place-done (PlaceOutcome.full h e) k = let z : _≡_ {A = ℕ} 0 1 = cc in absurd (omega arith)
 
-  pub open-done : {o : unlimited.OpenedContext} {r : Opened} → OpenOutcome o w r → r ≡ Opened.Done c n → Known w c (o .bundle) × (n ≡ o .context)
+  pub open-done : {o : unlimited.OpenedContext} {r : Recorded} → OpenOutcome o w r → r ≡ Recorded.Done c n → Known w c (o .bundle) × (n ≡ o .context)
   open-done (OpenOutcome.done h e) k = (known-of w c _ h (cc), cc)
   open-done (OpenOutcome.full h e) k = let z : _≡_ {A = ℕ} 0 1 = cc in absurd (omega arith)
 
 module _ {w : List ℕ} where
-  pub add-full : {b : Bundle} {vs : List ℕ} {r : Added} → AddOutcome b vs w r → r ≡ Added.Full → TooMuch (addList b vs)
+  pub add-full : {b : Bundle} {vs : List ℕ} {r : Recorded} → AddOutcome b vs w r → r ≡ Recorded.Full → TooMuch (addList b vs)
   add-full (AddOutcome.done h e) k = let z : _≡_ {A = ℕ} 0 1 = cc in absurd (omega arith)
   add-full (AddOutcome.full h e) k = h
 
-  pub place-full : {p : unlimited.PlacedTerm} {r : Placed} → PlaceOutcome p w r → r ≡ Placed.Full → TooMuch (p .bundle)
+  pub place-full : {p : unlimited.PlacedTerm} {r : Recorded} → PlaceOutcome p w r → r ≡ Recorded.Full → TooMuch (p .bundle)
   place-full (PlaceOutcome.done h e) k = let z : _≡_ {A = ℕ} 0 1 = cc in absurd (omega arith)
   place-full (PlaceOutcome.full h e) k = h
 
-  pub open-full : {o : unlimited.OpenedContext} {r : Opened} → OpenOutcome o w r → r ≡ Opened.Full → TooMuch (o .bundle)
+  pub open-full : {o : unlimited.OpenedContext} {r : Recorded} → OpenOutcome o w r → r ≡ Recorded.Full → TooMuch (o .bundle)
   open-full (OpenOutcome.done h e) k = let z : _≡_ {A = ℕ} 0 1 = cc in absurd (omega arith)
   open-full (OpenOutcome.full h e) k = h
 

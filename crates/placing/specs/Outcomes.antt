@@ -17,9 +17,7 @@ use Rattle.filing.specs.Filing.{Indexed}
 use Rattle.logic.specs.Longer.{addList, listStart}
 use Rattle.placing.specs.declared.Visited.{Visited}
 use Rattle.placing.specs.declared.Listed.{Listed}
-use Rattle.placing.specs.declared.Opened.{Opened}
-use Rattle.placing.specs.declared.Placed.{Placed}
-use Rattle.placing.specs.declared.Added.{Added}
+use Rattle.placing.specs.declared.Recorded.{Recorded}
 use Rattle.expansion.specs.Nodes.{Node, Nodes, leaf, node, scope, block, nil, cons}
 use Rattle.expansion.specs.Visit.{Visit, Visits, visit, visitAll}
 use Rattle.expansion.specs.Visit as unlimited
@@ -40,18 +38,18 @@ pub data VisitOutcome (v : Visit) (w : List ℕ) (r : Visited) : Type 0 where
   done : StandsFor w (v .bundle) → r ≡ Visited.Done (countsIn (v .bundle)) (v .result) (v .step) → VisitOutcome v w r
   full : TooMuch (v .bundle) → r ≡ Visited.Full → VisitOutcome v w r
 
-pub data OpenOutcome (o : unlimited.OpenedContext) (w : List ℕ) (r : Opened) : Type 0 where
-  done : StandsFor w (o .bundle) → r ≡ Opened.Done (countsIn (o .bundle)) (o .context) → OpenOutcome o w r
-  full : TooMuch (o .bundle) → r ≡ Opened.Full → OpenOutcome o w r
+pub data OpenOutcome (o : unlimited.OpenedContext) (w : List ℕ) (r : Recorded) : Type 0 where
+  done : StandsFor w (o .bundle) → r ≡ Recorded.Done (countsIn (o .bundle)) (o .context) → OpenOutcome o w r
+  full : TooMuch (o .bundle) → r ≡ Recorded.Full → OpenOutcome o w r
 
-pub data PlaceOutcome (p : unlimited.PlacedTerm) (w : List ℕ) (r : Placed) : Type 0 where
-  done : StandsFor w (p .bundle) → r ≡ Placed.Done (countsIn (p .bundle)) (p .term) → PlaceOutcome p w r
-  full : TooMuch (p .bundle) → r ≡ Placed.Full → PlaceOutcome p w r
+pub data PlaceOutcome (p : unlimited.PlacedTerm) (w : List ℕ) (r : Recorded) : Type 0 where
+  done : StandsFor w (p .bundle) → r ≡ Recorded.Done (countsIn (p .bundle)) (p .term) → PlaceOutcome p w r
+  full : TooMuch (p .bundle) → r ≡ Recorded.Full → PlaceOutcome p w r
 
 -- the same of a list of values that is appended
-pub data AddOutcome (b : Bundle) (vs : List ℕ) (w : List ℕ) (r : Added) : Type 0 where
-  done : StandsFor w (addList b vs) → r ≡ Added.Done (countsIn (addList b vs)) (listStart b vs) → AddOutcome b vs w r
-  full : TooMuch (addList b vs) → r ≡ Added.Full → AddOutcome b vs w r
+pub data AddOutcome (b : Bundle) (vs : List ℕ) (w : List ℕ) (r : Recorded) : Type 0 where
+  done : StandsFor w (addList b vs) → r ≡ Recorded.Done (countsIn (addList b vs)) (listStart b vs) → AddOutcome b vs w r
+  full : TooMuch (addList b vs) → r ≡ Recorded.Full → AddOutcome b vs w r
 
 -- the same of a visit to a list, whose pairs stand on the stack s from height h on
 pub data ListOutcome (v : Visits) (h : ℕ) (w s : List ℕ) (r : Listed) : Type 0 where
@@ -63,11 +61,11 @@ pub data ListOutcome (v : Visits) (h : ℕ) (w s : List ℕ) (r : Listed) : Type
 pub record VisitIndexed (w ix : List ℕ) (r : Visited) : Type 0 where
   pub held : (c : Counts) (t s : ℕ) → r ≡ Visited.Done c t s → Indexed (bundleIn w c) ix
 
-pub record OpenIndexed (w ix : List ℕ) (r : Opened) : Type 0 where
-  pub held : (c : Counts) (n : ℕ) → r ≡ Opened.Done c n → Indexed (bundleIn w c) ix
+pub record OpenIndexed (w ix : List ℕ) (r : Recorded) : Type 0 where
+  pub held : (c : Counts) (n : ℕ) → r ≡ Recorded.Done c n → Indexed (bundleIn w c) ix
 
-pub record PlaceIndexed (w ix : List ℕ) (r : Placed) : Type 0 where
-  pub held : (c : Counts) (t : ℕ) → r ≡ Placed.Done c t → Indexed (bundleIn w c) ix
+pub record PlaceIndexed (w ix : List ℕ) (r : Recorded) : Type 0 where
+  pub held : (c : Counts) (t : ℕ) → r ≡ Recorded.Done c t → Indexed (bundleIn w c) ix
 
 pub record ListIndexed (w ix : List ℕ) (r : Listed) : Type 0 where
   pub held : (c : Counts) (h : ℕ) → r ≡ Listed.Done c h → Indexed (bundleIn w c) ix

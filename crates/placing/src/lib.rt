@@ -45,21 +45,10 @@ pub enum Listed {
     Full,
 }
 
-// A context opened, or that a section would pass its limit.
-pub enum Opened {
-    Done { counts: Bundle, context: usize },
-    Full,
-}
-
-// A term looked up or appended, or that a section would pass its limit.
-pub enum Placed {
-    Done { counts: Bundle, term: usize },
-    Full,
-}
-
-// A list appended, with its first link, or that the links would pass their limit.
-pub enum Added {
-    Done { counts: Bundle, start: usize },
+// What stands in the scratch after a call: the counts, and the number of the context or term, or of a list's first link; or that a section would pass
+// its limit.
+pub enum Recorded {
+    Done { counts: Bundle, number: usize },
     Full,
 }
 
@@ -73,33 +62,36 @@ pub fn add_halves(
     upper: bool,
     from: usize,
     to: usize,
-) -> Added
+) -> Recorded
     requires { ⌜ Ready (now words) c × (from ≤ to) × (to ≤ length (now stack)) ⌝ }
     ensures { λ r. ⌜ (length (now (words .exit)) ≡ length (now (words .entry))) × AddOutcome (bundleIn (now (words .entry)) c) (halves upper (now (stack .entry)) from to) (now (words .exit)) r ⌝ }
 {
     let n = to - from;
     let links = c.links;
     if n > Bundle::LINKS - links {
-        return Added::Full;
+        return Recorded::Full;
     }
     let start = scratch::lists::list_start(c, n);
     let counts = push_halves(words, c, stack, upper, from, to);
-    Added::Done { counts, start }
+    Recorded::Done {
+        counts,
+        number: start,
+    }
 }
 
 // One value, as a list.
-pub fn add_value(words: &mut [u32], c: Bundle, value: usize) -> Added
+pub fn add_value(words: &mut [u32], c: Bundle, value: usize) -> Recorded
     requires { ⌜ Ready (now words) c × (value ≤ 4294967295) ⌝ }
     ensures { λ r. ⌜ (length (now (words .exit)) ≡ length (now (words .entry))) × AddOutcome (bundleIn (now (words .entry)) c) (value ∷ []) (now (words .exit)) r ⌝ }
 {
     let links = c.links;
     if links >= Bundle::LINKS {
-        return Added::Full;
+        return Recorded::Full;
     }
     let counts = push_one(words, c, value);
-    Added::Done {
+    Recorded::Done {
         counts,
-        start: links + 1,
+        number: links + 1,
     }
 }
 
@@ -112,19 +104,19 @@ pub fn add_term(
     second: usize,
     index: &mut [u16; DIGESTS + Bundle::TERMS + 1],
     d: usize,
-) -> Placed
+) -> Recorded
     requires { ⌜ Ready (now words) c × (kind ≤ 4294967295) × (first ≤ 4294967295) × (second ≤ 4294967295) × Indexed (bundleIn (now words) c) (now index) × (d < digests) × Digested (bundleIn (now words) c) (record { kind = kind; a = first; b = second; c = 0 }) d ⌝ }
     ensures { λ r. ⌜ (length (now (words .exit)) ≡ length (now (words .entry))) × PlaceOutcome (record { bundle = withTerms (bundleIn (now (words .entry)) c) (record { kind = kind; a = first; b = second; c = 0 } ∷ []); term = suc (length (bundleIn (now (words .entry)) c .terms)) }) (now (words .exit)) r × PlaceIndexed (now (words .exit)) (now (index .exit)) r ⌝ }
 {
     let terms = c.terms;
     if terms >= Bundle::TERMS {
-        return Placed::Full;
+        return Recorded::Full;
     }
     let counts = append_term(words, c, kind, first, second, 0);
     file_term(index, d, terms + 1);
-    Placed::Done {
+    Recorded::Done {
         counts,
-        term: terms + 1,
+        number: terms + 1,
     }
 }
 
@@ -135,18 +127,18 @@ pub fn add_context(
     first: usize,
     second: usize,
     parent: usize,
-) -> Opened
+) -> Recorded
     requires { ⌜ Ready (now words) c × (kind ≤ 4294967295) × (first ≤ 4294967295) × (second ≤ 4294967295) × (parent ≤ 4294967295) ⌝ }
     ensures { λ r. ⌜ (length (now (words .exit)) ≡ length (now (words .entry))) × OpenOutcome (record { bundle = withContexts (bundleIn (now (words .entry)) c) (record { kind = kind; a = first; b = second; parent = parent } ∷ []); context = suc (length (bundleIn (now (words .entry)) c .contexts)) }) (now (words .exit)) r ⌝ }
 {
     let contexts = c.contexts;
     if contexts >= Bundle::CONTEXTS {
-        return Opened::Full;
+        return Recorded::Full;
     }
     let counts = append_context(words, c, kind, first, second, parent);
-    Opened::Done {
+    Recorded::Done {
         counts,
-        context: contexts + 1,
+        number: contexts + 1,
     }
 }
 
@@ -183,7 +175,7 @@ pub fn place_application(
     from: usize,
     to: usize,
     index: &mut [u16; DIGESTS + Bundle::TERMS + 1],
-) -> Placed
+) -> Recorded
     requires { ⌜ Ready (now words) c × (symbol ≤ 4294967295) × (from ≤ to) × (to ≤ length (now stack)) × Indexed (bundleIn (now words) c) (now index) ⌝ }
     ensures { λ r. ⌜ (length (now (words .exit)) ≡ length (now (words .entry))) × PlaceOutcome (placeApplication (bundleIn (now (words .entry)) c) symbol (halves true (now (stack .entry)) from to)) (now (words .exit)) r × PlaceIndexed (now (words .exit)) (now (index .exit)) r ⌝ }
 {
@@ -191,15 +183,18 @@ pub fn place_application(
     let d = mixed_results(root, stack, from, to);
     let found = find_application(words, c, index, d, symbol, stack, from, to);
     if found != 0 {
-        return Placed::Done {
+        return Recorded::Done {
             counts: c,
-            term: found,
+            number: found,
         };
     }
     let listed = add_halves(words, c, stack, true, from, to);
     match listed {
-        Added::Full => Placed::Full,
-        Added::Done { counts, start } => add_term(words, counts, 2, symbol, start, index, d),
+        Recorded::Full => Recorded::Full,
+        Recorded::Done {
+            counts,
+            number: start,
+        } => add_term(words, counts, 2, symbol, start, index, d),
     }
 }
 
@@ -209,23 +204,23 @@ pub fn place_fresh(
     c: Bundle,
     x: usize,
     index: &mut [u16; DIGESTS + Bundle::TERMS + 1],
-) -> Placed
+) -> Recorded
     requires { ⌜ Ready (now words) c × Indexed (bundleIn (now words) c) (now index) ⌝ }
     ensures { λ r. ⌜ (length (now (words .exit)) ≡ length (now (words .entry))) × PlaceOutcome (fresh (bundleIn (now (words .entry)) c) x) (now (words .exit)) r × PlaceIndexed (now (words .exit)) (now (index .exit)) r ⌝ }
 {
     let sort = variable_sort(words, c, x);
     let variables = c.variables;
     if variables >= Bundle::VARIABLES {
-        return Placed::Full;
+        return Recorded::Full;
     }
     let y = variables + 1;
     let more = append_variable(words, c, sort);
     let d = root_digest(1, y);
     let found = find_variable(words, more, index, d, y);
     if found != 0 {
-        return Placed::Done {
+        return Recorded::Done {
             counts: more,
-            term: found,
+            number: found,
         };
     }
     add_term(words, more, 1, y, 0, index, d)
@@ -239,16 +234,16 @@ pub fn place_binder(
     y: usize,
     body: usize,
     index: &mut [u16; DIGESTS + Bundle::TERMS + 1],
-) -> Placed
+) -> Recorded
     requires { ⌜ Ready (now words) c × (3 ≤ kind) × (kind ≤ 4) × (y ≤ 4294967295) × (body ≤ 4294967295) × Indexed (bundleIn (now words) c) (now index) ⌝ }
     ensures { λ r. ⌜ (length (now (words .exit)) ≡ length (now (words .entry))) × ((q : Binder) → kind ≡ numberOf (binder q) → PlaceOutcome (placeBinder (bundleIn (now (words .entry)) c) q y body) (now (words .exit)) r) × PlaceIndexed (now (words .exit)) (now (index .exit)) r ⌝ }
 {
     let d = root_digest(kind, y);
     let found = find_binder(words, c, index, d, kind, y, body);
     if found != 0 {
-        return Placed::Done {
+        return Recorded::Done {
             counts: c,
-            term: found,
+            number: found,
         };
     }
     add_term(words, c, kind, y, body, index, d)

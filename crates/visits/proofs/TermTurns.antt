@@ -25,7 +25,7 @@ use Rattle.scratch.specs.Stack.{halves}
 use Rattle.scratch.proofs.ScratchFields.{variables-length, terms-length, steps-length}
 use Rattle.placing.specs.declared.Visited.{Visited}
 use Rattle.placing.specs.declared.Listed.{Listed}
-use Rattle.placing.specs.declared.Opened.{Opened}
+use Rattle.placing.specs.declared.Recorded.{Recorded}
 use Rattle.expansion.specs.Nodes.{Node, Nodes, leaf, node, scope, block}
 use Rattle.expansion.specs.Visit as unlimited
 use Rattle.expansion.specs.Visit.{Visit, visit, visitAll, concluded, closeApplication, closeBinder, openBinder, replacing, newVariable}
@@ -136,9 +136,9 @@ module _ {w s : List ℕ} {n : Counts} {Γ h t : ℕ} (asks : TermAsks w s n Γ 
 
     -- ---- a quantifier
 
-    module _ (quantifies : (3 ≤ kind) × (kind ≤ 4)) {w1 : List ℕ} {r : Opened} (long : length w1 ≡ length w) (opened : OpenOutcome (openBinder (bundleIn w n) first Γ) w1 r) where
+    module _ (quantifies : (3 ≤ kind) × (kind ≤ 4)) {w1 : List ℕ} {r : Recorded} (long : length w1 ≡ length w) (opened : OpenOutcome (openBinder (bundleIn w n) first Γ) w1 r) where
       -- there was no room for its contexts
-      pub binder-closed : r ≡ Opened.Full → TermGives w s n Γ h t w1 s Visited.Full
+      pub binder-closed : r ≡ Recorded.Full → TermGives w s n Γ h t w1 s Visited.Full
       binder-closed e = record {
         long = long;
         kept = below-same s h;
@@ -146,7 +146,7 @@ module _ {w s : List ℕ} {n : Counts} {Γ h t : ℕ} (asks : TermAsks w s n Γ 
             VisitOutcome.full (more-full (longer-trans (visit-longer u _ _) (scope-longer t Γ (bundleIn w n) q first u)) (open-full opened e)) refl);
       }
 
-      module _ {inside : Counts} {inner : ℕ} (told : r ≡ Opened.Done inside inner) where
+      module _ {inside : Counts} {inner : ℕ} (told : r ≡ Recorded.Done inside inner) where
         binder-open : OpenDone (openBinder (bundleIn w n) first Γ) w1 inside inner
         binder-open = open-done opened told
 
@@ -267,7 +267,7 @@ module _ {w s : List ℕ} {n : Counts} {Γ h t : ℕ} (asks : TermAsks w s n Γ 
 
           -- ---- a let
 
-          module _ (not-2 : kind ≡ 2 → ⊥) {w2 : List ℕ} {r2 : Opened} (long2 : length w2 ≡ length w1)
+          module _ (not-2 : kind ≡ 2 → ⊥) {w2 : List ℕ} {r2 : Recorded} (long2 : length w2 ≡ length w1)
               (opened : OpenOutcome (replacing (bundleIn w1 bound) first Γ (halves true s1 h top)) w2 r2) where
             let-opened : (ns : Nodes) → StandAll (bundleIn w n) t second ns → OpenOutcome (opening (bundleIn w n) first Γ ns) w2 r2
             let-opened ns k =
@@ -275,7 +275,7 @@ module _ {w s : List ℕ} {n : Counts} {Γ h t : ℕ} (asks : TermAsks w s n Γ 
                 subst (λ (o : unlimited.OpenedContext). OpenOutcome o w2 r2) (λ j. replacing (d .now .bundle j) first Γ (d .results j)) opened
 
             -- there was no room for it
-            pub let-closed : r2 ≡ Opened.Full → TermGives w s n Γ h t w2 s1 Visited.Full
+            pub let-closed : r2 ≡ Recorded.Full → TermGives w s n Γ h t w2 s1 Visited.Full
             let-closed e = record {
               long = long2 ∙ gave .long;
               kept = gave .kept;
@@ -283,7 +283,7 @@ module _ {w s : List ℕ} {n : Counts} {Γ h t : ℕ} (asks : TermAsks w s n Γ 
                   VisitOutcome.full (more-full (block-longer t Γ (bundleIn w n) first vs ns u) (open-full (let-opened ns k) e)) refl);
             }
 
-            module _ {inside : Counts} {inner : ℕ} (told2 : r2 ≡ Opened.Done inside inner) where
+            module _ {inside : Counts} {inner : ℕ} (told2 : r2 ≡ Recorded.Done inside inner) where
               let-done : (ns : Nodes) → StandAll (bundleIn w n) t second ns → OpenDone (opening (bundleIn w n) first Γ ns) w2 inside inner
               let-done ns k = open-done (let-opened ns k) told2
 

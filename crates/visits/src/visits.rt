@@ -13,7 +13,7 @@ use closers::open_quantifier;
 use filing::filing::DIGESTS;
 use filing::filing::file_terms;
 use placing::Listed;
-use placing::Opened;
+use placing::Recorded;
 use placing::Visited;
 use scratch::lists::pack;
 use scratch::records::link_field;
@@ -43,10 +43,10 @@ pub fn visit_term(
         let y = c.variables + 1;
         let opened = open_quantifier(words, c, first, context, index);
         return match opened {
-            Opened::Full => Visited::Full,
-            Opened::Done {
+            Recorded::Full => Visited::Full,
+            Recorded::Done {
                 counts: inside,
-                context: inner,
+                number: inner,
             } => {
                 let visited = visit_term(words, stack, inside, inner, height, second, index);
                 match visited {
@@ -92,10 +92,10 @@ pub fn visit_term(
             }
             let opened = open_let(words, bound, first, context, stack, height, top);
             match opened {
-                Opened::Full => Visited::Full,
-                Opened::Done {
+                Recorded::Full => Visited::Full,
+                Recorded::Done {
                     counts: inside,
-                    context: inner,
+                    number: inner,
                 } => {
                     let visited = visit_term(words, stack, inside, inner, top, third, index);
                     match visited {
