@@ -11,7 +11,7 @@ ghost use Rattle.scratch.specs.Stack.{halves};
 ghost use Rattle.filing.specs.Filing.{Indexed};
 ghost use Rattle.expansion.specs.Nodes.{leaf};
 ghost use Rattle.expansion.specs.Visit.{visit, concluded, replacing, renaming, openBinder, closeApplication, closeBinder};
-ghost use Rattle.placing.specs.Outcomes.{VisitOutcome, OpenOutcome, VisitIndexed, OpenIndexed};
+ghost use Rattle.placing.specs.Outcomes.{VisitOutcome, OpenOutcome, VisitIndexed, RecordIndexed};
 use bundle::Bundle;
 use filing::filing::DIGESTS;
 use logic::Image;
@@ -213,7 +213,7 @@ pub fn open_quantifier(
     index: &mut [u16; DIGESTS + Bundle::TERMS + 1],
 ) -> Recorded
     requires { ⌜ Ready (now words) c × (x ≤ 4294967295) × (context ≤ 4294967295) × Indexed (bundleIn (now words) c) (now index) ⌝ }
-    ensures { λ r. ⌜ (length (now (words .exit)) ≡ length (now (words .entry))) × OpenOutcome (openBinder (bundleIn (now (words .entry)) c) x context) (now (words .exit)) r × OpenIndexed (now (words .exit)) (now (index .exit)) r ⌝ }
+    ensures { λ r. ⌜ (length (now (words .exit)) ≡ length (now (words .entry))) × OpenOutcome (openBinder (bundleIn (now (words .entry)) c) x context) (now (words .exit)) r × RecordIndexed (now (words .exit)) (now (index .exit)) r ⌝ }
 {
     let y = c.variables + 1;
     let placed = place_fresh(words, c, x, index);

@@ -1,6 +1,6 @@
 -- The index after each opener and closer: where it was done, the index holds all terms again.
 --     place-holds, list-holds                    nothing was appended
---     full-visit, full-open, full-place, full-list     the call was full: nothing is said
+--     full-visit, full-record, full-list     the call was full: nothing is said
 --     list-indexed, variable-indexed, step-indexed, leaf-indexed, let-indexed, renaming-indexed     no term was appended
 --     plain-filed, application-filed, term-indexed     a term was: its digest stays, and it was filed
 use mathlib.Core.Path.{_≡_, refl, sym, ap, _∙_, subst}
@@ -21,7 +21,7 @@ use Rattle.placing.specs.declared.Recorded.{Recorded}
 use Rattle.expansion.specs.Nodes.{leaf}
 use Rattle.expansion.specs.Visit as unlimited
 use Rattle.expansion.specs.Visit.{concluded, replacing, renaming, visit}
-use Rattle.placing.specs.Outcomes.{VisitOutcome, OpenOutcome, AddOutcome, VisitIndexed, OpenIndexed, PlaceIndexed, ListIndexed}
+use Rattle.placing.specs.Outcomes.{VisitOutcome, OpenOutcome, AddOutcome, VisitIndexed, RecordIndexed, ListIndexed}
 use Rattle.expansion.proofs.Grown.{concluded-longer, replacing-longer, visit-longer}
 use Rattle.placing.proofs.ScratchOutcomes.{add-done}
 use Rattle.placing.proofs.CallOutcomes.{renaming-longer}
@@ -32,7 +32,7 @@ use Rattle.placing.proofs.OutcomeFacts.{visit-done, open-done}
 same-counts : (w : List ℕ) {ix : List ℕ} {c d : Counts} → c ≡ d → Indexed (bundleIn w c) ix → Indexed (bundleIn w d) ix
 same-counts w {ix} e indexed = subst (λ (k : Counts). Indexed (bundleIn w k) ix) e indexed
 
-pub place-holds : {w ix : List ℕ} {c : Counts} {t : ℕ} → Indexed (bundleIn w c) ix → PlaceIndexed w ix (Recorded.Done c t)
+pub place-holds : {w ix : List ℕ} {c : Counts} {t : ℕ} → Indexed (bundleIn w c) ix → RecordIndexed w ix (Recorded.Done c t)
 place-holds {w} indexed = record { held = λ d n e. same-counts w (cc) indexed }
 
 pub list-holds : {w ix : List ℕ} {c : Counts} {h : ℕ} → Indexed (bundleIn w c) ix → ListIndexed w ix (Listed.Done c h)
@@ -44,11 +44,8 @@ module _ {w ix : List ℕ} where
   pub full-visit : VisitIndexed w ix Visited.Full
   full-visit = record { held = λ c t s e. let z : _≡_ {A = ℕ} 0 1 = cc in absurd (omega arith) }
 
-  pub full-open : OpenIndexed w ix Recorded.Full
-  full-open = record { held = λ c n e. let z : _≡_ {A = ℕ} 0 1 = cc in absurd (omega arith) }
-
-  pub full-place : PlaceIndexed w ix Recorded.Full
-  full-place = record { held = λ c t e. let z : _≡_ {A = ℕ} 0 1 = cc in absurd (omega arith) }
+  pub full-record : RecordIndexed w ix Recorded.Full
+  full-record = record { held = λ c n e. let z : _≡_ {A = ℕ} 0 1 = cc in absurd (omega arith) }
 
   pub full-list : ListIndexed w ix Listed.Full
   full-list = record { held = λ c h e. let z : _≡_ {A = ℕ} 0 1 = cc in absurd (omega arith) }
@@ -73,10 +70,10 @@ module _ {b : Bundle} {ix : List ℕ} (indexed : Indexed b ix) where
     unfolding visit
     leaf-indexed t y x o = record { held = λ c n s e. still w c (visit-longer (leaf t y) x b) refl (visit-done o e .now .bundle) }
 
-    pub let-indexed : {r : Recorded} (x p : ℕ) (vs : List ℕ) → OpenOutcome (replacing b x p vs) w r → OpenIndexed w ix r
+    pub let-indexed : {r : Recorded} (x p : ℕ) (vs : List ℕ) → OpenOutcome (replacing b x p vs) w r → RecordIndexed w ix r
     let-indexed x p vs o = record { held = λ c n e. still w c (replacing-longer b x p vs) refl (open-done o e .now .bundle) }
 
-    pub renaming-indexed : {r : Recorded} (x y t v : ℕ) → OpenOutcome (renaming b x y t v) w r → OpenIndexed w ix r
+    pub renaming-indexed : {r : Recorded} (x y t v : ℕ) → OpenOutcome (renaming b x y t v) w r → RecordIndexed w ix r
     renaming-indexed x y t v o = record { held = λ c n e. still w c (renaming-longer b x y t v) refl (open-done o e .now .bundle) }
 
 -- ---- a term was appended, and filed

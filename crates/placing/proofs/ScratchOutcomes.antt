@@ -1,4 +1,4 @@
--- From what the arena ensures of its appends to outcomes, and from outcomes to what is known after a call.
+-- From what the scratch ensures of its appends to outcomes, and from outcomes to what is known after a call.
 --     Known                                     words and counts that stand for a bundle, ready for more
 --     add-is, place-is, open-is, visit-is       the outcome where the section had room
 --     add-done, place-done, open-done           what is known where a call was done

@@ -61,11 +61,8 @@ pub data ListOutcome (v : Visits) (h : ℕ) (w s : List ℕ) (r : Listed) : Type
 pub record VisitIndexed (w ix : List ℕ) (r : Visited) : Type 0 where
   pub held : (c : Counts) (t s : ℕ) → r ≡ Visited.Done c t s → Indexed (bundleIn w c) ix
 
-pub record OpenIndexed (w ix : List ℕ) (r : Recorded) : Type 0 where
+pub record RecordIndexed (w ix : List ℕ) (r : Recorded) : Type 0 where
   pub held : (c : Counts) (n : ℕ) → r ≡ Recorded.Done c n → Indexed (bundleIn w c) ix
-
-pub record PlaceIndexed (w ix : List ℕ) (r : Recorded) : Type 0 where
-  pub held : (c : Counts) (t : ℕ) → r ≡ Recorded.Done c t → Indexed (bundleIn w c) ix
 
 pub record ListIndexed (w ix : List ℕ) (r : Listed) : Type 0 where
   pub held : (c : Counts) (h : ℕ) → r ≡ Listed.Done c h → Indexed (bundleIn w c) ix

@@ -11,7 +11,7 @@ ghost use Rattle.scratch.specs.Scratch.{bundleIn, Ready};
 ghost use Rattle.scratch.specs.Stack.{halves};
 ghost use Rattle.filing.specs.Filing.{digests, Digested, Indexed};
 ghost use Rattle.expansion.specs.Visit.{placeApplication, placeBinder, fresh};
-ghost use Rattle.placing.specs.Outcomes.{VisitOutcome, OpenOutcome, PlaceOutcome, AddOutcome, PlaceIndexed};
+ghost use Rattle.placing.specs.Outcomes.{VisitOutcome, OpenOutcome, PlaceOutcome, AddOutcome, RecordIndexed};
 use bundle::Bundle;
 use filing::filing::DIGESTS;
 use filing::filing::file_term;
@@ -106,7 +106,7 @@ pub fn add_term(
     d: usize,
 ) -> Recorded
     requires { ⌜ Ready (now words) c × (kind ≤ 4294967295) × (first ≤ 4294967295) × (second ≤ 4294967295) × Indexed (bundleIn (now words) c) (now index) × (d < digests) × Digested (bundleIn (now words) c) (record { kind = kind; a = first; b = second; c = 0 }) d ⌝ }
-    ensures { λ r. ⌜ (length (now (words .exit)) ≡ length (now (words .entry))) × PlaceOutcome (record { bundle = withTerms (bundleIn (now (words .entry)) c) (record { kind = kind; a = first; b = second; c = 0 } ∷ []); term = suc (length (bundleIn (now (words .entry)) c .terms)) }) (now (words .exit)) r × PlaceIndexed (now (words .exit)) (now (index .exit)) r ⌝ }
+    ensures { λ r. ⌜ (length (now (words .exit)) ≡ length (now (words .entry))) × PlaceOutcome (record { bundle = withTerms (bundleIn (now (words .entry)) c) (record { kind = kind; a = first; b = second; c = 0 } ∷ []); term = suc (length (bundleIn (now (words .entry)) c .terms)) }) (now (words .exit)) r × RecordIndexed (now (words .exit)) (now (index .exit)) r ⌝ }
 {
     let terms = c.terms;
     if terms >= Bundle::TERMS {
@@ -177,7 +177,7 @@ pub fn place_application(
     index: &mut [u16; DIGESTS + Bundle::TERMS + 1],
 ) -> Recorded
     requires { ⌜ Ready (now words) c × (symbol ≤ 4294967295) × (from ≤ to) × (to ≤ length (now stack)) × Indexed (bundleIn (now words) c) (now index) ⌝ }
-    ensures { λ r. ⌜ (length (now (words .exit)) ≡ length (now (words .entry))) × PlaceOutcome (placeApplication (bundleIn (now (words .entry)) c) symbol (halves true (now (stack .entry)) from to)) (now (words .exit)) r × PlaceIndexed (now (words .exit)) (now (index .exit)) r ⌝ }
+    ensures { λ r. ⌜ (length (now (words .exit)) ≡ length (now (words .entry))) × PlaceOutcome (placeApplication (bundleIn (now (words .entry)) c) symbol (halves true (now (stack .entry)) from to)) (now (words .exit)) r × RecordIndexed (now (words .exit)) (now (index .exit)) r ⌝ }
 {
     let root = root_digest(2, symbol);
     let d = mixed_results(root, stack, from, to);
@@ -206,7 +206,7 @@ pub fn place_fresh(
     index: &mut [u16; DIGESTS + Bundle::TERMS + 1],
 ) -> Recorded
     requires { ⌜ Ready (now words) c × Indexed (bundleIn (now words) c) (now index) ⌝ }
-    ensures { λ r. ⌜ (length (now (words .exit)) ≡ length (now (words .entry))) × PlaceOutcome (fresh (bundleIn (now (words .entry)) c) x) (now (words .exit)) r × PlaceIndexed (now (words .exit)) (now (index .exit)) r ⌝ }
+    ensures { λ r. ⌜ (length (now (words .exit)) ≡ length (now (words .entry))) × PlaceOutcome (fresh (bundleIn (now (words .entry)) c) x) (now (words .exit)) r × RecordIndexed (now (words .exit)) (now (index .exit)) r ⌝ }
 {
     let sort = variable_sort(words, c, x);
     let variables = c.variables;
@@ -236,7 +236,7 @@ pub fn place_binder(
     index: &mut [u16; DIGESTS + Bundle::TERMS + 1],
 ) -> Recorded
     requires { ⌜ Ready (now words) c × (3 ≤ kind) × (kind ≤ 4) × (y ≤ 4294967295) × (body ≤ 4294967295) × Indexed (bundleIn (now words) c) (now index) ⌝ }
-    ensures { λ r. ⌜ (length (now (words .exit)) ≡ length (now (words .entry))) × ((q : Binder) → kind ≡ numberOf (binder q) → PlaceOutcome (placeBinder (bundleIn (now (words .entry)) c) q y body) (now (words .exit)) r) × PlaceIndexed (now (words .exit)) (now (index .exit)) r ⌝ }
+    ensures { λ r. ⌜ (length (now (words .exit)) ≡ length (now (words .entry))) × ((q : Binder) → kind ≡ numberOf (binder q) → PlaceOutcome (placeBinder (bundleIn (now (words .entry)) c) q y body) (now (words .exit)) r) × RecordIndexed (now (words .exit)) (now (index .exit)) r ⌝ }
 {
     let d = root_digest(kind, y);
     let found = find_binder(words, c, index, d, kind, y, body);

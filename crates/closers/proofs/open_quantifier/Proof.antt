@@ -7,7 +7,7 @@ use Rattle.scratch.specs.Scratch.{bundleIn}
 use Rattle.scratch.proofs.ScratchFields.{variables-length}
 use Rattle.expansion.specs.Visit.{newVariable}
 use Rattle.placing.proofs.CallOutcomes.{fresh-asks, renaming-on, renaming-full}
-use Rattle.placing.proofs.Indexes.{full-open, renaming-indexed}
+use Rattle.placing.proofs.Indexes.{full-record, renaming-indexed}
 use borrow.Author.Needs.{needs}
 use Rattle.closers.proofs.open_quantifier.Statement.{statement}
 use Rattle.closers.proofs.open_quantifier.Tie as tie
@@ -38,7 +38,7 @@ returns : tie.Need-returns
 returns c =
     let a = c .before .before .before .before .before .before .before .before .before .args in
     let p = c .before .before .before .before .place-fresh in
-    (p .ensures .0, renaming-full (p .ensures .1) (c .enum-told .given .1) (a .x) _ _ (a .context), full-open)
+    (p .ensures .0, renaming-full (p .ensures .1) (c .enum-told .given .1) (a .x) _ _ (a .context), full-record)
 
 same-length-2 : tie.Need-same-length-2
 same-length-2 c = search needs

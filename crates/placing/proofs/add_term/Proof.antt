@@ -8,7 +8,7 @@ use native.Mathlib.Numerals.{add-one}
 use Rattle.scratch.proofs.ScratchFields.{terms-length}
 use Rattle.placing.specs.Outcomes.{PlaceOutcome}
 use Rattle.placing.proofs.ScratchOutcomes.{place-is, term-over}
-use Rattle.placing.proofs.Indexes.{full-place, place-holds, term-indexed}
+use Rattle.placing.proofs.Indexes.{full-record, place-holds, term-indexed}
 use borrow.Author.Needs.{needs}
 use Rattle.placing.proofs.add_term.Statement.{statement}
 use Rattle.placing.proofs.add_term.Tie as tie
@@ -16,7 +16,7 @@ use Rattle.placing.proofs.add_term.Tie as tie
 returns : tie.Need-returns
 returns c =
     let a = c .before .before .args in
-    (refl, PlaceOutcome.full (term-over (a .words .now) (a .c) _ (c .if1 .taken)) refl, full-place)
+    (refl, PlaceOutcome.full (term-over (a .words .now) (a .c) _ (c .if1 .taken)) refl, full-record)
 
 append-term-requires : tie.Need-append-term-requires
 append-term-requires c κs = search needs

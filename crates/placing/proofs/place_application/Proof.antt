@@ -6,7 +6,7 @@ use native.Mathlib.Omega.{arith}
 use Rattle.scratch.specs.Stack.{halves}
 use Rattle.filing.specs.Filing.{mixAll, rootDigest}
 use Rattle.placing.proofs.CallOutcomes.{add-asks, found-is, term-on, term-full}
-use Rattle.placing.proofs.Indexes.{full-place, place-holds, list-indexed, application-filed}
+use Rattle.placing.proofs.Indexes.{full-record, place-holds, list-indexed, application-filed}
 use borrow.Author.Needs.{needs}
 use Rattle.placing.proofs.place_application.Statement.{statement}
 use Rattle.placing.proofs.place_application.Tie as tie
@@ -74,7 +74,7 @@ returns-2 c =
     let f = c .before .before .before .before .before .before .before .find-application in (
       l .ensures .0,
       term-full (l .ensures .1) (c .enum-told .given .1) (λ s. record { kind = 2; a = a .symbol; b = s; c = 0 }) _ (f .result) (f .ensures) (c .before .before .before .before .before .before .if1 .left),
-      full-place,
+      full-record,
     )
 
 same-length-3 : tie.Need-same-length-3

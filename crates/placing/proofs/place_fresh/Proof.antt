@@ -7,7 +7,7 @@ use native.Mathlib.Omega.{arith}
 use Rattle.scratch.specs.Scratch.{bundleIn}
 use Rattle.scratch.proofs.ScratchFields.{variables-length}
 use Rattle.placing.proofs.CallOutcomes.{no-list, found-is, term-on, fresh-on, variable-full}
-use Rattle.placing.proofs.Indexes.{full-place, place-holds, variable-indexed, plain-filed}
+use Rattle.placing.proofs.Indexes.{full-record, place-holds, variable-indexed, plain-filed}
 use borrow.Author.Needs.{needs}
 use Rattle.placing.proofs.place_fresh.Statement.{statement}
 use Rattle.placing.proofs.place_fresh.Tie as tie
@@ -21,7 +21,7 @@ same-length c = search needs
 returns : tie.Need-returns
 returns c =
     let a = c .before .before .before .before .args in
-    (refl, variable-full (a .words .now) (a .c) (a .x) (c .if1 .taken), full-place)
+    (refl, variable-full (a .words .now) (a .c) (a .x) (c .if1 .taken), full-record)
 
 add-y : tie.Need-add-y
 add-y c = search needs
