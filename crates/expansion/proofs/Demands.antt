@@ -1,15 +1,16 @@
 -- THE DEMANDS on the writer.
+--     bytes-exactly             a string of bytes is one by each of its places
 --     refused-job-exactly       a job is refused with number n and record i exactly where that check is the first that fails
 --     written-exactly           a file is written exactly for well-formed closed jobs that fit, with long enough areas
 --     areas-left                what is left in the areas besides the file: zeros
 --     written-well              what is to hold of the file of a bundle that was derived from the job's
 --     expansion-right           demand 3, its second half
-use Prim.Native.Nat.{ℕ, _*_, _≤_}
+use Prim.Native.Nat.{ℕ, zero, suc, _*_, _≤_, _<_}
 use mathlib.Core.Path.{_≡_, refl, sym, subst, _∙_}
 use mathlib.Core.Logic.{Iff·trans}
-use mathlib.Core.List.{List}
+use mathlib.Core.List.{List, [], _∷_}
 use native.Mathlib.Omega.{arith}
-use lib.ListN.{length}
+use lib.ListN.{length, getD}
 use Rattle.bundle.specs.Bundle.{Bundle}
 use Rattle.bundle.specs.Limits.{headerWords, setWords, Within}
 use Rattle.bundle.specs.File.{countsOf, bundleOf}
@@ -21,13 +22,26 @@ use Rattle.judgement.proofs.Demands.{accepted-exactly, accepted-sound}
 use Rattle.expansion.specs.Visit.{expanded}
 use Rattle.expansion.specs.File.{countsIn, fileOf}
 use Rattle.expansion.specs.JobOrder.{allJobChecks}
-use Rattle.expansion.specs.Demands.{RefusedJobExactly, WrittenExactly, AreasLeft, WrittenWell, ExpansionRight}
+use Rattle.expansion.specs.Demands.{Bytes, BytesExactly, RefusedJobExactly, WrittenExactly, AreasLeft, WrittenWell, ExpansionRight}
 use Rattle.expansion.proofs.SmallNumbers.{SmallBundle}
 use Rattle.expansion.proofs.Files.{file-length, file-counts, file-bundle, file-whole}
 use Rattle.expansion.proofs.SmallWords.{file-small, expanded-small}
 use Rattle.expansion.proofs.JobOrder.{job-checks-find}
 use Rattle.expansion.proofs.JobChecks.{job-exactly, written-where, refused-job-where, job-answer, job-file, zeros-left}
 use Rattle.expansion.proofs.Derived.{Derived, derived}
+
+pub bytes-exactly : BytesExactly
+bytes-exactly f = (there f, back f)
+  where
+    there : (f : List ℕ) → Bytes f → (i : ℕ) → getD f i 0 < 256
+    there [] h zero = omega arith
+    there [] h (suc i) = omega arith
+    there (x ∷ xs) h zero = h .0
+    there (x ∷ xs) h (suc i) = there xs (h .1) i
+
+    back : (f : List ℕ) → ((i : ℕ) → getD f i 0 < 256) → Bytes f
+    back [] h = tt
+    back (x ∷ xs) h = (h 0, back xs (λ i. h (suc i)))
 
 pub refused-job-exactly : RefusedJobExactly
 refused-job-exactly f out words sets n i =

@@ -4,7 +4,7 @@ use mathlib.Core.Path.{_≡_}
 use mathlib.Core.Logic.{_↔_}
 use mathlib.Core.Bool.{false}
 use mathlib.Core.List.{List, []}
-use lib.ListN.{length, take, drop, replicate}
+use lib.ListN.{length, getD, take, drop, replicate}
 use Rattle.bundle.specs.Limits.{leastBytes, limits, setWords, wordsOf, bytesOf, Within}
 use Rattle.bundle.specs.File.{Whole, countsOf, bundleOf}
 use Rattle.logic.specs.Lists.{All, Number}
@@ -26,6 +26,10 @@ use Rattle.expansion.specs.JobOrder.{allJobChecks}
 -- a string of bytes
 abbrev pub Bytes : List ℕ → Type 0
 Bytes f = All (λ x. x < 256) f
+
+-- It is one exactly where each of its numbers, by its place, is below 256: so every lent string of bytes is one.
+abbrev pub BytesExactly : Type 0
+BytesExactly = (f : List ℕ) → Bytes f ↔ ((i : ℕ) → getD f i 0 < 256)
 
 -- A job is well formed if it fails none of the checks 1 to 3, 5 to 9 and 18 and its left is a term.
 pub record JobFormed (f : List ℕ) : Type 0 where
