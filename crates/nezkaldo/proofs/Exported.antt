@@ -4,6 +4,7 @@
 --     check-number                  what `nezkaldo_check` answers
 --     file-short                    a file that is written has at most 58,148 bytes
 --     expand-number                 what `nezkaldo_expand` answers
+--     leaves-exactly                what it leaves is said by the four clauses of its contract, and by no more
 --     exported-zeros                what it leaves in the areas besides the file: zeros
 --     exported-demand-three         demand 3 over these numbers
 use Prim.Native.Nat.{ℕ, _+_, _*_, _/_, _%_, _≤_, _<_}
@@ -31,7 +32,7 @@ use Rattle.expansion.proofs.JobSizes.{refused-job-small}
 use Rattle.expansion.proofs.JobChecks.{job-exactly, job-answer, job-room, refused-job-where}
 use Rattle.expansion.proofs.Demands.{refused-job-exactly, written-exactly, areas-left, expansion-right}
 use Rattle.nezkaldo.specs.Packed.{packed, packedReply}
-use Rattle.nezkaldo.specs.Exported.{Tells, TellsOne, CheckSays, CheckNumber, ExpandSays, ExpandNumber, ExportedZeros, ExportedEqual, ExportedAccepted, ExportedDemandThree}
+use Rattle.nezkaldo.specs.Exported.{Tells, TellsOne, CheckSays, CheckNumber, ExpandSays, ExpandNumber, LeavesExactly, ExportedZeros, ExportedEqual, ExportedAccepted, ExportedDemandThree}
 
 -- ---- number · 2^32 + record
 
@@ -127,6 +128,12 @@ expand-number f out words sets = go (expansion f out words sets .answer) refl
             λ h. let q = refused-job-exactly f out words sets n i .1 h in tells-exactly k j n i some (omega arith) .1 (cc, cc),
           );
         }
+
+pub leaves-exactly : LeavesExactly
+leaves-exactly o r out words sets = (
+  λ h. (h .answer, h .output, h .scratch, h .stack),
+  λ h. record { answer = h .0; output = h .1; scratch = h .2; stack = h .3 },
+)
 
 pub exported-zeros : ExportedZeros
 exported-zeros job out words sets out′ words′ sets′ r left =

@@ -70,6 +70,12 @@ pub record Leaves (o : Outcome) (r : ℕ) (out words sets : List ℕ) : Type 0 w
   pub scratch : words ≡ o .words
   pub stack : sets ≡ o .sets
 
+-- It asks for nothing more than these four: so what `nezkaldo_expand` leaves is always so.
+abbrev pub LeavesExactly : Type 0
+LeavesExactly =
+    (o : Outcome) (r : ℕ) (out words sets : List ℕ)
+    → Leaves o r out words sets ↔ ((r ≡ packedReply (o .answer)) × (out ≡ o .out) × (words ≡ o .words) × (sets ≡ o .sets))
+
 -- Scratch ends zero; where the job is refused, the output is zero too; bytes after the result, which is as long as the answer says, are zero.
 abbrev pub ExportedZeros : Type 0
 ExportedZeros =
