@@ -1,2 +1,2 @@
-// For the program show: what a refusal by 10 to 15 means.
-pub mod steps; // steps.rt: contexts, steps, the claim
+// For the program show: what a refusal by 12 to 15 means.
+pub mod steps; // steps.rt: steps, the claim

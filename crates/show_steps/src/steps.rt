@@ -1,89 +1,24 @@
-// What a refusal by 10 to 15 means, in one sentence, and the sentence for every number.
+// What a refusal by 12 to 15 means, in one sentence, and the sentence for every number.
 // Each function goes through the tests of its check, up to the first that fails; where only one is left, it is that one.
 ghost use Rattle.bundle.specs.File.{Whole};
 use bundle::Bundle;
 use bundle::lists::all_numbers;
 use bundle::lists::first_link;
-use bundle::records::context_field;
 use bundle::records::link_field;
 use bundle::records::step_field;
 use bundle::records::term_field;
 use show_tables::tables::bad_link;
-use show_tables::tables::bad_pairs;
 use show_tables::tables::bad_sort;
-use show_tables::tables::bad_term;
 use show_tables::tables::before;
 use show_tables::tables::is_number;
-use show_tables::tables::missorted;
 use show_tables::tables::no_list;
 use show_tables::tables::not_to;
-use show_tables::tables::repeated_term;
+use show_terms::bad_contexts::bad_context;
+use show_terms::bad_contexts::unsettled;
+use show_terms::bad_terms::bad_term;
+use show_terms::bad_terms::missorted;
+use show_terms::bad_terms::repeated_term;
 use show_text::out;
-
-// ---- 10 and 11: contexts
-
-fn bad_fixing(b: Bundle, v: usize, unused: usize) {
-    if !is_number(v, b.variables) {
-        not_to(b" fixes variable ", v, b.variables);
-    } else {
-        out::name(
-            b" fixes a variable, and the field that it does not use is ",
-            unused,
-        );
-    }
-}
-
-fn bad_replacing(file: &[u8], b: Bundle, variables: usize, terms: usize)
-    requires { ⌜ Whole (now file) b ⌝ }
-{
-    if variables > b.links {
-        no_list(
-            b": its list of variables starts at link ",
-            variables,
-            b.links,
-        );
-    } else if !all_numbers(file, b, variables, b.variables) {
-        out::name(b": one of its variables is not 1 to ", b.variables);
-    } else if terms > b.links {
-        no_list(b": its list of terms starts at link ", terms, b.links);
-    } else if !all_numbers(file, b, terms, b.terms) {
-        out::name(b": one of its terms is not 1 to ", b.terms);
-    } else {
-        bad_pairs(file, b, variables);
-    }
-}
-
-// 10: a context's kind, unused field, reference, lists.
-fn bad_context(file: &[u8], b: Bundle, i: usize)
-    requires { ⌜ Whole (now file) b ⌝ }
-{
-    let kind = context_field(file, b, i, 0);
-    let first = context_field(file, b, i, 1);
-    let second = context_field(file, b, i, 2);
-    let parent = context_field(file, b, i, 3);
-    out::name(b"c", i);
-    if i <= parent {
-        out::name(b": its parent is c", parent);
-        out::text(b", not an earlier context");
-    } else if kind == 1 {
-        bad_fixing(b, first, second);
-    } else if kind == 2 {
-        bad_replacing(file, b, first, second);
-    } else {
-        not_to(b" has kind ", kind, 2);
-    }
-}
-
-// 11: a replacement moved in its parent.
-fn unsettled(file: &[u8], b: Bundle, i: usize)
-    requires { ⌜ Whole (now file) b ⌝ }
-{
-    let parent = context_field(file, b, i, 3);
-    out::name(b"c", i);
-    out::text(b": one of its terms has a free variable that the parent, ");
-    out::name(b"c", parent);
-    out::text(b", replaces by another term");
-}
 
 // ---- 12 to 14: steps
 

@@ -1,14 +1,9 @@
-// What a refusal by 1 to 9 means: document 01's word for each number, and one sentence that says what is wrong there.
+// What a refusal by 1 to 6 means: document 01's word for each number, and one sentence that says what is wrong there.
 // Each function goes through the tests of its check, up to the first that fails; where only one is left, it is that one.
 ghost use Rattle.bundle.specs.File.{Whole};
 use bundle::Bundle;
-use bundle::lists::all_different;
-use bundle::lists::all_numbers;
-use bundle::lists::first_link;
-use bundle::lists::same_list;
 use bundle::records::link_field;
 use bundle::records::symbol_field;
-use bundle::records::term_field;
 use bundle::records::variable_sort;
 use show_text::out;
 
@@ -51,6 +46,17 @@ pub fn not_lower(what: &[u8], i: usize) {
 pub fn no_list(what: &[u8], start: usize, links: usize) {
     out::name(what, start);
     out::name(b", and there are only links 1 to ", links);
+}
+
+// ---- tests that the sentences share
+
+// The number before i.
+pub fn before(i: usize) -> usize {
+    if i == 0 { 0 } else { i - 1 }
+}
+
+pub fn is_number(n: usize, most: usize) -> bool {
+    (0 < n) & (n <= most)
 }
 
 // ---- 1 to 3: the file as a whole
@@ -140,181 +146,4 @@ pub fn bad_sort(file: &[u8], b: Bundle, i: usize)
     } else {
         bad_variable(file, b, i);
     }
-}
-
-// ---- 7 to 9: terms
-
-// The number before i.
-pub fn before(i: usize) -> usize {
-    if i == 0 { 0 } else { i - 1 }
-}
-
-pub fn is_number(n: usize, most: usize) -> bool {
-    (0 < n) & (n <= most)
-}
-
-fn bad_variable_term(b: Bundle, v: usize) {
-    if !is_number(v, b.variables) {
-        not_to(b" is variable ", v, b.variables);
-    } else {
-        out::text(b" is a variable, and a field that it does not use is not 0");
-    }
-}
-
-fn bad_application(file: &[u8], b: Bundle, i: usize, f: usize, list: usize)
-    requires { ⌜ Whole (now file) b ⌝ }
-{
-    let last = 32 + b.symbols;
-    if (f == 0) | ((8 < f) & (f < 33)) | (last < f) {
-        out::name(b" applies symbol ", f);
-        out::name(b", neither built in (1 to 8) nor declared (33 up to ", last);
-        out::close();
-    } else if list > b.links {
-        no_list(b": its list of arguments starts at link ", list, b.links);
-    } else if !all_numbers(file, b, list, before(i)) {
-        not_lower(b": an argument", i);
-    } else {
-        out::text(b" is an application, and the field that it does not use is not 0");
-    }
-}
-
-fn bad_quantifier(b: Bundle, i: usize, v: usize, body: usize) {
-    if !is_number(v, b.variables) {
-        not_to(b" binds variable ", v, b.variables);
-    } else if !is_number(body, before(i)) {
-        out::name(b": its body, t", body);
-        not_lower(b",", i);
-    } else {
-        out::text(b" is a quantifier, and the field that it does not use is not 0");
-    }
-}
-
-fn bad_let(file: &[u8], b: Bundle, i: usize, variables: usize, terms: usize, body: usize)
-    requires { ⌜ Whole (now file) b ⌝ }
-{
-    if variables > b.links {
-        no_list(
-            b": its list of variables starts at link ",
-            variables,
-            b.links,
-        );
-    } else if !all_numbers(file, b, variables, b.variables) {
-        out::name(b": one of its variables is not 1 to ", b.variables);
-    } else if terms > b.links {
-        no_list(b": its list of bound terms starts at link ", terms, b.links);
-    } else if !all_numbers(file, b, terms, before(i)) {
-        not_lower(b": a bound term", i);
-    } else {
-        out::name(b": its body, t", body);
-        not_lower(b",", i);
-    }
-}
-
-// 7: a term's kind, unused field or reference.
-pub fn bad_term(file: &[u8], b: Bundle, i: usize)
-    requires { ⌜ Whole (now file) b ⌝ }
-{
-    let kind = term_field(file, b, i, 0);
-    let first = term_field(file, b, i, 1);
-    let second = term_field(file, b, i, 2);
-    let third = term_field(file, b, i, 3);
-    out::name(b"t", i);
-    match kind {
-        1 => bad_variable_term(b, first),
-        2 => bad_application(file, b, i, first, second),
-        3 | 4 => bad_quantifier(b, i, first, second),
-        5 => bad_let(file, b, i, first, second, third),
-        _ => not_to(b" has kind ", kind, 5),
-    }
-}
-
-// The lists of a let or of a replacing context do not agree.
-pub fn bad_pairs(file: &[u8], b: Bundle, variables: usize)
-    requires { ⌜ Whole (now file) b ⌝ }
-{
-    if first_link(b, variables) == 0 {
-        out::text(b" has no variables");
-    } else if !all_different(file, b, variables) {
-        out::text(b" has a variable twice");
-    } else {
-        out::text(b": its terms are not as many as its variables, or not of the same sorts");
-    }
-}
-
-// 8: argument, body or let counts, sorts, repeats.
-pub fn missorted(file: &[u8], b: Bundle, i: usize)
-    requires { ⌜ Whole (now file) b ⌝ }
-{
-    let kind = term_field(file, b, i, 0);
-    let first = term_field(file, b, i, 1);
-    let second = term_field(file, b, i, 2);
-    out::name(b"t", i);
-    if kind == 2 {
-        out::name(b": its arguments are not as many as symbol ", first);
-        out::text(b" (");
-        out::symbol(first);
-        out::text(b") takes, or not of its sorts");
-    } else if kind == 5 {
-        bad_pairs(file, b, first);
-    } else {
-        out::name(b": its body, t", second);
-        out::text(b", is not of the sort Bool");
-    }
-}
-
-// Whether a field of two terms is the same: as lists where it is a list, or as numbers.
-fn same_field(file: &[u8], b: Bundle, is_list: bool, x: usize, y: usize) -> bool
-    requires { ⌜ Whole (now file) b ⌝ }
-{
-    if is_list {
-        same_list(file, b, x, y)
-    } else {
-        x == y
-    }
-}
-
-fn same_term(file: &[u8], b: Bundle, i: usize, j: usize) -> bool
-    requires { ⌜ Whole (now file) b ⌝ }
-{
-    let kind = term_field(file, b, i, 0);
-    let first = same_field(
-        file,
-        b,
-        kind == 5,
-        term_field(file, b, i, 1),
-        term_field(file, b, j, 1),
-    );
-    let second = same_field(
-        file,
-        b,
-        (kind == 2) | (kind == 5),
-        term_field(file, b, i, 2),
-        term_field(file, b, j, 2),
-    );
-    (kind == term_field(file, b, j, 0))
-        & first
-        & second
-        & (term_field(file, b, i, 3) == term_field(file, b, j, 3))
-}
-
-// The first term that is the same as term i, i itself where there is no earlier one.
-fn first_same(file: &[u8], b: Bundle, i: usize) -> usize
-    requires { ⌜ Whole (now file) b ⌝ }
-{
-    let mut j = 1;
-    while j < i {
-        if same_term(file, b, j, i) {
-            return j;
-        }
-        j += 1;
-    }
-    i
-}
-
-// 9: a term equal to an earlier one.
-pub fn repeated_term(file: &[u8], b: Bundle, i: usize)
-    requires { ⌜ Whole (now file) b ⌝ }
-{
-    out::name(b"t", i);
-    out::name(b" is the same term as t", first_same(file, b, i));
 }

@@ -87,7 +87,7 @@ fn same_field(file: &[u8], b: Bundle, list: bool, x: usize, y: usize) -> bool
 }
 
 // Whether terms i and j have the same record, lists compared item by item.
-fn same_term(file: &[u8], b: Bundle, i: usize, j: usize) -> bool
+pub fn same_term(file: &[u8], b: Bundle, i: usize, j: usize) -> bool
     requires { ⌜ Whole (now file) b ⌝ }
     ensures { λ r. ⌜ r ≡ sameTerm (bundleAt (now (file .entry)) b) (termOf (bundleAt (now (file .entry)) b) i) (termOf (bundleAt (now (file .entry)) b) j) ⌝ }
 {

@@ -1,9 +1,9 @@
--- `refusals::first_same` is safe and ends: it counts up to the term.
+-- `bad_terms::first_same` is safe and ends: it counts up to the term.
 use borrow.Author.Needs.{needs}
 use native.Mathlib.Omega.{arith}
 use Prim.Native.Nat.{_-_, _≤_}
-use Rattle.show_tables.proofs.tables.first_same.Statement.{statement}
-use Rattle.show_tables.proofs.tables.first_same.Tie as tie
+use Rattle.show_terms.proofs.bad_terms.first_same.Statement.{statement}
+use Rattle.show_terms.proofs.bad_terms.first_same.Tie as tie
 
 abbrev Inv-loop : tie.InvT-loop
 Inv-loop file b i j₀ j = 1 ≤ j
