@@ -7,7 +7,7 @@ ghost use Rattle.bundle.specs.File.{Whole, bundleAt, bundleOf};
 ghost use Rattle.logic.specs.Tests.{firstFailing};
 ghost use Rattle.logic.specs.Free.{freeArea};
 ghost use Rattle.free_variables.specs.FreeSets.{FreeSets};
-ghost use Rattle.contexts.specs.ContextRows.{Images, MovedSets};
+ghost use Rattle.images.specs.ContextRows.{Images, MovedSets};
 ghost use Rattle.judgement.specs.Judge.{claimTests, lentFor, lateFault, faultOf, judge, areaAfter};
 use bundle::Bundle;
 use bundle::records::step_field;

@@ -21,6 +21,7 @@
 --     Sound            THE THEOREMS: where every step holds, both sides of a step in context 0 have equal values in every world
 --     CounterExample   document 01's counter-example: with BIND's printed condition alone a step leads from false to true
 --     Entries          the kind of a context as code tests it
+--     EntryFacts       what a context that passes check 10 is, by its kind
 --     Walked           the image of a variable on the walk towards the empty context
 --     Symbols          the symbol table: declared symbols have records, and stay where more are declared
 --     Shapes           the tree of a well-formed term, by its kind
@@ -53,6 +54,7 @@ pub mod Images
 pub mod Sound
 pub mod CounterExample
 pub mod Entries
+pub mod EntryFacts
 pub mod Walked
 pub mod Symbols
 pub mod Shapes

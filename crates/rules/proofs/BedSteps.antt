@@ -10,7 +10,7 @@ use Rattle.bundle.specs.declared.Bundle.{Bundle as Counts}
 use Rattle.bundle.specs.Bundle.{stepOf, stepField}
 use Rattle.bundle.specs.File.{stepFrom, bundleAt}
 use Rattle.bundle.proofs.Fields.{steps-length}
-use Rattle.contexts.specs.LentReading.{bedWord, stepIn}
+use Rattle.images.specs.LentReading.{bedWord, stepIn}
 
 field-of : (w : ℕ → ℕ) (k : ℕ) → k < 5 → stepField (stepFrom w) k ≡ w k
 field-of w zero h = refl

@@ -11,7 +11,7 @@ ghost use Rattle.bundle.specs.File.{Whole, bundleAt};
 ghost use Rattle.logic.specs.Tests.{passed};
 ghost use Rattle.logic.specs.Rules.{carries, allProveBy, isImage, reflHoldsBy, congWhere, transTestsBy, transSideBy, bindTermsBy, bindContextsBy, freeInImageBy, bindSidesBy, letTestsBy};
 ghost use Rattle.rules.specs.StepWords.{asStep};
-ghost use Rattle.contexts.specs.LentReading.{Lent, freeIn, stepIn, imagesIn, allSettledIn};
+ghost use Rattle.images.specs.LentReading.{Lent, freeIn, stepIn, imagesIn, allSettledIn};
 ghost use Rattle.rules.specs.PremiseMarks.{keyOf, Carried};
 use super::StepWords;
 use bundle::Bundle;
@@ -27,10 +27,10 @@ use bundle::records::link_field;
 use bundle::records::step_field;
 use bundle::records::term_field;
 use bundle::words::wide;
-use contexts::images::image_of;
-use contexts::images::is_free;
-use contexts::images::is_settled;
-use contexts::images::is_variable;
+use images::images::image_of;
+use images::images::is_free;
+use images::images::is_settled;
+use images::images::is_variable;
 use logic::Image;
 
 // ---- Premises

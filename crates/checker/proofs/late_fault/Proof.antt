@@ -3,7 +3,7 @@ use Prim.Native.Nat.{ℕ}
 use native.Mathlib.Omega.{arith}
 use lib.ListN.{length-replicate}
 use Rattle.bundle.specs.File.{bundleAt}
-use Rattle.contexts.proofs.ContextRows.{images-none, moved-none}
+use Rattle.images.proofs.ContextRows.{images-none, moved-none}
 use borrow.Author.Needs.{needs}
 use Rattle.checker.proofs.late_fault.Statement.{statement}
 use Rattle.checker.proofs.late_fault.Tie as tie

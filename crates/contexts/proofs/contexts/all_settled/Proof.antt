@@ -11,7 +11,7 @@ use Rattle.bundle.specs.Lists.{each}
 use Rattle.bundle.specs.File.{bundleAt}
 use Rattle.bundle.proofs.Walks.{walk-start, walk-start-le, walk-le, walk-nil, walk-cons, walk-some, walk-length}
 use Rattle.logic.specs.Contexts.{settled}
-use Rattle.contexts.proofs.ReadingRight.{free-long, settled-right}
+use Rattle.images.proofs.ReadingRight.{free-long, settled-right}
 use Rattle.contexts.proofs.contexts.all_settled.Statement.{statement}
 use Rattle.contexts.proofs.contexts.all_settled.Tie as tie
 

@@ -9,8 +9,8 @@ use Rattle.bundle.specs.File.{bundleAt}
 use Rattle.bundle.proofs.Fields.{contexts-length, record-within}
 use Rattle.logic.specs.Contexts.{contextFault, contextsFault}
 use Rattle.logic.proofs.Firsts.{restFault, rest-start, rest-on, rest-here, rest-end}
-use Rattle.contexts.specs.ContextRows.{Images, MovedSets}
-use Rattle.contexts.proofs.EntryFacts.{refers-passed}
+use Rattle.images.specs.ContextRows.{Images, MovedSets}
+use Rattle.logic.proofs.EntryFacts.{refers-passed}
 use Prim.Native.Nat.{ℕ, suc}
 use Rattle.contexts.proofs.contexts.contexts_fault.Statement.{statement}
 use Rattle.contexts.proofs.contexts.contexts_fault.Tie as tie

@@ -9,8 +9,8 @@ use Rattle.bundle.specs.File.{bundleAt}
 use Rattle.bundle.specs.Bundle.{Bundle, Context}
 use Rattle.logic.specs.Contexts.{entryOf, fixing, noEntry, replacementsSettledAs, replacementsSettled}
 use Rattle.logic.proofs.Entries.{entry-rest}
-use Rattle.contexts.proofs.EntryFacts.{lower-parent}
-use Rattle.contexts.proofs.ContextRows.{moved-few}
+use Rattle.logic.proofs.EntryFacts.{lower-parent}
+use Rattle.images.proofs.ContextRows.{moved-few}
 use borrow.Author.Needs.{needs}
 use Rattle.contexts.proofs.contexts.replacements_settled.Statement.{statement}
 use Rattle.contexts.proofs.contexts.replacements_settled.Tie as tie

@@ -12,7 +12,7 @@ use Rattle.bundle.specs.Links.{items}
 use Rattle.bundle.specs.File.{bundleAt}
 use Rattle.bundle.proofs.Walks.{walk-start, walk-start-le, walk-le, walk-up, walk-nil, walk-length, or-none}
 use Rattle.logic.specs.Rules.{allProveBy}
-use Rattle.contexts.specs.LentReading.{stepIn}
+use Rattle.images.specs.LentReading.{stepIn}
 use Rattle.rules.specs.PremiseMarks.{keyOf}
 use Rattle.rules.proofs.Premises.{prove-short, prove-on, prove-end, left-none}
 use Rattle.rules.proofs.PremiseMarks.{CarriedAt, carried-start, carried-on, carried-stop}

@@ -9,7 +9,7 @@ use Rattle.bundle.specs.Links.{items}
 use Rattle.bundle.specs.File.{bundleAt}
 use Rattle.bundle.proofs.Walks.{walk-start, walk-start-le, walk-le, walk-nil, walk-length}
 use Rattle.logic.specs.Rules.{allProveBy}
-use Rattle.contexts.specs.LentReading.{stepIn}
+use Rattle.images.specs.LentReading.{stepIn}
 use Rattle.rules.proofs.Premises.{prove-short, prove-on, prove-end, left-any}
 use borrow.Author.Needs.{needs}
 use Rattle.rules.proofs.rules.all_prove.Statement.{statement}

@@ -11,8 +11,8 @@ use borrow.Author.Tests.{le-leb}
 use Rattle.bundle.proofs.Fields.{variables-length}
 use Rattle.logic.specs.Tests.{upTo}
 use Rattle.logic.specs.Rules.{freeInImageBy, bindSidesBy}
-use Rattle.contexts.specs.LentReading.{freeIn, imagesIn}
-use Rattle.contexts.proofs.FreeWords.{known-room}
+use Rattle.images.specs.LentReading.{freeIn, imagesIn}
+use Rattle.images.proofs.FreeWords.{known-room}
 use Rattle.logic.proofs.UpTo.{upto-on, upto-here, upto-end}
 use Rattle.rules.proofs.rules.bind_sides.Statement.{statement}
 use Rattle.rules.proofs.rules.bind_sides.Tie as tie

@@ -5,8 +5,8 @@ use lib.Dec.{eqb}
 use borrow.Author.Tests.{eq-eqb, ne-eqb}
 use mathlib.Core.Logic.{⊎-elim}
 use borrow.Author.Tests.{le-leb}
-use Rattle.contexts.specs.LentReading.{settledIn}
-use Rattle.contexts.proofs.FreeWords.{known-room}
+use Rattle.images.specs.LentReading.{settledIn}
+use Rattle.images.proofs.FreeWords.{known-room}
 use Rattle.logic.specs.Rules.{reflHoldsBy}
 use borrow.Author.Needs.{needs}
 use Rattle.rules.proofs.rules.refl_holds.Statement.{statement}

@@ -1,6 +1,6 @@
 -- `rules::trans_side` meets its contract: the middle is read, then tested.
 use borrow.Author.Tests.{le-leb}
-use Rattle.contexts.proofs.FreeWords.{known-room}
+use Rattle.images.proofs.FreeWords.{known-room}
 use Rattle.logic.specs.Rules.{transSideBy}
 use borrow.Author.Needs.{needs}
 use Rattle.rules.proofs.rules.trans_side.Statement.{statement}

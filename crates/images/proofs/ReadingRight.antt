@@ -26,10 +26,10 @@ use Rattle.logic.specs.Readings.{Reading, readingOf}
 use Rattle.logic.proofs.Tables.{table-below}
 use Rattle.logic.proofs.Tests.{up-to-all}
 use Rattle.free_variables.specs.FreeSets.{FreeSets}
-use Rattle.contexts.specs.ContextRows.{imageAt, Images, MovedSets}
-use Rattle.contexts.specs.LentReading.{freeIn, settledIn, stepIn, imagesIn, allSettledIn, readingIn, Lent}
-use Rattle.contexts.proofs.FreeWords.{free-zero, free-past, free-some, settled-zero, settled-past, settled-some}
-use Rattle.contexts.proofs.ContextRows.{moved-few, apart-settled}
+use Rattle.images.specs.ContextRows.{imageAt, Images, MovedSets}
+use Rattle.images.specs.LentReading.{freeIn, settledIn, stepIn, imagesIn, allSettledIn, readingIn, Lent}
+use Rattle.images.proofs.FreeWords.{free-zero, free-past, free-some, settled-zero, settled-past, settled-some}
+use Rattle.images.proofs.ContextRows.{moved-few, apart-settled}
 
 -- ---- numbers that are no record's
 

@@ -2,10 +2,10 @@
 use native.Mathlib.Omega.{arith}
 use mathlib.Core.Path.{sym, _∙_}
 use lib.ListN.{length}
-use Rattle.contexts.proofs.FreeWords.{settled-zero, settled-past, settled-some, set-within, row-within}
+use Rattle.images.proofs.FreeWords.{settled-zero, settled-past, settled-some, set-within, row-within}
 use borrow.Author.Needs.{needs}
-use Rattle.contexts.proofs.images.is_settled.Statement.{statement}
-use Rattle.contexts.proofs.images.is_settled.Tie as tie
+use Rattle.images.proofs.images.is_settled.Statement.{statement}
+use Rattle.images.proofs.images.is_settled.Tie as tie
 
 returns : tie.Need-returns
 returns c = sym (settled-zero _ _ _ _ _ _ (c .if1 .taken))

@@ -11,7 +11,7 @@ ghost use Rattle.bundle.specs.File.{Whole, bundleAt};
 ghost use Rattle.sets.specs.Sets.{member};
 ghost use Rattle.logic.specs.declared.Image.{Image};
 ghost use Rattle.logic.specs.Contexts.{lookup, first, movedBy, contextRefers};
-ghost use Rattle.contexts.specs.ContextRows.{asImage, imageIn, Images, MovedSets, RowRoom, Untouched, Agrees, Entered};
+ghost use Rattle.images.specs.ContextRows.{asImage, imageIn, Images, MovedSets, RowRoom, Untouched, Agrees, Entered};
 use super::images::is_variable;
 use bundle::Bundle;
 use bundle::lists::first_link;

@@ -6,8 +6,8 @@ use native.Mathlib.Decide.{ℕ-discrete}
 use lib.ListN.{length, getD, set, length-set}
 use lib.Seq.{getD-set-same, getD-set-other}
 use mathlib.Core.List.{List}
-use Rattle.contexts.proofs.known.copy_row.Statement.{statement}
-use Rattle.contexts.proofs.known.copy_row.Tie as tie
+use Rattle.images.proofs.known.copy_row.Statement.{statement}
+use Rattle.images.proofs.known.copy_row.Tie as tie
 
 -- x of the places are copied
 abbrev Copied : List ℕ → ℕ → ℕ → ℕ → List ℕ → ℕ → Type 0

@@ -5,10 +5,10 @@ use Prim.Native.Nat.{_+_, _*_, _-_, _≤_, _<_}
 use lib.ListN.{length}
 use Rattle.bundle.specs.File.{bundleAt}
 use Rattle.bundle.proofs.Fields.{variables-length}
-use Rattle.contexts.proofs.ContextRows.{entered-set}
+use Rattle.images.proofs.ContextRows.{entered-set}
 use borrow.Author.Needs.{needs}
-use Rattle.contexts.proofs.known.set_image.Statement.{statement}
-use Rattle.contexts.proofs.known.set_image.Tie as tie
+use Rattle.images.proofs.known.set_image.Statement.{statement}
+use Rattle.images.proofs.known.set_image.Tie as tie
 
 cast-images : tie.Need-cast-images
 cast-images c = omega (arith, c .before .before .before .pre .0 .within .terms)

@@ -1,7 +1,7 @@
 -- `images::is_variable` meets its contract.
 use borrow.Author.Needs.{needs}
-use Rattle.contexts.proofs.images.is_variable.Statement.{statement}
-use Rattle.contexts.proofs.images.is_variable.Tie as tie
+use Rattle.images.proofs.images.is_variable.Statement.{statement}
+use Rattle.images.proofs.images.is_variable.Tie as tie
 
 term-field-requires : tie.Need-term-field-requires
 term-field-requires c κs = search needs

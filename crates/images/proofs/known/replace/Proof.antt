@@ -15,10 +15,10 @@ use Rattle.bundle.specs.declared.Bundle.{Bundle as Counts}
 use Rattle.bundle.specs.Bundle.{Bundle}
 use Rattle.logic.specs.Contexts.{lookup, first, movedBy}
 use Rattle.logic.proofs.Tests.{numbers-of, and-left, and-right}
-use Rattle.contexts.specs.ContextRows.{asImage, imageIn, Untouched, Agrees}
-use Rattle.contexts.proofs.ContextRows.{untouched-refl, untouched-trans, room-on, replacing-on, different-rest, as-gives}
-use Rattle.contexts.proofs.known.replace.Statement.{statement}
-use Rattle.contexts.proofs.known.replace.Tie as tie
+use Rattle.images.specs.ContextRows.{asImage, imageIn, Untouched, Agrees}
+use Rattle.images.proofs.ContextRows.{untouched-refl, untouched-trans, room-on, replacing-on, different-rest, as-gives}
+use Rattle.images.proofs.known.replace.Statement.{statement}
+use Rattle.images.proofs.known.replace.Tie as tie
 
 each-head : (n x : ℕ) (xs : List ℕ) → each (numbers n) (x ∷ xs) ≡ true → (1 ≤ x) × (x ≤ n)
 unfolding each

@@ -37,8 +37,8 @@ use Rattle.logic.specs.Free.{freeAt}
 use Rattle.logic.specs.Contexts.{lookup, first, image, movedBy, moved, settledFor, settled}
 use Rattle.logic.proofs.Images.{image-empty}
 use Rattle.logic.proofs.Tests.{numbers-in, numbers-of, and-left, and-right, both-ways, up-to, up-to-all}
-use Rattle.contexts.proofs.FreeWords.{numbers-past}
-use Rattle.contexts.specs.ContextRows.{asImage, imageAt, imageIn, Images, MovedSets, RowRoom, Untouched, Agrees, Entered}
+use Rattle.images.proofs.FreeWords.{numbers-past}
+use Rattle.images.specs.ContextRows.{asImage, imageAt, imageIn, Images, MovedSets, RowRoom, Untouched, Agrees, Entered}
 
 pub moved-few : (b : Bundle) (m : List ℕ) (n c d : ℕ) → d ≤ c → n * d ≤ n * c → MovedSets b m n c → MovedSets b m n d
 moved-few b m n c d h g i = record { long = omega (arith, i .long); same = λ k x l. i .same k x (omega arith); few = λ k x l. i .few k x (omega arith) }

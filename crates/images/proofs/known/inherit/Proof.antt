@@ -3,10 +3,10 @@ use native.Mathlib.Omega.{arith}
 use Prim.Native.Nat.{_+_, _*_, _≤_}
 use Rattle.bundle.specs.File.{bundleAt}
 use Rattle.bundle.proofs.Fields.{variables-length}
-use Rattle.contexts.proofs.ContextRows.{row-copied, parent-words, inherited, set-copied}
+use Rattle.images.proofs.ContextRows.{row-copied, parent-words, inherited, set-copied}
 use borrow.Author.Needs.{needs}
-use Rattle.contexts.proofs.known.inherit.Statement.{statement}
-use Rattle.contexts.proofs.known.inherit.Tie as tie
+use Rattle.images.proofs.known.inherit.Statement.{statement}
+use Rattle.images.proofs.known.inherit.Tie as tie
 
 mul-copy-row : tie.Need-mul-copy-row
 mul-copy-row c = omega (arith, c .before .before .before .before .pre .1 .row, c .before .before .before .before .pre .2)

@@ -16,7 +16,7 @@ use Rattle.bundle.specs.Lists.{numbers}
 use Rattle.bundle.proofs.Fields.{record-within}
 use Rattle.sets.specs.Sets.{member, disjointOf}
 use Rattle.logic.proofs.Tests.{numbers-in}
-use Rattle.contexts.specs.LentReading.{freeIn, settledIn}
+use Rattle.images.specs.LentReading.{freeIn, settledIn}
 
 pub numbers-past : (n t : ℕ) → n < t → numbers n t ≡ false
 numbers-past n t h = go (ltb 0 t)

@@ -3,11 +3,11 @@ use native.Mathlib.Omega.{arith}
 use mathlib.Core.Path.{_≡_, sym, ap, _∙_}
 use lib.ListN.{getD}
 use Prim.Native.Nat.{_+_, _*_, _-_}
-use Rattle.contexts.specs.ContextRows.{asImage}
-use Rattle.contexts.proofs.ContextRows.{image-zero, image-past, image-some, as-own, as-gives}
+use Rattle.images.specs.ContextRows.{asImage}
+use Rattle.images.proofs.ContextRows.{image-zero, image-past, image-some, as-own, as-gives}
 use borrow.Author.Needs.{needs}
-use Rattle.contexts.proofs.images.image_of.Statement.{statement}
-use Rattle.contexts.proofs.images.image_of.Tie as tie
+use Rattle.images.proofs.images.image_of.Statement.{statement}
+use Rattle.images.proofs.images.image_of.Tie as tie
 
 returns : tie.Need-returns
 returns c = sym (image-zero _ _ _ _ (c .if1 .taken))

@@ -13,7 +13,7 @@ use Rattle.sets.specs.Sets.{member, disjointOf}
 use Rattle.logic.specs.declared.Image.{Image}
 use Rattle.logic.specs.declared.Image.the-variants.{Own}
 use Rattle.logic.specs.Readings.{Reading}
-use Rattle.contexts.specs.ContextRows.{imageAt}
+use Rattle.images.specs.ContextRows.{imageAt}
 
 -- v is in the set of term t
 unfoldable pub freeIn : ℕ → List ℕ → ℕ → ℕ → ℕ → Bool

@@ -11,12 +11,12 @@ use Rattle.bundle.specs.Lists.{numbers, each, different}
 use Rattle.bundle.proofs.Fields.{variables-length, terms-length}
 use Rattle.logic.specs.Contexts.{movedBy}
 use Rattle.logic.proofs.Images.{image-fixes, image-replaces}
-use Rattle.contexts.specs.ContextRows.{asImage}
-use Rattle.contexts.proofs.EntryFacts.{lower-parent, fixes-number, replaces-kind, replaces-lists}
-use Rattle.contexts.proofs.ContextRows.{room-on, agrees-copied, images-on, sets-on}
+use Rattle.images.specs.ContextRows.{asImage}
+use Rattle.logic.proofs.EntryFacts.{lower-parent, fixes-number, replaces-kind, replaces-lists}
+use Rattle.images.proofs.ContextRows.{room-on, agrees-copied, images-on, sets-on}
 use borrow.Author.Needs.{needs}
-use Rattle.contexts.proofs.known.enter.Statement.{statement}
-use Rattle.contexts.proofs.known.enter.Tie as tie
+use Rattle.images.proofs.known.enter.Statement.{statement}
+use Rattle.images.proofs.known.enter.Tie as tie
 
 context-field-requires : tie.Need-context-field-requires
 context-field-requires c κs = search needs

@@ -3,9 +3,9 @@ use native.Mathlib.Omega.{arith}
 use borrow.Author.Needs.{needs}
 use mathlib.Core.Path.{sym, _∙_}
 use lib.ListN.{length}
-use Rattle.contexts.proofs.FreeWords.{free-zero, free-past, free-some, set-within}
-use Rattle.contexts.proofs.images.is_free.Statement.{statement}
-use Rattle.contexts.proofs.images.is_free.Tie as tie
+use Rattle.images.proofs.FreeWords.{free-zero, free-past, free-some, set-within}
+use Rattle.images.proofs.images.is_free.Statement.{statement}
+use Rattle.images.proofs.images.is_free.Tie as tie
 
 returns : tie.Need-returns
 returns c = sym (free-zero _ _ _ _ _ (c .if1 .taken))

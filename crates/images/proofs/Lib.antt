@@ -2,8 +2,6 @@
 --     FreeWords      free variables and settled terms, as words that may hold anything have them
 --     ContextRows    the table of images and the sets of moved variables
 --     ReadingRight   THE LAW OF READINGS: where the memory is right, its reading is the bundle's own
---     EntryFacts     what a context that passes check 10 is, by its kind
 pub mod FreeWords
 pub mod ContextRows
 pub mod ReadingRight
-pub mod EntryFacts
