@@ -17,7 +17,7 @@ fn main() {
     let mut free = [0u64; Bundle::SET_WORDS * Bundle::TERMS];
     let answer = checker::check(&input[..n], &mut free);
     match answer {
-        Answer::Accepted { left, right } => print_line(b"accepted ", left, right),
+        Answer::Accepted(a) => print_line(b"accepted ", a.left, a.right),
         Answer::Refused { number, record } => print_line(b"refused ", number, record),
     }
 }

@@ -14,7 +14,7 @@ use Rattle.logic.specs.declared.Fault.{Fault}
 use Rattle.logic.specs.Free.{freeArea}
 use Rattle.judgement.specs.declared.Answer.the-variants.{Accepted, Refused}
 use Rattle.judgement.specs.Judge.{faultOf, judge, areaAfter}
-use Rattle.judgement.proofs.Acceptance.{nothing-exactly, accepted-where, refused-where}
+use Rattle.judgement.proofs.Accepting.{nothing-exactly, accepted-where, refused-where}
 use Rattle.sets.proofs.Cleared.{all-cleared}
 use Rattle.judgement.proofs.Demands.{area-left}
 
@@ -38,8 +38,8 @@ module _ (f : List ℕ) (m : ℕ) (r : Fault) (found : r ≡ faultOf f m) where
     pub header-there : 36 ≤ length f
     header-there = nothing-exactly f m .0 none .header
 
-    pub answer-accepted : (left right : ℕ) → left ≡ bundleOf f .left → right ≡ bundleOf f .right → Accepted left right ≡ judge f m
-    answer-accepted left right l q = sym (accepted-where f m left right .1 (none, l, q))
+    pub answer-accepted : (left right : ℕ) → left ≡ bundleOf f .left → right ≡ bundleOf f .right → Accepted (record { left = left; right = right }) ≡ judge f m
+    answer-accepted left right l q = sym (accepted-where f m _ .1 (none, λ i. record { left = l i; right = q i }))
 
     pub area-free : (x : List ℕ) → x ≡ freeArea (bundleOf f) setWords m → x ≡ areaAfter f m
     unfolding areaAfter

@@ -13,6 +13,7 @@ use bundle::Bundle;
 use bundle::records::step_field;
 use bundle::words::counts;
 use bundle::words::word_at;
+use judgement::Acceptance;
 use judgement::Answer;
 use logic::Fault;
 
@@ -120,8 +121,8 @@ pub fn check(file: &[u8], free: &mut [u64]) -> Answer
             record: found.record,
         };
     }
-    Answer::Accepted {
+    Answer::Accepted(Acceptance {
         left: word_at(file, 7),
         right: word_at(file, 8),
-    }
+    })
 }

@@ -15,7 +15,7 @@ use Rattle.bundle.specs.Bundle.{Bundle}
 use Rattle.bundle.specs.Limits.{headerWords, setWords, Within}
 use Rattle.bundle.specs.File.{countsOf, bundleOf}
 use Rattle.judgement.specs.declared.Answer.the-variants.{Accepted}
-use Rattle.judgement.specs.Judge.{judge}
+use Rattle.judgement.specs.Judge.{acceptance, judge}
 use Rattle.judgement.specs.Demands.{Acceptable}
 use Rattle.judgement.proofs.Order.{first-fails, fails-first, failing-number}
 use Rattle.judgement.proofs.Demands.{accepted-exactly, accepted-sound}
@@ -77,8 +77,8 @@ module _ (f : List ℕ) (B : Bundle) (fit : Within (countsIn B)) (small : SmallB
   }
 
   file-accepted : (m : ℕ) → setWords * countsOf (fileOf B) .terms ≤ m
-      → judge (fileOf B) m ≡ Accepted (bundleOf (fileOf B) .left) (bundleOf (fileOf B) .right)
-  file-accepted m long = accepted-exactly (fileOf B) m _ _ .1 (acceptable m long, refl, refl)
+      → judge (fileOf B) m ≡ Accepted (acceptance (bundleOf (fileOf B)))
+  file-accepted m long = accepted-exactly (fileOf B) m _ .1 (acceptable m long, refl)
 
   pub written-well : WrittenWell f (fileOf B)
   written-well = record {
@@ -88,7 +88,7 @@ module _ (f : List ℕ) (B : Bundle) (fit : Within (countsIn B)) (small : SmallB
     plain = here .plain;
     equal =
         let m : ℕ = setWords * countsOf (fileOf B) .terms in
-        accepted-sound (fileOf B) m _ _ (file-accepted m (omega arith));
+        accepted-sound (fileOf B) m _ (file-accepted m (omega arith));
   }
 
 pub expansion-right : ExpansionRight

@@ -15,7 +15,7 @@ use Rattle.logic.specs.WellFormed.{TablesFormed}
 use Rattle.logic.specs.Values.{EqualValues}
 use Rattle.logic.specs.Longer.{Longer}
 use Rattle.judgement.specs.declared.Answer.the-variants.{Accepted}
-use Rattle.judgement.specs.Judge.{judge}
+use Rattle.judgement.specs.Judge.{acceptance, judge}
 use Rattle.judgement.specs.Order.{FirstFailing}
 use Rattle.expansion.specs.declared.Answer.the-variants.{Written, Refused}
 use Rattle.expansion.specs.Visit.{visited}
@@ -79,7 +79,7 @@ AreasLeft = (f : List ℕ) (out words sets : ℕ) → ZerosLeft out words sets (
 -- What is to hold of the file g that is written for the job f:
 pub record WrittenWell (f g : List ℕ) : Type 0 where
   -- it is accepted, where the checker is lent what its T asks,
-  pub accepted : (m : ℕ) → setWords * countsOf g .terms ≤ m → judge g m ≡ Accepted (bundleOf g .left) (bundleOf g .right)
+  pub accepted : (m : ℕ) → setWords * countsOf g .terms ≤ m → judge g m ≡ Accepted (acceptance (bundleOf g))
   -- its left is the rule: its left word is the job's, and each record of the job stands in it under its old number, unchanged,
   pub left : bundleOf g .left ≡ bundleOf f .left
   pub records : Longer (bundleOf f) (bundleOf g)

@@ -34,7 +34,7 @@ Right (expand f out words sets answer out′ words′ sets′) =
     × (expansion f out words sets .sets ≡ sets′)
 
 abbrev pub accepted : List ℕ → ℕ → ℕ → ℕ → List ℕ → Row
-accepted f lent left right area = check f lent (Accepted left right) area
+accepted f lent left right area = check f lent (Accepted (record { left = left; right = right })) area
 
 -- every lent word is then zero
 abbrev pub refused : List ℕ → ℕ → ℕ → ℕ → Row

@@ -6,7 +6,7 @@
 --     accepted-distinct         accepted, different numbers stand for different terms
 --     area-left                 accepted, the free sets stand in the area; refused, zeros
 use Prim.Native.Nat.{ℕ, zero, suc, _≤_}
-use mathlib.Core.Path.{_≡_, refl, sym, subst₂, _∙_}
+use mathlib.Core.Path.{_≡_, refl, sym, ap, subst₂, _∙_}
 use native.Mathlib.Omega.{arith}
 use lib.ListN.{length, replicate}
 use Rattle.bundle.specs.File.{bundleOf}
@@ -15,11 +15,12 @@ use Rattle.logic.specs.Values.{EqualValues}
 use Rattle.logic.proofs.Formed.{well-formed-exactly}
 use Rattle.logic.proofs.Distinct.{terms-distinct}
 use Rattle.logic.proofs.Sound.{claim-sound}
+use Rattle.judgement.specs.declared.Acceptance.{Acceptance}
 use Rattle.judgement.specs.Judge.{areaFor, areaAfter}
 use Rattle.judgement.specs.Order.{allChecks}
 use Rattle.judgement.specs.Demands.{LastIsClaim, RefusedExactly, AcceptedUnlessFails, AcceptedExactly, AcceptedSound, AcceptedDistinct, AreaLeft}
 use Rattle.judgement.proofs.Order.{first-fails, fails-first, none-fails, all-hold, failing-number, checks-find}
-use Rattle.judgement.proofs.Acceptance.{nothing-exactly, accepted-where, refused-where}
+use Rattle.judgement.proofs.Accepting.{nothing-exactly, accepted-where, refused-where}
 use Rattle.judgement.proofs.Areas.{sets-left}
 
 pub refused-exactly : RefusedExactly
@@ -30,32 +31,32 @@ refused-exactly f m n i = (
 
 pub accepted-unless-fails : AcceptedUnlessFails
 accepted-unless-fails f m = (
-  λ e. all-hold (allChecks f m) (checks-find f m .numbers) (rw (checks-find f m .first) (accepted-where f m _ _ .0 e .0)),
-  λ h. accepted-where f m _ _ .1 (rw (← checks-find f m .first, none-fails (allChecks f m) h), refl, refl),
+  λ e. all-hold (allChecks f m) (checks-find f m .numbers) (rw (checks-find f m .first) (accepted-where f m _ .0 e .0)),
+  λ h. accepted-where f m _ .1 (rw (← checks-find f m .first, none-fails (allChecks f m) h), refl),
 )
 
 pub accepted-exactly : AcceptedExactly
-accepted-exactly f m l r = (
-  λ e. let h = accepted-where f m l r .0 e in (nothing-exactly f m .0 (h .0), h .1, h .2),
-  λ h. accepted-where f m l r .1 (nothing-exactly f m .1 (h .0), h .1, h .2),
+accepted-exactly f m a = (
+  λ e. let h = accepted-where f m a .0 e in (nothing-exactly f m .0 (h .0), h .1),
+  λ h. accepted-where f m a .1 (nothing-exactly f m .1 (h .0), h .1),
 )
 
 pub accepted-sound : AcceptedSound
-accepted-sound f m l r e =
-    let h = accepted-exactly f m l r .0 e in
+accepted-sound f m a e =
+    let h = accepted-exactly f m a .0 e in
     let last : LastIsClaim (bundleOf f) = h .0 .claim in
-    subst₂ (EqualValues (bundleOf f)) (last .left ∙ sym (h .1)) (last .right ∙ sym (h .2))
+    subst₂ (EqualValues (bundleOf f)) (last .left ∙ sym (ap (λ (x : Acceptance). x .left) (h .1))) (last .right ∙ sym (ap (λ (x : Acceptance). x .right) (h .1)))
     (claim-sound (bundleOf f) (h .0 .formed) (h .0 .steps) (length (bundleOf f .steps)) (last .some, omega arith) (last .context))
 
 pub accepted-distinct : AcceptedDistinct
-accepted-distinct f m l r e = terms-distinct (bundleOf f) (well-formed-exactly (bundleOf f) .1 (accepted-exactly f m l r .0 e .0 .formed) .0)
+accepted-distinct f m a e = terms-distinct (bundleOf f) (well-formed-exactly (bundleOf f) .1 (accepted-exactly f m a .0 e .0 .formed) .0)
 
 pub area-left : AreaLeft
 unfolding areaAfter
 area-left f m = record {
-  accepted = λ l r e.
-      let good = accepted-exactly f m l r .0 e .0 in
-      rw (accepted-where f m l r .0 e .0) (sets-left (bundleOf f) m (good .formed .tables) (rw terms-length (good .area)));
+  accepted = λ a e.
+      let good = accepted-exactly f m a .0 e .0 in
+      rw (accepted-where f m a .0 e .0) (sets-left (bundleOf f) m (good .formed .tables) (rw terms-length (good .area)));
   refused = λ n i e. let h = refused-where f m n i .0 e in rw (h .1) (zeros n (h .0));
 }
   where

@@ -21,7 +21,7 @@ use Rattle.logic.specs.Rules.{stepTests, stepFault, stepsFault}
 use Rattle.judgement.specs.declared.Answer.the-variants.{Refused}
 use Rattle.judgement.specs.Judge.{required, claimTests, lateFault, faultOf, judge}
 use Rattle.logic.proofs.Headers.{header-exactly}
-use Rattle.judgement.proofs.Acceptance.{refused-where}
+use Rattle.judgement.proofs.Accepting.{refused-where}
 
 pub record SmallFault (r : Fault) : Type 0 where
   pub number : r .number ≤ 18

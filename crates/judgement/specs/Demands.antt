@@ -14,9 +14,10 @@ use Rattle.logic.specs.Distinct.{Distinct}
 use Rattle.logic.specs.WellFormed.{WellFormed}
 use Rattle.logic.specs.Instance.{StepHolds}
 use Rattle.logic.specs.Values.{EqualValues}
+use Rattle.judgement.specs.declared.Acceptance.{Acceptance}
 use Rattle.judgement.specs.declared.Answer.{Answer}
 use Rattle.judgement.specs.declared.Answer.the-variants.{Accepted, Refused}
-use Rattle.judgement.specs.Judge.{judge, areaAfter}
+use Rattle.judgement.specs.Judge.{acceptance, judge, areaAfter}
 use Rattle.judgement.specs.Order.{allChecks, Holds, FirstFailing}
 
 -- Demand 1. A file is refused with number n and record i exactly where check n fails at record i and every check before it in document 01's order
@@ -27,7 +28,7 @@ RefusedExactly = (f : List ℕ) (m n i : ℕ) → (judge f m ≡ Refused n i) �
 -- A file is accepted exactly where no check fails.
 abbrev pub AcceptedUnlessFails : Type 0
 AcceptedUnlessFails =
-    (f : List ℕ) (m : ℕ) → (judge f m ≡ Accepted (bundleOf f .left) (bundleOf f .right)) ↔ All Holds (allChecks f m)
+    (f : List ℕ) (m : ℕ) → (judge f m ≡ Accepted (acceptance (bundleOf f))) ↔ All Holds (allChecks f m)
 
 -- the last step is the claim: in context 0, claimed left to claimed right
 pub record LastIsClaim (b : Bundle) : Type 0 where
@@ -50,15 +51,15 @@ pub record Acceptable (f : List ℕ) (m : ℕ) : Type 0 where
 -- Demand 2, for the checker: exactly these are accepted, and the answer has the claim.
 abbrev pub AcceptedExactly : Type 0
 AcceptedExactly =
-    (f : List ℕ) (m l r : ℕ) → (judge f m ≡ Accepted l r) ↔ (Acceptable f m × (l ≡ bundleOf f .left) × (r ≡ bundleOf f .right))
+    (f : List ℕ) (m : ℕ) (a : Acceptance) → (judge f m ≡ Accepted a) ↔ (Acceptable f m × (a ≡ acceptance (bundleOf f)))
 
 -- Demand 3, its first half: accepted, both sides of the claim have equal value in every finite world, under every valuation.
 abbrev pub AcceptedSound : Type 0
-AcceptedSound = (f : List ℕ) (m l r : ℕ) → judge f m ≡ Accepted l r → EqualValues (bundleOf f) l r
+AcceptedSound = (f : List ℕ) (m : ℕ) (a : Acceptance) → judge f m ≡ Accepted a → EqualValues (bundleOf f) (a .left) (a .right)
 
 -- In an accepted file different numbers stand for different terms.
 abbrev pub AcceptedDistinct : Type 0
-AcceptedDistinct = (f : List ℕ) (m l r : ℕ) → judge f m ≡ Accepted l r → Distinct (bundleOf f)
+AcceptedDistinct = (f : List ℕ) (m : ℕ) (a : Acceptance) → judge f m ≡ Accepted a → Distinct (bundleOf f)
 
 -- bit k of a word, counted from 0
 abbrev pub bit : ℕ → ℕ → ℕ
@@ -75,7 +76,7 @@ pub record FreeSetsLeft (b : Bundle) (m : ℕ) (area : List ℕ) : Type 0 where
 
 -- What is left in the m words: accepted, the free sets; refused, every area lent for writing is all zeros.
 pub record LeftInArea (f : List ℕ) (m : ℕ) : Type 0 where
-  pub accepted : (l r : ℕ) → judge f m ≡ Accepted l r → FreeSetsLeft (bundleOf f) m (areaAfter f m)
+  pub accepted : (a : Acceptance) → judge f m ≡ Accepted a → FreeSetsLeft (bundleOf f) m (areaAfter f m)
   pub refused : (n i : ℕ) → judge f m ≡ Refused n i → areaAfter f m ≡ replicate m 0
 
 abbrev pub AreaLeft : Type 0

@@ -13,6 +13,7 @@ use Rattle.logic.specs.Free.{freeArea}
 use Rattle.logic.specs.Checks.{tablesFault}
 use Rattle.logic.specs.Contexts.{contextsFault}
 use Rattle.logic.specs.Rules.{stepsFault}
+use Rattle.judgement.specs.declared.Acceptance.{Acceptance}
 use Rattle.judgement.specs.declared.Answer.{Answer}
 use Rattle.judgement.specs.declared.Answer.the-variants.{Accepted, Refused}
 
@@ -47,9 +48,13 @@ unfoldable pub faultOf : List ℕ → ℕ → Fault
 unfolding tablesFault lateFault orElse bundleOf countsOf
 faultOf f m = orNext (tablesFault f m (required f)) (lateFault (bundleOf f))
 
+-- what is said of a file that is accepted: the claim's left and right
+abbrev pub acceptance : Bundle → Acceptance
+acceptance b = record { left = b .left; right = b .right }
+
 -- The answer of a fault, by document 01's number: accepted with the claim's left and right, or refused with number and record.
 unfoldable pub answerOf : Bundle → ℕ → ℕ → Answer
-answerOf b zero i = Accepted (b .left) (b .right)
+answerOf b zero i = Accepted (acceptance b)
 answerOf b (suc n) i = Refused (suc n) i
 
 -- THE ANSWER to a file f where m words are lent

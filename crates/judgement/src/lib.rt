@@ -1,9 +1,14 @@
 // The answer of the checker, as a type: what `check` answers to every file is in specs/, with the demands and their proofs.
 
+// What is said of a file that is accepted: the claim, by its two term numbers.
+pub struct Acceptance {
+    pub left: usize,
+    pub right: usize,
+}
+
 // The answer to a file.
 pub enum Answer {
-    // The claim, by its two term numbers.
-    Accepted { left: usize, right: usize },
+    Accepted(Acceptance),
     // The number of the first check that fails, and its record.
     Refused { number: usize, record: usize },
 }

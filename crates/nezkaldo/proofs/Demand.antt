@@ -8,7 +8,7 @@ use Rattle.expansion.proofs.Demands.{expansion-right}
 use Rattle.nezkaldo.specs.Demand.{CheckedEqual, ExpandedAccepted, DemandThree}
 
 checked-equal : CheckedEqual
-checked-equal file free a l r e accepted = accepted-sound file _ l r (sym e ∙ accepted)
+checked-equal file free a s e accepted = accepted-sound file _ s (sym e ∙ accepted)
 
 expanded-accepted : ExpandedAccepted
 expanded-accepted job out words sets out′ words′ sets′ reply bytes formed closed fits long left =

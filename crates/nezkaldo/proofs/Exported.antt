@@ -20,7 +20,7 @@ use Rattle.judgement.specs.declared.Answer.{Answer}
 use Rattle.judgement.specs.declared.Answer.the-variants.{Accepted, Refused}
 use Rattle.judgement.specs.Judge.{judge}
 use Rattle.judgement.proofs.Sizes.{refused-small}
-use Rattle.judgement.proofs.Acceptance.{refused-where}
+use Rattle.judgement.proofs.Accepting.{refused-where}
 use Rattle.judgement.proofs.Demands.{refused-exactly, accepted-exactly, accepted-sound}
 use Rattle.expansion.specs.declared.Answer.{Answer as Reply}
 use Rattle.expansion.specs.declared.Answer.the-variants.{Written, Refused as Denied}
@@ -57,8 +57,8 @@ unfolding packed
 check-number f m = go (judge f m) refl
   where
     go : (a : Answer) → judge f m ≡ a → CheckSays f m (packed a)
-    go (Accepted l r) e = record {
-      accepted = (λ z. accepted-exactly f m l r .0 e .0, λ h. refl);
+    go (Accepted a) e = record {
+      accepted = (λ z. accepted-exactly f m a .0 e .0, λ h. refl);
       other = λ ne. absurd (ne refl);
       refused = λ n i. (
         λ t. absurd (omega (arith, t .number, t .sum)),
@@ -72,7 +72,7 @@ check-number f m = go (judge f m) refl
         let some : 1 ≤ k = refused-where f m k j .0 e .0 in
         let small = refused-small f m k j e in
         record {
-          accepted = (λ z. absurd (omega arith), λ h. let q : judge f m ≡ Accepted _ _ = accepted-exactly f m _ _ .1 (h, refl, refl) in cc);
+          accepted = (λ z. absurd (omega arith), λ h. let q : judge f m ≡ Accepted _ = accepted-exactly f m _ .1 (h, refl) in cc);
           other = λ ne. omega arith;
           refused = λ n i. (
             λ t. let same = tells-exactly k j n i some (omega arith) .0 t in refused-exactly f m n i .0 (cc),
@@ -151,7 +151,7 @@ exported-zeros job out words sets out′ words′ sets′ r left =
 
 exported-equal : ExportedEqual
 exported-equal file free r e zero =
-    accepted-sound file _ _ _ (accepted-exactly file (length free) _ _ .1 (check-number file _ .accepted .0 (sym e ∙ zero), refl, refl))
+    accepted-sound file _ _ (accepted-exactly file (length free) _ .1 (check-number file _ .accepted .0 (sym e ∙ zero), refl))
 
 exported-accepted : ExportedAccepted
 unfolding packed packedReply

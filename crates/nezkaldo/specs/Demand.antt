@@ -9,8 +9,9 @@ use Rattle.logic.specs.Terms.{tree}
 use Rattle.logic.specs.Free.{Closed}
 use Rattle.logic.specs.Values.{EqualValues}
 use Rattle.judgement.specs.declared.Answer.{Answer}
+use Rattle.judgement.specs.declared.Acceptance.{Acceptance}
 use Rattle.judgement.specs.declared.Answer.the-variants.{Accepted}
-use Rattle.judgement.specs.Judge.{judge}
+use Rattle.judgement.specs.Judge.{acceptance, judge}
 use Rattle.expansion.specs.declared.Answer.{Answer as Reply}
 use Rattle.expansion.specs.declared.Answer.the-variants.{Written}
 use Rattle.expansion.specs.Expansion.{expansion}
@@ -20,7 +21,7 @@ use Rattle.expansion.specs.Demands.{Bytes, JobFormed, Fits, LongEnough, Written
 -- Accepted: in every finite world, under every valuation, both sides of the claim have equal value. `a` is what `check` answers.
 abbrev pub CheckedEqual : Type 0
 CheckedEqual =
-    (file free : List ℕ) (a : Answer) (l r : ℕ) → a ≡ judge file (length free) → a ≡ Accepted l r → EqualValues (bundleOf file) l r
+    (file free : List ℕ) (a : Answer) (s : Acceptance) → a ≡ judge file (length free) → a ≡ Accepted s → EqualValues (bundleOf file) (s .left) (s .right)
 
 -- For every well-formed closed job whose derivation fits, with long enough areas, whatever stood in them (out, words, sets): if `expand` answers `reply`
 -- and leaves out′, words′ and sets′, then it has written a file of n bytes, `check` accepts those bytes with an area for their T, and they are as they are
@@ -33,7 +34,7 @@ ExpandedAccepted =
     → (n : ℕ)
     × (reply ≡ Written n)
     × ((free : List ℕ) (a : Answer) → setWords * countsOf (take n out′) .terms ≤ length free → a ≡ judge (take n out′) (length free)
-    → a ≡ Accepted (bundleOf (take n out′) .left) (bundleOf (take n out′) .right))
+    → a ≡ Accepted (acceptance (bundleOf (take n out′))))
     × WrittenWell job (take n out′)
 
 abbrev pub DemandThree : Type 0

@@ -7,7 +7,7 @@ use Rattle.expansion.specs.declared.Answer.the-variants.{Written, Refused as De
 
 -- 0 where the file is accepted, else number · 2^32 + record
 unfoldable pub packed : Answer → ℕ
-packed (Accepted left right) = 0
+packed (Accepted a) = 0
 packed (Refused number i) = 4294967296 * number + i
 
 -- the file's length where it is written, else number · 2^32 + record

@@ -24,7 +24,7 @@ pub extern "C" fn nezkaldo_check(file: &[u8], free: &mut [u64]) -> u64
 {
     let answer = checker::check(file, free);
     match answer {
-        Answer::Accepted { left: _, right: _ } => 0,
+        Answer::Accepted(_) => 0,
         Answer::Refused { number, record } => pack(number, record),
     }
 }

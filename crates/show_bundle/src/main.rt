@@ -47,7 +47,7 @@ fn begin_refusal(number: usize, record: usize, is_dot: bool) {
 // The checker's answer to a file with a bad header, and the start of the line that says why.
 fn begin_why(answer: Answer, is_dot: bool) {
     match answer {
-        Answer::Accepted { left, right } => answer_line(b"accepted ", left, right, is_dot),
+        Answer::Accepted(a) => answer_line(b"accepted ", a.left, a.right, is_dot),
         Answer::Refused { number, record } => begin_refusal(number, record, is_dot),
     }
 }
@@ -62,7 +62,7 @@ fn show_bundle(file: &[u8], b: Bundle, left: usize, right: usize, answer: Answer
         show_records::records::all_lines(file, b, left, right);
     }
     match answer {
-        Answer::Accepted { left: l, right: r } => answer_line(b"accepted ", l, r, is_dot),
+        Answer::Accepted(a) => answer_line(b"accepted ", a.left, a.right, is_dot),
         Answer::Refused { number, record } => {
             begin_refusal(number, record, is_dot);
             show_steps::steps::sentence(file, b, left, right, number, record);

@@ -12,7 +12,7 @@ use Rattle.logic.specs.Checks.{tablesFault}
 use Rattle.logic.proofs.Headers.{bundle-is}
 use Rattle.judgement.specs.Judge.{required, lateFault}
 use Rattle.logic.proofs.Headers.{HeaderGood, tables-header}
-use Rattle.judgement.proofs.Acceptance.{early-fault, late-fault}
+use Rattle.judgement.proofs.Accepting.{early-fault, late-fault}
 use Rattle.judgement.proofs.Areas.{lent-is}
 use Rattle.free_variables.proofs.HeldSets.{sets-held}
 use Rattle.checker.proofs.fault_of.Statement.{statement}

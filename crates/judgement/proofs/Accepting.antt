@@ -23,8 +23,9 @@ use Rattle.logic.proofs.Tests.{passed-each, all-passed, failing-none, none-fail
 use Rattle.logic.proofs.Firsts.{orElse-on, orElse-here, next-both, both-next}
 use Rattle.logic.proofs.Formed.{well-formed-exactly}
 use Rattle.logic.proofs.Instances.{steps-exactly}
+use Rattle.judgement.specs.declared.Acceptance.{Acceptance}
 use Rattle.judgement.specs.declared.Answer.the-variants.{Accepted, Refused}
-use Rattle.judgement.specs.Judge.{required, claimTests, lateFault, faultOf, answerOf, judge}
+use Rattle.judgement.specs.Judge.{acceptance, required, claimTests, lateFault, faultOf, answerOf, judge}
 use Rattle.judgement.specs.Demands.{LastIsClaim, Acceptable}
 use Rattle.logic.proofs.Headers.{HeaderGood, header-exactly}
 
@@ -106,15 +107,14 @@ nothing-exactly f m = (there, back)
 
 -- ---- the answer: accepted where the fault's number is 0, else refused with its number and record
 
-accepted-as : (b : Bundle) (n i l r : ℕ) → (answerOf b n i ≡ Accepted l r) ↔ ((n ≡ 0) × (l ≡ b .left) × (r ≡ b .right))
+accepted-as : (b : Bundle) (n i : ℕ) (a : Acceptance) → (answerOf b n i ≡ Accepted a) ↔ ((n ≡ 0) × (a ≡ acceptance b))
 unfolding answerOf
-accepted-as b zero i l r = (λ e. (refl, cc, cc), λ h. rw (h .1, h .2))
-accepted-as b (suc n) i l r = (λ e. (cc, cc, cc), λ h. let z : suc n ≡ 0 = h .0 in absurd (omega arith))
+accepted-as b zero i a = (λ e. (refl, cc), λ h. rw (h .1))
+accepted-as b (suc n) i a = (λ e. (cc, cc), λ h. let z : suc n ≡ 0 = h .0 in absurd (omega arith))
 
-pub accepted-where : (f : List ℕ) (m l r : ℕ)
-    → (judge f m ≡ Accepted l r) ↔ ((faultOf f m .number ≡ 0) × (l ≡ bundleOf f .left) × (r ≡ bundleOf f .right))
+pub accepted-where : (f : List ℕ) (m : ℕ) (a : Acceptance) → (judge f m ≡ Accepted a) ↔ ((faultOf f m .number ≡ 0) × (a ≡ acceptance (bundleOf f)))
 unfolding judge
-accepted-where f m l r = accepted-as (bundleOf f) (faultOf f m .number) (faultOf f m .«record») l r
+accepted-where f m a = accepted-as (bundleOf f) (faultOf f m .number) (faultOf f m .«record») a
 
 refused-as : (b : Bundle) (a : Fault) (n i : ℕ) → (answerOf b (a .number) (a .«record») ≡ Refused n i) ↔ ((1 ≤ n) × (a ≡ fault n i))
 unfolding answerOf
