@@ -3,7 +3,7 @@
 --     tables-small    of the first of checks 1 to 9
 --     fault-small     of the first fault of a file
 --     refused-small   of a refusal
-use mathlib.Core.Path.{_≡_, refl, sym, ap, subst, _∙_}
+use mathlib.Core.Path.{_≡_, refl, subst}
 use Prim.Native.Nat.{ℕ, zero, suc, _+_, _≤_}
 use mathlib.Core.Bool.{Bool, true, false, cond}
 use mathlib.Core.List.{List, [], _∷_}

@@ -14,7 +14,6 @@ use Rattle.logic.specs.Distinct.{Distinct}
 use Rattle.logic.specs.WellFormed.{HeaderFormed, WellFormed}
 use Rattle.logic.specs.Instance.{StepHolds}
 use Rattle.logic.specs.Values.{EqualValues}
-use Rattle.judgement.specs.declared.Answer.{Answer}
 use Rattle.judgement.specs.declared.Answer.the-variants.{Accepted, Refused}
 use Rattle.judgement.specs.Judge.{judge, areaAfter}
 use Rattle.judgement.specs.Order.{allChecks, Holds, FirstFailing}

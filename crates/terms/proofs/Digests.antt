@@ -3,7 +3,7 @@
 --     mix-none, mix-on, mix-full   the first items of a list, along a walk
 --     term-filed                   once term i is filed, the terms below i + 1 are
 --     same, new-at-end, not-new    a walk that found none with the record of term i; one that found one
-use mathlib.Core.Path.{_≡_, refl, sym, ap, _∙_}
+use mathlib.Core.Path.{_≡_, refl, sym, ap}
 use mathlib.Core.Bool.{Bool, true, false, not}
 use mathlib.Core.List.{List, [], _∷_}
 use Prim.Native.Nat.{ℕ, zero, suc, _+_, _≤_, _<_, _-_}
