@@ -5,9 +5,11 @@
 --     Chains       lists of links
 --     Walks        what a walk over links in a file knows
 --     ListPlaces   first, second and last items of a list, and lists of one item or two
+--     Filed        numbers filed by their digests, and the walk down the chain of a digest
 pub mod Tab
 pub mod Limits
 pub mod Fields
 pub mod Chains
 pub mod Walks
 pub mod ListPlaces
+pub mod Filed

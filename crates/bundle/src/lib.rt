@@ -10,6 +10,7 @@ pub mod halves; // halves.rt: words of 16 bits as numbers
 pub mod records; // records.rt: the fields of a record
 pub mod lists; // lists.rt: walks of lists of links
 pub mod places; // places.rt: items of lists by their place
+pub mod digests; // digests.rt: digests, by which records are filed
 
 // A bundle's version, and the numbers of records of its sections: with the lent file it gives every record. The limits belong to it.
 pub struct Bundle {

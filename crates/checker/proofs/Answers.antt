@@ -36,7 +36,7 @@ module _ (f : List ℕ) (m : ℕ) (r : Fault) (found : r ≡ faultOf f m) where
     none = rw (← found) e
 
     pub header-there : 36 ≤ length f
-    header-there = nothing-exactly f m .0 none .header
+    header-there = nothing-exactly f m .0 none .header .long
 
     pub answer-accepted : (left right : ℕ) → left ≡ bundleOf f .left → right ≡ bundleOf f .right → Accepted (record { left = left; right = right }) ≡ judge f m
     answer-accepted left right l q = sym (accepted-where f m _ .1 (none, λ i. record { left = l i; right = q i }))

@@ -13,7 +13,7 @@ ghost use Rattle.expansion.specs.Nodes.{leaf};
 ghost use Rattle.expansion.specs.Visit.{visit, concluded, replacing, renaming, openBinder, closeApplication, closeBinder};
 ghost use Rattle.placing.specs.Outcomes.{VisitOutcome, OpenOutcome, VisitIndexed, RecordIndexed};
 use bundle::Bundle;
-use filing::filing::DIGESTS;
+use bundle::digests::DIGESTS;
 use logic::Image;
 use placing::Recorded;
 use placing::Visited;

@@ -32,7 +32,7 @@ use Rattle.logic.proofs.FreeSettled.{free-at-exactly, free-number}
 use Rattle.logic.proofs.Formed.{tables-exactly}
 use Rattle.judgement.specs.Order.{Holds}
 use Rattle.judgement.proofs.Order.{none-fails, all-hold}
-use Rattle.logic.proofs.Headers.{HeaderGood, header-exactly}
+use Rattle.logic.proofs.Headers.{header-exactly}
 use Rattle.expansion.specs.declared.Answer.the-variants.{Written, Refused}
 use Rattle.expansion.specs.Visit.{visited, expanded}
 use Rattle.expansion.specs.File.{countsIn, fileOf}
@@ -115,14 +115,12 @@ module _ (f : List ℕ) (out words sets : ℕ) where
       there e =
           let halves = next-both (tablesFault f m 3) (lastFault b) e in
           let tables = next-both (fault (headerFault f m 3) 0) (sectionsFault b) (halves .0) in
-          let good : HeaderGood f m 3 = header-exactly f m 3 .0 (tables .0) in
+          let good = header-exactly f m 3 .0 (tables .0) in
           let formed : TablesFormed b = tables-exactly b .0 (tables .1) in
           let last : All Holds (lastChecks b) = all-hold (lastChecks b) (last-find b .numbers) (rw (last-find b .first) (halves .1)) in
           let bare = bare-exactly b .0 (last .0) in (
             record {
-              header = good .header;
-              version = good .version;
-              whole = good .whole;
+              header = good .0;
               tables = formed;
               contexts = bare .0;
               steps = bare .1;
@@ -131,13 +129,11 @@ module _ (f : List ℕ) (out words sets : ℕ) where
             },
             closed-exactly b formed .0 (last .1 .1 .0),
             within-all (countsIn (visited b .bundle)) (last .1 .1 .1 .0),
-            long-exactly out words sets .0 (good .area),
+            long-exactly out words sets .0 (good .1),
           )
 
       back : JobFormed f × Closed (tree b (b .left)) × Fits f × LongEnough out words sets → jobFault f out words sets .number ≡ 0
       back (formed, closed, fits, long) =
-          let good : HeaderGood f m 3 =
-          record { header = formed .header; version = formed .version; whole = formed .whole; area = long-exactly out words sets .1 long } in
           let last : All Holds (lastChecks b) = (
             bare-exactly b .1 (formed .contexts, formed .steps, formed .right),
             (
@@ -146,7 +142,7 @@ module _ (f : List ℕ) (out words sets : ℕ) where
             ),
           ) in
           both-next (tablesFault f m 3) (lastFault b)
-          (both-next (fault (headerFault f m 3) 0) (sectionsFault b) (header-exactly f m 3 .1 good) (tables-exactly b .1 (formed .tables)))
+          (both-next (fault (headerFault f m 3) 0) (sectionsFault b) (header-exactly f m 3 .1 (formed .header, long-exactly out words sets .1 long)) (tables-exactly b .1 (formed .tables)))
           (rw (← last-find b .first, none-fails (lastChecks b) last))
 
 -- ---- the answer

@@ -5,13 +5,13 @@ use mathlib.Core.Logic.{_↔_}
 use mathlib.Core.Bool.{false}
 use mathlib.Core.List.{List, []}
 use lib.ListN.{length, getD, take, drop, replicate}
-use Rattle.bundle.specs.Limits.{leastBytes, limits, setWords, wordsOf, bytesOf, Within}
-use Rattle.bundle.specs.File.{Whole, countsOf, bundleOf}
+use Rattle.bundle.specs.Limits.{limits, setWords, wordsOf, bytesOf, Within}
+use Rattle.bundle.specs.File.{countsOf, bundleOf}
 use Rattle.logic.specs.Lists.{All, Number}
 use Rattle.logic.specs.Terms.{tree}
 use Rattle.logic.specs.Free.{Closed}
 use Rattle.logic.specs.Lets.{holdsLet}
-use Rattle.logic.specs.WellFormed.{TablesFormed}
+use Rattle.logic.specs.WellFormed.{HeaderFormed, TablesFormed}
 use Rattle.logic.specs.Values.{EqualValues}
 use Rattle.logic.specs.Longer.{Longer}
 use Rattle.judgement.specs.declared.Answer.the-variants.{Accepted}
@@ -33,9 +33,7 @@ BytesExactly = (f : List ℕ) → Bytes f ↔ ((i : ℕ) → getD f i 0 < 256)
 
 -- A job is well formed if it fails none of the checks 1 to 3, 5 to 9 and 18 and its left is a term.
 pub record JobFormed (f : List ℕ) : Type 0 where
-  pub header : leastBytes ≤ length f
-  pub version : countsOf f .version ≡ 1
-  pub whole : Whole f (countsOf f)
+  pub header : HeaderFormed f
   pub tables : TablesFormed (bundleOf f)
   pub contexts : bundleOf f .contexts ≡ []
   pub steps : bundleOf f .steps ≡ []

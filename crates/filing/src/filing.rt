@@ -1,4 +1,4 @@
-// Terms of the scratch filed by a digest, in an index: the newest term of each digest, then, from place 1024 on, the term before each term among
+// Terms of the scratch filed by a digest, in an index: the newest term of each digest, then, from place DIGESTS on, the term before each term among
 // those with its digest; 0 for none. The digest is made of what terms are looked up by.
 ghost use mathlib.Core.Path.{_≡_};
 ghost use mathlib.Core.Bool.{true};
@@ -7,31 +7,22 @@ ghost use lib.ListN.{length, getD, set, replicate};
 ghost use Rattle.bundle.specs.Limits.{limits};
 ghost use Rattle.bundle.specs.Bundle.{termOf};
 ghost use Rattle.bundle.specs.Links.{items};
+ghost use Rattle.bundle.specs.Filed.{digests};
 ghost use Rattle.logic.specs.WellFormed.{TablesFormed};
 ghost use Rattle.scratch.specs.Scratch.{bundleIn, Roomy};
 ghost use Rattle.scratch.specs.Stack.{halves};
-ghost use Rattle.filing.specs.Filing.{digests, mix, mixAll, rootDigest, lookupDigest, Indexed};
+ghost use Rattle.filing.specs.Filing.{mixAll, rootDigest, lookupDigest, Indexed};
 use bundle::Bundle;
+use bundle::digests::DIGESTS;
+use bundle::digests::mixed;
 use bundle::lists::first_link;
 use scratch::lists::half;
 use scratch::lists::next_link;
 use scratch::records::link_field;
 use scratch::records::term_field;
 
-// There are so many digests.
-pub const DIGESTS: usize = 1024;
-
-// A digest and one number more.
-fn mixed(d: usize, x: usize) -> usize
-    requires { ⌜ (d < digests) × (x ≤ 4294967295) ⌝ }
-    ensures { λ r. ⌜ (r ≡ mix d x) × (r < digests) ⌝ }
-{
-    (d * 31 + x) % DIGESTS
-}
-
 // The digest of a kind and a first field.
 pub fn root_digest(kind: usize, first: usize) -> usize
-    requires { ⌜ (kind ≤ 4294967295) × (first ≤ 4294967295) ⌝ }
     ensures { λ r. ⌜ (r ≡ rootDigest kind first) × (r < digests) ⌝ }
 {
     let d = mixed(0, kind);

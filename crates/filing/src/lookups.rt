@@ -2,16 +2,17 @@
 // the newest on: so the last that is found is the lowest.
 ghost use mathlib.Core.Path.{_≡_};
 ghost use mathlib.Core.Bool.{true};
-ghost use Prim.Native.Nat.{ℕ, _≤_, _<_};
+ghost use Prim.Native.Nat.{_≤_, _<_};
 ghost use lib.ListN.{length};
 ghost use Rattle.bundle.specs.Bundle.{termOf};
+ghost use Rattle.bundle.specs.Filed.{digests};
 ghost use Rattle.logic.specs.Terms.{Binder, binder, numberOf};
 ghost use Rattle.logic.specs.Lookup.{seek, sameVariable, sameApplication, sameBinder};
 ghost use Rattle.scratch.specs.Scratch.{bundleIn, Roomy};
 ghost use Rattle.scratch.specs.Stack.{halves};
-ghost use Rattle.filing.specs.Filing.{digests, mixAll, rootDigest, Indexed};
-use super::filing::DIGESTS;
+ghost use Rattle.filing.specs.Filing.{mixAll, rootDigest, Indexed};
 use bundle::Bundle;
+use bundle::digests::DIGESTS;
 use bundle::halves::wide;
 use scratch::lists::same_results;
 use scratch::records::term_field;

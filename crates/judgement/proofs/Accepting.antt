@@ -27,7 +27,7 @@ use Rattle.judgement.specs.declared.Acceptance.{Acceptance}
 use Rattle.judgement.specs.declared.Answer.the-variants.{Accepted, Refused}
 use Rattle.judgement.specs.Judge.{acceptance, required, claimTests, lateFault, faultOf, answerOf, judge}
 use Rattle.judgement.specs.Demands.{LastIsClaim, Acceptable}
-use Rattle.logic.proofs.Headers.{HeaderGood, header-exactly}
+use Rattle.logic.proofs.Headers.{header-exactly}
 
 -- ---- the claim
 
@@ -86,10 +86,8 @@ nothing-exactly f m = (there, back)
         let good = header-exactly f m (required f) .0 (tables .0) in
         let formed : WellFormed b = well-formed-exactly b .0 (tables .1, late .0) in
         record {
-          header = good .header;
-          version = good .version;
-          whole = good .whole;
-          area = good .area;
+          header = good .0;
+          area = good .1;
           formed = formed;
           steps = steps-exactly b formed .0 (end .0);
           claim = claim-exactly b .0 (next-both (fault (firstFailing (claimTests b)) 0) (fault 0 0) (end .1) .0);
@@ -97,10 +95,9 @@ nothing-exactly f m = (there, back)
 
     back : Acceptable f m → faultOf f m .number ≡ 0
     back a =
-        let good : HeaderGood f m (required f) = record { header = a .header; version = a .version; whole = a .whole; area = a .area } in
         let tables = well-formed-exactly b .1 (a .formed) in
         both-next (tablesFault f m (required f)) (lateFault b)
-        (both-next (fault header 0) (sectionsFault b) (header-exactly f m (required f) .1 good) (tables .0))
+        (both-next (fault header 0) (sectionsFault b) (header-exactly f m (required f) .1 (a .header, a .area)) (tables .0))
         (both-next (contextsFault b) (orNext (stepsFault b) claim) (tables .1)
         (both-next (stepsFault b) claim (steps-exactly b (a .formed) .1 (a .steps))
         (both-next (fault (firstFailing (claimTests b)) 0) (fault 0 0) (claim-exactly b .1 (a .claim)) refl)))

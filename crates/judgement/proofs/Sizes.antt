@@ -3,7 +3,7 @@
 --     tables-small    of the first of checks 1 to 9
 --     fault-small     of the first fault of a file
 --     refused-small   of a refusal
-use mathlib.Core.Path.{_≡_, refl, sym, ap, subst, _∙_}
+use mathlib.Core.Path.{_≡_, refl, subst}
 use Prim.Native.Nat.{ℕ, zero, suc, _+_, _≤_}
 use mathlib.Core.Bool.{Bool, true, false, cond}
 use mathlib.Core.List.{List, [], _∷_}
@@ -90,7 +90,7 @@ unfolding tablesFault orElse
 tables-small f lent required = go (headerFault f lent required) refl
   where
     go : (n : ℕ) → headerFault f lent required ≡ n → SmallFault (orElse n 0 (sectionsFault (bundleOf f)))
-    go zero e = sections-small f (header-exactly f lent required .0 e .whole)
+    go zero e = sections-small f (header-exactly f lent required .0 e .0 .whole)
     go (suc n) e = record { number = omega (arith, header-le f lent required); place = omega arith }
 
 pub fault-small : (f : List ℕ) (m : ℕ) → SmallFault (faultOf f m)
@@ -99,7 +99,7 @@ fault-small f m = go (headerFault f m (required f)) refl
   where
     go : (n : ℕ) → headerFault f m (required f) ≡ n → SmallFault (orNext (orElse n 0 (sectionsFault (bundleOf f))) (lateFault (bundleOf f)))
     go zero e =
-        let whole : Whole f (countsOf f) = header-exactly f m (required f) .0 e .whole in
+        let whole : Whole f (countsOf f) = header-exactly f m (required f) .0 e .0 .whole in
         next-small (sectionsFault (bundleOf f)) (lateFault (bundleOf f)) (sections-small f whole) (late-small f whole)
     go (suc n) e = record { number = omega (arith, header-le f m (required f)); place = omega arith }
 

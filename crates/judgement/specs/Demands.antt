@@ -5,17 +5,16 @@ use mathlib.Core.Logic.{_↔_}
 use mathlib.Core.List.{List}
 use lib.ListN.{length, getD, replicate}
 use Rattle.bundle.specs.Bundle.{Bundle, stepOf}
-use Rattle.bundle.specs.Limits.{leastBytes, setWords}
-use Rattle.bundle.specs.File.{Whole, countsOf, bundleOf}
+use Rattle.bundle.specs.Limits.{setWords}
+use Rattle.bundle.specs.File.{countsOf, bundleOf}
 use Rattle.logic.specs.Lists.{All, Number}
 use Rattle.logic.specs.Terms.{tree}
 use Rattle.logic.specs.Free.{Free}
 use Rattle.logic.specs.Distinct.{Distinct}
-use Rattle.logic.specs.WellFormed.{WellFormed}
+use Rattle.logic.specs.WellFormed.{HeaderFormed, WellFormed}
 use Rattle.logic.specs.Instance.{StepHolds}
 use Rattle.logic.specs.Values.{EqualValues}
 use Rattle.judgement.specs.declared.Acceptance.{Acceptance}
-use Rattle.judgement.specs.declared.Answer.{Answer}
 use Rattle.judgement.specs.declared.Answer.the-variants.{Accepted, Refused}
 use Rattle.judgement.specs.Judge.{acceptance, judge, areaAfter}
 use Rattle.judgement.specs.Order.{allChecks, Holds, FirstFailing}
@@ -40,9 +39,7 @@ pub record LastIsClaim (b : Bundle) : Type 0 where
 -- What document 01 asks of a file f and of the m words that are lent: a header of version 1 with counts within the limits and the exact length,
 -- an area that is long enough, well-formed tables and contexts, each step an instance of its rule, and the last step the claim.
 pub record Acceptable (f : List ℕ) (m : ℕ) : Type 0 where
-  pub header : leastBytes ≤ length f
-  pub version : countsOf f .version ≡ 1
-  pub whole : Whole f (countsOf f)
+  pub header : HeaderFormed f
   pub area : setWords * countsOf f .terms ≤ m
   pub formed : WellFormed (bundleOf f)
   pub steps : (k : ℕ) → Number (length (bundleOf f .steps)) k → StepHolds (bundleOf f) k

@@ -1,8 +1,6 @@
 -- The tests of the header and of the area, checks 1 to 4, and what they say.
---     HeaderGood                  36 bytes, version 1, counts within the limits, the exact length, and an area that is long enough
---     header-exactly              the tests find nothing exactly where that is so
+--     header-exactly              the tests find nothing exactly where the header is well formed and the area is long enough
 --     tables-header               it is so where the checks 1 to 9 find nothing
---     header-whole, header-area   the two facts that callers want
 --     whole-long                  a whole file has a header
 --     bundle-is                   the bundle by counts that are those of the file is the file's
 --     header-is                   the header's fault as the code tests for it
@@ -21,50 +19,41 @@ use Rattle.bundle.specs.Limits.{headerWords, bytesOf, withinOf}
 use Rattle.bundle.specs.File.{Whole, countsOf, bundleAt, bundleOf}
 use Rattle.bundle.proofs.Limits.{within-all, within-true}
 use Rattle.logic.specs.Tests.{fault}
+use Rattle.logic.specs.WellFormed.{HeaderFormed}
 use Rattle.logic.specs.Checks.{headerTests, headerFault, sectionsFault, tablesFault}
 use Rattle.logic.proofs.Tests.{Hold, failing-none, none-failing}
 use Rattle.logic.proofs.Firsts.{orElse-on, next-both}
 
 -- n words are required of the m that are lent
-pub record HeaderGood (f : List ℕ) (m n : ℕ) : Type 0 where
-  pub header : 36 ≤ length f
-  pub version : countsOf f .version ≡ 1
-  pub whole : Whole f (countsOf f)
-  pub area : n ≤ m
-
-pub header-exactly : (f : List ℕ) (m n : ℕ) → (headerFault f m n ≡ 0) ↔ HeaderGood f m n
+pub header-exactly : (f : List ℕ) (m n : ℕ) → (headerFault f m n ≡ 0) ↔ (HeaderFormed f × (n ≤ m))
 unfolding headerFault
 header-exactly f m n = (λ e. there (failing-none (headerTests f m n) refl e), λ h. none-failing (headerTests f m n) (back h))
   where
-    there : Hold (headerTests f m n) → HeaderGood f m n
-    there t = record {
-      header = leb-true 36 (length f) (t .0);
-      version = eqb-true (countsOf f .version) 1 (t .1 .0);
-      whole = record { within = within-all (countsOf f) (t .1 .1 .0); exact = eqb-true (length f) (bytesOf (countsOf f)) (t .1 .1 .1 .0) };
-      area = leb-true n m (t .1 .1 .1 .1 .0);
-    }
+    there : Hold (headerTests f m n) → HeaderFormed f × (n ≤ m)
+    there t = (
+      record {
+        long = leb-true 36 (length f) (t .0);
+        version = eqb-true (countsOf f .version) 1 (t .1 .0);
+        whole = record { within = within-all (countsOf f) (t .1 .1 .0); exact = eqb-true (length f) (bytesOf (countsOf f)) (t .1 .1 .1 .0) };
+      },
+      leb-true n m (t .1 .1 .1 .1 .0),
+    )
 
-    back : HeaderGood f m n → Hold (headerTests f m n)
-    back h = (
-      le-leb 36 (length f) (h .header),
+    back : HeaderFormed f × (n ≤ m) → Hold (headerTests f m n)
+    back (h, area) = (
+      le-leb 36 (length f) (h .long),
       (
         eq-eqb (countsOf f .version) 1 (h .version),
         (
           within-true (countsOf f) (h .whole .within),
-          (eq-eqb (length f) (bytesOf (countsOf f)) (h .whole .exact), (le-leb n m (h .area), tt)),
+          (eq-eqb (length f) (bytesOf (countsOf f)) (h .whole .exact), (le-leb n m area, tt)),
         ),
       ),
     )
 
-pub tables-header : (f : List ℕ) (m n : ℕ) → tablesFault f m n .number ≡ 0 → HeaderGood f m n
+pub tables-header : (f : List ℕ) (m n : ℕ) → tablesFault f m n .number ≡ 0 → HeaderFormed f × (n ≤ m)
 unfolding tablesFault
 tables-header f m n e = header-exactly f m n .0 (next-both (fault (headerFault f m n) 0) (sectionsFault (bundleOf f)) e .0)
-
-pub header-whole : (f : List ℕ) (m n : ℕ) → headerFault f m n ≡ 0 → Whole f (countsOf f)
-header-whole f m n e = header-exactly f m n .0 e .whole
-
-pub header-area : (f : List ℕ) (m n : ℕ) → headerFault f m n ≡ 0 → n ≤ m
-header-area f m n e = header-exactly f m n .0 e .area
 
 pub whole-long : (f : List ℕ) (c : Counts) → Whole f c → 36 ≤ length f
 unfolding headerWords

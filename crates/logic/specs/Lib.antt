@@ -12,7 +12,7 @@
 --     Contexts     images, moved variables, settled terms; checks 10 and 11
 --     Readings     what the tests of a step read besides the records
 --     Rules        the five rules as tests on record numbers; checks 12, 13 and 14
---     WellFormed   what document 01 says of the tables and the contexts, in propositions
+--     WellFormed   what document 01 says of the header, the tables and the contexts, in propositions
 --     Instance     THE RULES AS PRINTED: steps that are instances of REFL, CONG, TRANS, BIND or LET
 --     Values       worlds, valuations, and the value of a term
 --     Meanings     what values mean: document 01's sentences, and that worlds exist, as types

@@ -10,10 +10,11 @@ use native.Mathlib.Omega.{arith}
 use lib.ListN.{length, getD, set, length-append}
 use Rattle.bundle.specs.declared.Bundle.{Bundle as Counts}
 use Rattle.bundle.specs.Bundle.{Bundle, TermRecord, termOf}
+use Rattle.bundle.specs.Filed.{digests}
 use Rattle.logic.specs.Longer.{Longer, withVariables, withTerms}
 use Rattle.logic.proofs.Longer.{longer-trans, list-longer, variables-longer, terms-longer, term-added}
 use Rattle.scratch.specs.Scratch.{bundleIn}
-use Rattle.filing.specs.Filing.{mixAll, rootDigest, lookupDigest, Digested, FiledTo, Indexed}
+use Rattle.filing.specs.Filing.{mixAll, rootDigest, lookupDigest, Digested, Indexed}
 use Rattle.filing.proofs.Filed.{plain-digested, application-digested, filed-on, filed-longer, indexed-on}
 use Rattle.placing.specs.declared.Visited.{Visited}
 use Rattle.placing.specs.declared.Listed.{Listed}
@@ -91,15 +92,14 @@ application-filed {b} {vs} {w} {a} {c} {s} o e f d own B more =
     ∙ sym own
 
 -- w and c are those after the term t was appended, and ix′ is the index after it was filed
-pub term-indexed : {b : Bundle} {ix : List ℕ} → Indexed b ix → (r : TermRecord) (d : ℕ) → Digested b r d → d < 1024 → length (b .terms) < 1024
+pub term-indexed : {b : Bundle} {ix : List ℕ} → Indexed b ix → (r : TermRecord) (d : ℕ) → Digested b r d → d < digests → length (b .terms) < 1024
     → {t : ℕ} → t ≡ suc (length (b .terms)) → (w : List ℕ) (c : Counts) → bundleIn w c ≡ withTerms b (r ∷ [])
-    → {ix′ : List ℕ} → ix′ ≡ set (set ix (1024 + t) (getD ix d 0)) d t → Indexed (bundleIn w c) ix′
+    → {ix′ : List ℕ} → ix′ ≡ set (set ix (digests + t) (getD ix d 0)) d t → Indexed (bundleIn w c) ix′
 term-indexed {b} {ix} indexed r d digested small room {t} next w c e {ix′} f =
     let b′ : Bundle = withTerms b (r ∷ []) in
     let longer : Longer b b′ = terms-longer b (r ∷ []) in
     let own : (B : Bundle) → Longer b′ B → lookupDigest B (termOf B t) ≡ d =
     λ B more. ap (λ (n : ℕ). lookupDigest B (termOf B n)) next ∙ ap (lookupDigest B) (term-added b r more) ∙ digested B (longer-trans longer more) in
-    let filed : FiledTo b′ (set (set ix (1024 + t) (getD ix d 0)) d t) t =
-    filed-on b′ ix (length (b .terms)) d (filed-longer longer indexed) t next own small (omega arith) in
-    let all : t ≡ length (b′ .terms) = omega (arith, length-append (b .terms) (r ∷ [])) in
-    subst (λ (B : Bundle). Indexed B ix′) (sym e) (subst (FiledTo b′ ix′) all (subst (λ (x : List ℕ). FiledTo b′ x t) (sym f) filed))
+    let all : length (b′ .terms) ≡ t = omega (arith, length-append (b .terms) (r ∷ [])) in
+    let filed = filed-on b′ ix (length (b .terms)) d (filed-longer longer indexed) t (length (b′ .terms)) next all own small (omega arith) in
+    subst (λ (B : Bundle). Indexed B ix′) (sym e) (subst (Indexed b′) (sym f) filed)

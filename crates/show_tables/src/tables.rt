@@ -140,7 +140,12 @@ fn bad_symbol(file: &[u8], b: Bundle, i: usize)
 pub fn bad_sort(file: &[u8], b: Bundle, i: usize)
     requires { ⌜ Whole (now file) b ⌝ }
 {
-    let in_symbols = declarations::symbols::symbols_fault(file, b);
+    let in_symbols = declarations::section_fault(
+        file,
+        b,
+        declarations::Section::Symbols,
+        b.symbols,
+    );
     if in_symbols.number != 0 {
         bad_symbol(file, b, i);
     } else {

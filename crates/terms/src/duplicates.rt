@@ -6,26 +6,18 @@ ghost use lib.ListN.{length};
 ghost use Rattle.bundle.specs.Bundle.{termOf};
 ghost use Rattle.bundle.specs.Links.{items};
 ghost use Rattle.bundle.specs.File.{Whole, bundleAt};
+ghost use Rattle.bundle.specs.Filed.{digests};
 ghost use Rattle.logic.specs.Checks.{sameField, sameTerm, isNew};
-ghost use Rattle.terms.specs.Digests.{digests, mix, mixItems, mixField, termDigest, FiledBelow};
+ghost use Rattle.terms.specs.Digests.{mixItems, mixField, termDigest, FiledBelow};
 use bundle::Bundle;
+use bundle::digests::DIGESTS;
+use bundle::digests::mixed;
 use bundle::halves::wide;
 use bundle::lists::first_link;
 use bundle::lists::next_link;
 use bundle::lists::same_list;
 use bundle::records::link_field;
 use bundle::records::term_field;
-
-// There are so many digests.
-pub const DIGESTS: usize = 2048;
-
-// A digest and one number more.
-fn mixed(d: usize, x: usize) -> usize
-    requires { ⌜ d < digests ⌝ }
-    ensures { λ r. ⌜ (r ≡ mix d x) × (r < digests) ⌝ }
-{
-    (d * 1267 + x % DIGESTS) % DIGESTS
-}
 
 // A digest and the first items of a list.
 fn mixed_items(file: &[u8], b: Bundle, d: usize, list: usize) -> usize

@@ -8,6 +8,8 @@ pub mod duplicates; // duplicates.rt: 9
 pub mod terms; // terms.rt: 7, 8, and all of a term
 
 use bundle::Bundle;
+use declarations::Section;
+use declarations::section_fault;
 use logic::Fault;
 
 // The first bad record of links, symbols, variables, terms.
@@ -15,15 +17,15 @@ pub fn sections_fault(file: &[u8], b: Bundle) -> Fault
     requires { ⌜ Whole (now file) b ⌝ }
     ensures { λ r. ⌜ r ≡ sectionsFault (bundleAt (now (file .entry)) b) ⌝ }
 {
-    let in_links = declarations::links::links_fault(file, b);
+    let in_links = section_fault(file, b, Section::Links, b.links);
     if in_links.number != 0 {
         return in_links;
     }
-    let in_symbols = declarations::symbols::symbols_fault(file, b);
+    let in_symbols = section_fault(file, b, Section::Symbols, b.symbols);
     if in_symbols.number != 0 {
         return in_symbols;
     }
-    let in_variables = declarations::symbols::variables_fault(file, b);
+    let in_variables = section_fault(file, b, Section::Variables, b.variables);
     if in_variables.number != 0 {
         return in_variables;
     }

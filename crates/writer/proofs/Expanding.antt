@@ -22,14 +22,14 @@ use Rattle.bundle.specs.File.{bundleAt, bundleOf, countsOf}
 use Rattle.bundle.proofs.Limits.{within-all, within-true}
 use Rattle.logic.specs.declared.Fault.{Fault}
 use Rattle.logic.specs.Lists.{Number}
-use Rattle.logic.specs.WellFormed.{TablesFormed}
+use Rattle.logic.specs.WellFormed.{HeaderFormed, TablesFormed}
 use Rattle.logic.specs.Tests.{Test, test, firstFailing, fault, orElse}
 use Rattle.logic.specs.Checks.{headerFault, sectionsFault, tablesFault}
 use Rattle.logic.proofs.Tests.{numbered, failing-none, numbers-of, and-left, and-right}
 use Rattle.logic.proofs.Firsts.{orElse-on, orElse-here, next-both}
 use Rattle.logic.proofs.Formed.{tables-exactly}
 use Rattle.sets.specs.Sets.{cleared}
-use Rattle.logic.proofs.Headers.{HeaderGood, tables-header}
+use Rattle.logic.proofs.Headers.{tables-header}
 use Rattle.sets.proofs.Cleared.{all-cleared}
 use Rattle.scratch.specs.Scratch.{bundleIn}
 use Rattle.expansion.specs.declared.Answer.{Answer}
@@ -124,11 +124,11 @@ module _ (f : List ℕ) (out words sets : ℕ) where
 
   -- 1 to 9 do not fail
   module _ (none : tablesFault f (longEnough out words sets) 3 .number ≡ 0) where
-    pub header-good : HeaderGood f (longEnough out words sets) 3
-    header-good = tables-header f (longEnough out words sets) 3 none
+    pub header-formed : HeaderFormed f
+    header-formed = tables-header f (longEnough out words sets) 3 none .0
 
     pub areas-long : LongEnough out words sets
-    areas-long = long-exactly out words sets .0 (header-good .area)
+    areas-long = long-exactly out words sets .0 (tables-header f (longEnough out words sets) 3 none .1)
 
     tables-formed : TablesFormed (bundleOf f)
     unfolding tablesFault
@@ -185,8 +185,8 @@ module _ (f : List ℕ) (out words sets : ℕ) where
         pub visit-asks : length w ≡ words → length s ≡ sets → TermAsks w s c 0 0 left
         visit-asks scratch stack = record {
           ready = record {
-            room = record { within = rw counted (header-good .whole .within); long = omega (arith, areas-long .scratch, scratch) };
-            version = rw counted (header-good .version);
+            room = record { within = rw counted (header-formed .whole .within); long = omega (arith, areas-long .scratch, scratch) };
+            version = rw counted (header-formed .version);
           };
           pending = record { places = omega (arith, areas-long .stack, stack); height = omega arith };
           context = omega arith;

@@ -9,9 +9,9 @@ use denote.Ref.{now}
 use Rattle.bundle.specs.Limits.{setWords}
 use Rattle.bundle.specs.File.{Whole, bundleAt, bundleOf}
 use Rattle.logic.specs.Checks.{tablesFault}
-use Rattle.logic.proofs.Headers.{bundle-is}
+use Rattle.logic.specs.WellFormed.{HeaderFormed}
+use Rattle.logic.proofs.Headers.{bundle-is, tables-header}
 use Rattle.judgement.specs.Judge.{required, lateFault}
-use Rattle.logic.proofs.Headers.{HeaderGood, tables-header}
 use Rattle.judgement.proofs.Accepting.{early-fault, late-fault}
 use Rattle.judgement.proofs.Areas.{lent-is}
 use Rattle.free_variables.proofs.HeldSets.{sets-held}
@@ -43,17 +43,17 @@ none c = rw (← tables (c .before .before)) (c .if1 .left)
 
 good : (c : tie.Else1)
     → let a = c .before .before .before .before .before .before .args in
-    HeaderGood (now (a .file)) (length (now (a .free))) (required (now (a .file)))
+    HeaderFormed (now (a .file)) × (required (now (a .file)) ≤ length (now (a .free)))
 good c = tables-header _ _ _ (none c)
 
 counts-requires : tie.Need-counts-requires
-counts-requires c κs = good c .header
+counts-requires c κs = good c .0 .long
 
 whole : (c : tie.After-counts) → Whole (now (c .before .before .before .before .before .before .before .args .file)) (c .counts .result)
-whole c = rw (c .counts .ensures) (good (c .before) .whole)
+whole c = rw (c .counts .ensures) (good (c .before) .0 .whole)
 
 room : (c : tie.After-counts) → setWords * c .counts .result .terms ≤ length (now (c .before .before .before .before .before .before .before .args .free))
-room c = rw (c .counts .ensures) (good (c .before) .area)
+room c = rw (c .counts .ensures) (good (c .before) .1)
 
 free-sets-requires : tie.Need-free-sets-requires
 free-sets-requires c κs = (whole (c .before), omega arith, omega arith, room (c .before), whole (c .before) .within .variables)

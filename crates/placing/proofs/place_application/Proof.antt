@@ -12,7 +12,7 @@ use Rattle.placing.proofs.place_application.Statement.{statement}
 use Rattle.placing.proofs.place_application.Tie as tie
 
 root-digest-requires : tie.Need-root-digest-requires
-root-digest-requires c κs = (omega arith, c .before .before .pre .1)
+root-digest-requires c κs = search needs
 
 mixed-results-requires : tie.Need-mixed-results-requires
 mixed-results-requires c κs = let s = c .before .before .before in (c .root-digest .ensures .1, s .pre .2, s .pre .3)

@@ -13,7 +13,7 @@ use Rattle.placing.proofs.place_binder.Statement.{statement}
 use Rattle.placing.proofs.place_binder.Tie as tie
 
 root-digest-requires : tie.Need-root-digest-requires
-root-digest-requires c κs = let s = c .before in (omega arith, s .pre .3)
+root-digest-requires c κs = search needs
 
 find-binder-requires : tie.Need-find-binder-requires
 find-binder-requires c κs =

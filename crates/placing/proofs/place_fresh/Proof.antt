@@ -30,7 +30,7 @@ append-variable-requires : tie.Need-append-variable-requires
 append-variable-requires c κs = search needs
 
 root-digest-requires : tie.Need-root-digest-requires
-root-digest-requires c κs = (omega arith, omega (arith, c .before .before .before .before .before .before .before .before .pre .0 .room .within .variables))
+root-digest-requires c κs = search needs
 
 find-variable-requires : tie.Need-find-variable-requires
 find-variable-requires c κs =

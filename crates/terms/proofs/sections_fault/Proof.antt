@@ -1,56 +1,58 @@
 -- `sections_fault` meets its contract: a section with no fault leaves it to those after it.
 use borrow.Author.Needs.{needs}
+use Rattle.bundle.proofs.Fields.{links-length, symbols-length, variables-length}
+use Rattle.declarations.specs.Sections.{recordFault}
 use Rattle.logic.specs.Checks.{sectionsFault}
 use Rattle.logic.proofs.Firsts.{orElse-on, orElse-here}
 use Rattle.terms.proofs.sections_fault.Statement.{statement}
 use Rattle.terms.proofs.sections_fault.Tie as tie
 
-links-fault-requires : tie.Need-links-fault-requires
-links-fault-requires c κs = search needs
+section-fault-requires : tie.Need-section-fault-requires
+section-fault-requires c κs = search needs
 
 returns : tie.Need-returns
-unfolding sectionsFault
-returns c = rw (← c .before .before .links-fault .ensures, orElse-here _ _ _ (c .if1 .taken))
+unfolding sectionsFault recordFault
+returns c = rw (links-length, ← c .before .before .section-fault .ensures, orElse-here _ _ _ (c .if1 .taken))
 
-symbols-fault-requires : tie.Need-symbols-fault-requires
-symbols-fault-requires c κs = search needs
+section-fault-requires-2 : tie.Need-section-fault-requires-2
+section-fault-requires-2 c κs = search needs
 
 returns-2 : tie.Need-returns-2
-unfolding sectionsFault
+unfolding sectionsFault recordFault
 returns-2 c =
     let l = c .before .before .before in
-    rw (← l .before .before .links-fault .ensures, orElse-on _ _ _ (l .if1 .left), ← c .before .before .symbols-fault .ensures, orElse-here _ _ _ (c .if2 .taken))
+    rw (links-length, ← l .before .before .section-fault .ensures, orElse-on _ _ _ (l .if1 .left), symbols-length, ← c .before .before .section-fault2 .ensures, orElse-here _ _ _ (c .if2 .taken))
 
-variables-fault-requires : tie.Need-variables-fault-requires
-variables-fault-requires c κs = search needs
+section-fault-requires-3 : tie.Need-section-fault-requires-3
+section-fault-requires-3 c κs = search needs
 
 returns-3 : tie.Need-returns-3
-unfolding sectionsFault
+unfolding sectionsFault recordFault
 returns-3 c =
     let s = c .before .before .before in
     let l = s .before .before .before in
-    rw (← l .before .before .links-fault .ensures, orElse-on _ _ _ (l .if1 .left), ← s .before .before .symbols-fault .ensures, orElse-on _ _ _ (s .if2 .left), ← c .before .before .variables-fault .ensures, orElse-here _ _ _ (c .if3 .taken))
+    rw (links-length, ← l .before .before .section-fault .ensures, orElse-on _ _ _ (l .if1 .left), symbols-length, ← s .before .before .section-fault2 .ensures, orElse-on _ _ _ (s .if2 .left), variables-length, ← c .before .before .section-fault3 .ensures, orElse-here _ _ _ (c .if3 .taken))
 
 terms-fault-requires : tie.Need-terms-fault-requires
 terms-fault-requires c κs = search needs
 
 returns-4 : tie.Need-returns-4
-unfolding sectionsFault
+unfolding sectionsFault recordFault
 returns-4 c =
     let v = c .before in
     let s = v .before .before .before in
     let l = s .before .before .before in
-    rw (← l .before .before .links-fault .ensures, orElse-on _ _ _ (l .if1 .left), ← s .before .before .symbols-fault .ensures, orElse-on _ _ _ (s .if2 .left), ← v .before .before .variables-fault .ensures, orElse-on _ _ _ (v .if3 .left)) (c .terms-fault .ensures)
+    rw (links-length, ← l .before .before .section-fault .ensures, orElse-on _ _ _ (l .if1 .left), symbols-length, ← s .before .before .section-fault2 .ensures, orElse-on _ _ _ (s .if2 .left), variables-length, ← v .before .before .section-fault3 .ensures, orElse-on _ _ _ (v .if3 .left)) (c .terms-fault .ensures)
 
 pub sections-fault-spec : {M : Type 1} → statement M
 sections-fault-spec =
     tie.close
     (tie.spec
-    links-fault-requires
+    section-fault-requires
     returns
-    symbols-fault-requires
+    section-fault-requires-2
     returns-2
-    variables-fault-requires
+    section-fault-requires-3
     returns-3
     terms-fault-requires
     returns-4)

@@ -4,7 +4,7 @@ use mathlib.Core.Path.{_≡_, sym, _∙_}
 use denote.Ref.{now}
 use Rattle.logic.specs.Checks.{headerFault, tablesFault}
 use Rattle.logic.proofs.Firsts.{orElse-here}
-use Rattle.logic.proofs.Headers.{header-exactly, header-whole, tables-on}
+use Rattle.logic.proofs.Headers.{header-exactly, tables-on}
 use Rattle.terms.proofs.tables_fault.Statement.{statement}
 use Rattle.terms.proofs.tables_fault.Tie as tie
 
@@ -20,10 +20,10 @@ none : (c : tie.Else1) → let a = c .before .before .before .args in headerFaul
 none c = sym (c .before .header-fault .ensures) ∙ c .if1 .left
 
 counts-requires : tie.Need-counts-requires
-counts-requires c κs = header-exactly _ _ _ .0 (none c) .header
+counts-requires c κs = header-exactly _ _ _ .0 (none c) .0 .long
 
 sections-fault-requires : tie.Need-sections-fault-requires
-sections-fault-requires c κs = rw (c .counts .ensures) (header-whole _ _ _ (none (c .before)))
+sections-fault-requires c κs = rw (c .counts .ensures) (header-exactly _ _ _ .0 (none (c .before)) .0 .whole)
 
 returns-2 : tie.Need-returns-2
 returns-2 c = c .sections-fault .ensures ∙ sym (tables-on _ _ _ (c .before .counts .ensures) (none (c .before .before)))

@@ -6,16 +6,15 @@ use lib.ListN.{length}
 use Rattle.bundle.specs.Bundle.{Bundle}
 use Rattle.bundle.specs.File.{Whole, bundleOf}
 use Rattle.logic.specs.Tests.{firstFailing}
-use Rattle.logic.specs.WellFormed.{TablesFormed}
+use Rattle.logic.specs.WellFormed.{HeaderFormed, TablesFormed}
 use Rattle.scratch.specs.Scratch.{bundleIn}
 use Rattle.logic.specs.Checks.{tablesFault}
 use Rattle.logic.proofs.Headers.{bundle-is}
-use Rattle.logic.proofs.Headers.{HeaderGood}
 use Rattle.expansion.specs.Visit.{visited}
 use Rattle.expansion.specs.Expansion.{longEnough, earlyTests}
 use Rattle.expansion.specs.Demands.{LongEnough}
 use Rattle.placing.specs.Outcomes.{VisitOutcome, TermAsks}
-use Rattle.writer.proofs.Expanding.{refused-early, header-good, areas-long, refused-late, refused-full, job-formed, visit-asks, visit-is, Told, told-done, told-full, right-small, bytes-of, stored-refused, stored-written}
+use Rattle.writer.proofs.Expanding.{refused-early, header-formed, areas-long, refused-late, refused-full, job-formed, visit-asks, visit-is, Told, told-done, told-full, right-small, bytes-of, stored-refused, stored-written}
 use Rattle.writer.proofs.store_job.Statement.{statement}
 use Rattle.writer.proofs.store_job.Tie as tie
 
@@ -31,8 +30,8 @@ none : (c : tie.Else1)
     tablesFault (a .job .now) (longEnough (length (a .out .now)) (length (a .words .now)) (length (a .sets .now))) 3 .number ≡ 0
 none c = rw (← tables (c .before .before)) (c .if1 .left)
 
-good : (c : tie.Else1) → let a = c .before .before .before .before .before .before .before .before .args in HeaderGood (a .job .now) (longEnough (length (a .out .now)) (length (a .words .now)) (length (a .sets .now))) 3
-good c = let a = c .before .before .before .before .before .before .before .before .args in header-good (a .job .now) (length (a .out .now)) (length (a .words .now)) (length (a .sets .now)) (none c)
+good : (c : tie.Else1) → let a = c .before .before .before .before .before .before .before .before .args in HeaderFormed (a .job .now)
+good c = let a = c .before .before .before .before .before .before .before .before .args in header-formed (a .job .now) (length (a .out .now)) (length (a .words .now)) (length (a .sets .now)) (none c)
 
 areas : (c : tie.Else1) → let a = c .before .before .before .before .before .before .before .before .args in LongEnough (length (a .out .now)) (length (a .words .now)) (length (a .sets .now))
 areas c = let a = c .before .before .before .before .before .before .before .before .args in areas-long (a .job .now) (length (a .out .now)) (length (a .words .now)) (length (a .sets .now)) (none c)
@@ -93,7 +92,7 @@ returns c =
     _ _ (refused-early (a .job .now) (length (a .out .now)) (length (a .words .now)) (length (a .sets .now)) (c .before .before .tables-fault .result) (tables (c .before .before)) (c .if1 .taken))
 
 counts-requires : tie.Need-counts-requires
-counts-requires c κs = good c .header
+counts-requires c κs = good c .long
 
 job-fault-requires : tie.Need-job-fault-requires
 job-fault-requires c κs =
@@ -112,7 +111,7 @@ copy-job-requires : tie.Need-copy-job-requires
 copy-job-requires c κs = (whole (c .before .before .before .before .before .before), omega (arith, areas (c .before .before .before .before .before .before .before) .scratch))
 
 word-at-requires : tie.Need-word-at-requires
-word-at-requires c κs = omega (arith, good (c .before .before .before .before .before .before .before .before .before .before) .header)
+word-at-requires c κs = omega (arith, good (c .before .before .before .before .before .before .before .before .before .before) .long)
 
 visit-job-requires : tie.Need-visit-job-requires
 visit-job-requires c κs = (asks (c .before .before), formed (c .before .before))

@@ -42,13 +42,12 @@ loop-again c =
     let l = c .before .before .before .before .loop in
     let b = bundleIn (a .words .now) (a .c) in
     let d = c .before .before .digest in
-    let e : l .t + 1 - 1 ≡ l .t = omega arith in
     let n : l .t ≡ suc (l .t - 1) = omega arith in
-    let filed = filed-on b (l .index) (l .t - 1) (d .result) (l .inv .2) (l .t) n (λ B more. formed-digested (c .before .before .before .before .before .before .pre .1) B more (l .t) (omega (arith, terms-length (a .words .now) (a .c))) ∙ sym (d .ensures .0))
+    let filed = filed-on b (l .index) (l .t - 1) (d .result) (l .inv .2) (l .t) (l .t + 1 - 1) n (omega arith) (λ B more. formed-digested (c .before .before .before .before .before .before .pre .1) B more (l .t) (omega (arith, terms-length (a .words .now) (a .c))) ∙ sym (d .ensures .0))
     (d .ensures .1) (omega (arith, c .before .before .before .before .before .before .pre .0 .within .terms)) in (
       omega arith,
       omega arith,
-      subst (FiledTo b (c .file-term .last .0)) (sym e) (subst (λ (ix : List ℕ). FiledTo b ix (l .t)) (sym (c .file-term .ensures)) filed),
+      subst (λ (ix : List ℕ). FiledTo b ix (l .t + 1 - 1)) (sym (c .file-term .ensures)) filed,
     )
 
 returns : tie.Need-returns Inv-loop μ-loop

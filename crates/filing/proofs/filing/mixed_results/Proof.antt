@@ -12,7 +12,7 @@ use Rattle.filing.proofs.filing.mixed_results.Statement.{statement}
 use Rattle.filing.proofs.filing.mixed_results.Tie as tie
 
 abbrev Inv-loop : tie.InvT-loop
-Inv-loop d stack from to sum₀ at₀ sum at = (at ≤ to) × (sum < 1024) × (mixAll d (halves true stack from to) ≡ mixAll sum (halves true stack at to))
+Inv-loop d stack from to sum₀ at₀ sum at = (at ≤ to) × (sum < 2048) × (mixAll d (halves true stack from to) ≡ mixAll sum (halves true stack at to))
 
 abbrev μ-loop : tie.MeasureT-loop
 μ-loop d stack from to sum₀ at₀ sum at = to - at

@@ -9,14 +9,15 @@ use lib.ListN.{getD}
 use Rattle.logic.specs.Terms.{Binder, binder, numberOf}
 use Rattle.logic.specs.Lookup.{sameBinder}
 use Rattle.filing.specs.Filing.{rootDigest}
+use Rattle.bundle.proofs.Filed.{sought-start, sought-less, sought-hit, sought-miss}
 use Rattle.scratch.specs.Scratch.{bundleIn}
 use Rattle.scratch.proofs.ScratchFields.{terms-length}
-use Rattle.filing.proofs.Filed.{binder-digest, Sought, sought-start, sought-hit, sought-miss, sought-end}
+use Rattle.filing.proofs.Filed.{binder-digest, held-own, SoughtTerm, sought-end}
 use Rattle.filing.proofs.lookups.find_binder.Statement.{statement}
 use Rattle.filing.proofs.lookups.find_binder.Tie as tie
 
 abbrev Inv-loop : tie.InvT-loop
-Inv-loop words c index d kind y body found₀ t₀ found t = (t ≤ c .terms) × ((q : Binder) → kind ≡ numberOf (binder q) → Sought (bundleIn words c) index (sameBinder q y body) t found)
+Inv-loop words c index d kind y body found₀ t₀ found t = (t ≤ c .terms) × ((q : Binder) → kind ≡ numberOf (binder q) → SoughtTerm (bundleIn words c) index (sameBinder q y body) t found)
 
 abbrev μ-loop : tie.MeasureT-loop
 μ-loop words c index d kind y body found₀ t₀ found t = t
@@ -34,9 +35,9 @@ loop-holds : tie.Need-loop-holds Inv-loop μ-loop
 loop-holds c =
     let a = c .before .before .before .args in
     let e : c .wide .result ≡ getD (a .index .now) (a .d) 0 = c .wide .ensures in (
-      omega (arith, c .before .before .before .pre .1 .low (a .d) (c .before .before .before .pre .2), terms-length (a .words .now) (a .c)),
-      λ q f. sought-start (bundleIn (a .words .now) (a .c)) (a .index .now) (sameBinder q (a .y) (a .body)) (c .before .before .before .pre .1) (a .d) (c .wide .result) (c .before .before .before .pre .2)
-          (λ r t. binder-digest (bundleIn (a .words .now) (a .c)) q (a .y) (a .body) r t ∙ ap (λ (k : ℕ). rootDigest k (a .y)) (sym f) ∙ sym (c .before .before .before .pre .3)) e,
+      omega (arith, held-own (c .before .before .before .pre .1) .low (a .d) (c .before .before .before .pre .2), terms-length (a .words .now) (a .c)),
+      λ q f. sought-start (held-own (c .before .before .before .pre .1)) _ (a .d) (c .before .before .before .pre .2)
+          (λ j t. binder-digest (bundleIn (a .words .now) (a .c)) q (a .y) (a .body) _ t ∙ ap (λ (k : ℕ). rootDigest k (a .y)) (sym f) ∙ sym (c .before .before .before .pre .3)) e,
     )
 
 is-binder-requires : tie.Need-is-binder-requires Inv-loop μ-loop
@@ -56,20 +57,18 @@ wide-requires-2 c κs = search needs
 
 loop-less : tie.Need-loop-less Inv-loop μ-loop
 loop-less c =
-    let a = c .before .before .before .before .before .before .before .before .before .args in
-    let l = c .before .before .before .before .before .loop in
-    let e : c .wide2 .result ≡ getD (a .index .now) (1024 + l .t) 0 = c .wide2 .ensures in
-    omega (arith, c .before .before .before .before .before .before .before .before .before .pre .1 .falls (l .t) (omega (arith, c .before .before .before .before .loop-test .taken)))
+    sought-less (held-own (c .before .before .before .before .before .before .before .before .before .pre .1)) (c .before .before .before .before .loop-test .taken) (c .wide2 .ensures)
 
 loop-again : tie.Need-loop-again Inv-loop μ-loop
 loop-again c =
-    let a = c .before .before .before .before .before .before .before .before .before .args in
+    let k = c .before .before .before .before .before .before .before .before .before in
+    let filed = held-own (k .pre .1) in
     let l = c .before .before .before .before .before .loop in
-    let e : c .wide2 .result ≡ getD (a .index .now) (1024 + l .t) 0 = c .wide2 .ensures in (
-      omega (arith, l .inv .0, c .before .before .before .before .before .before .before .before .before .pre .1 .falls (l .t) (omega (arith, c .before .before .before .before .loop-test .taken))),
+    let e : c .wide2 .result ≡ getD (k .args .index .now) (2048 + l .t) 0 = c .wide2 .ensures in (
+      omega (arith, l .inv .0, sought-less filed (c .before .before .before .before .loop-test .taken) e),
       λ q f. ⊎-elim
-          (λ w. sought-hit (bundleIn (a .words .now) (a .c)) (a .index .now) (sameBinder q (a .y) (a .body)) (c .before .before .before .before .before .before .before .before .before .pre .1) (l .t) (l .found) (c .wide2 .result) (l .inv .1 q f) (c .before .before .before .before .loop-test .taken) e (c .before .before .before .is-binder .ensures q f) (c .before .before .if1 .found) (w .0 .taken) (w .1))
-          (λ w. sought-miss (bundleIn (a .words .now) (a .c)) (a .index .now) (sameBinder q (a .y) (a .body)) (c .before .before .before .before .before .before .before .before .before .pre .1) (l .t) (l .found) (c .wide2 .result) (l .inv .1 q f) (c .before .before .before .before .loop-test .taken) e (c .before .before .before .is-binder .ensures q f) (c .before .before .if1 .found) (w .0 .left) (w .1))
+          (λ w. sought-hit filed (l .inv .1 q f) (c .before .before .before .before .loop-test .taken) e (c .before .before .before .is-binder .ensures q f) (w .0 .taken) (w .1))
+          (λ w. sought-miss filed (l .inv .1 q f) (c .before .before .before .before .loop-test .taken) e (c .before .before .before .is-binder .ensures q f) (w .0 .left) (w .1))
           (c .before .before .if1 .came),
     )
 
@@ -77,7 +76,7 @@ returns : tie.Need-returns Inv-loop μ-loop
 returns c q f =
     let a = c .before .before .before .before .before .args in
     let l = c .before .loop in
-    sought-end (bundleIn (a .words .now) (a .c)) (a .index .now) (sameBinder q (a .y) (a .body)) (c .before .before .before .before .before .pre .1) (l .t) (l .found) (l .inv .1 q f) (c .loop-test .left)
+    sought-end (bundleIn (a .words .now) (a .c)) (sameBinder q (a .y) (a .body)) (a .index .now) (l .inv .1 q f) (c .loop-test .left)
 
 pub find-binder-spec : {M : Type 1} → statement M
 find-binder-spec =

@@ -7,14 +7,15 @@ use Prim.Native.Nat.{_+_, _≤_}
 use mathlib.Core.Path.{_≡_, sym, _∙_}
 use lib.ListN.{getD}
 use Rattle.logic.specs.Lookup.{sameVariable}
+use Rattle.bundle.proofs.Filed.{sought-start, sought-less, sought-hit, sought-miss}
 use Rattle.scratch.specs.Scratch.{bundleIn}
 use Rattle.scratch.proofs.ScratchFields.{terms-length}
-use Rattle.filing.proofs.Filed.{variable-digest, Sought, sought-start, sought-hit, sought-miss, sought-end}
+use Rattle.filing.proofs.Filed.{variable-digest, held-own, SoughtTerm, sought-end}
 use Rattle.filing.proofs.lookups.find_variable.Statement.{statement}
 use Rattle.filing.proofs.lookups.find_variable.Tie as tie
 
 abbrev Inv-loop : tie.InvT-loop
-Inv-loop words c index d y found₀ t₀ found t = (t ≤ c .terms) × Sought (bundleIn words c) index (sameVariable y) t found
+Inv-loop words c index d y found₀ t₀ found t = (t ≤ c .terms) × SoughtTerm (bundleIn words c) index (sameVariable y) t found
 
 abbrev μ-loop : tie.MeasureT-loop
 μ-loop words c index d y found₀ t₀ found t = t
@@ -32,9 +33,9 @@ loop-holds : tie.Need-loop-holds Inv-loop μ-loop
 loop-holds c =
     let a = c .before .before .before .args in
     let e : c .wide .result ≡ getD (a .index .now) (a .d) 0 = c .wide .ensures in (
-      omega (arith, c .before .before .before .pre .1 .low (a .d) (c .before .before .before .pre .2), terms-length (a .words .now) (a .c)),
-      sought-start (bundleIn (a .words .now) (a .c)) (a .index .now) (sameVariable (a .y)) (c .before .before .before .pre .1) (a .d) (c .wide .result) (c .before .before .before .pre .2)
-          (λ r t. variable-digest (bundleIn (a .words .now) (a .c)) (a .y) r t ∙ sym (c .before .before .before .pre .3)) e,
+      omega (arith, held-own (c .before .before .before .pre .1) .low (a .d) (c .before .before .before .pre .2), terms-length (a .words .now) (a .c)),
+      sought-start (held-own (c .before .before .before .pre .1)) _ (a .d) (c .before .before .before .pre .2)
+          (λ j t. variable-digest (bundleIn (a .words .now) (a .c)) (a .y) _ t ∙ sym (c .before .before .before .pre .3)) e,
     )
 
 is-variable-requires : tie.Need-is-variable-requires Inv-loop μ-loop
@@ -54,20 +55,18 @@ wide-requires-2 c κs = search needs
 
 loop-less : tie.Need-loop-less Inv-loop μ-loop
 loop-less c =
-    let a = c .before .before .before .before .before .before .before .before .before .args in
-    let l = c .before .before .before .before .before .loop in
-    let e : c .wide2 .result ≡ getD (a .index .now) (1024 + l .t) 0 = c .wide2 .ensures in
-    omega (arith, c .before .before .before .before .before .before .before .before .before .pre .1 .falls (l .t) (omega (arith, c .before .before .before .before .loop-test .taken)))
+    sought-less (held-own (c .before .before .before .before .before .before .before .before .before .pre .1)) (c .before .before .before .before .loop-test .taken) (c .wide2 .ensures)
 
 loop-again : tie.Need-loop-again Inv-loop μ-loop
 loop-again c =
-    let a = c .before .before .before .before .before .before .before .before .before .args in
+    let k = c .before .before .before .before .before .before .before .before .before in
+    let filed = held-own (k .pre .1) in
     let l = c .before .before .before .before .before .loop in
-    let e : c .wide2 .result ≡ getD (a .index .now) (1024 + l .t) 0 = c .wide2 .ensures in (
-      omega (arith, l .inv .0, c .before .before .before .before .before .before .before .before .before .pre .1 .falls (l .t) (omega (arith, c .before .before .before .before .loop-test .taken))),
+    let e : c .wide2 .result ≡ getD (k .args .index .now) (2048 + l .t) 0 = c .wide2 .ensures in (
+      omega (arith, l .inv .0, sought-less filed (c .before .before .before .before .loop-test .taken) e),
       ⊎-elim
-          (λ w. sought-hit (bundleIn (a .words .now) (a .c)) (a .index .now) (sameVariable (a .y)) (c .before .before .before .before .before .before .before .before .before .pre .1) (l .t) (l .found) (c .wide2 .result) (l .inv .1) (c .before .before .before .before .loop-test .taken) e (c .before .before .before .is-variable .ensures) (c .before .before .if1 .found) (w .0 .taken) (w .1))
-          (λ w. sought-miss (bundleIn (a .words .now) (a .c)) (a .index .now) (sameVariable (a .y)) (c .before .before .before .before .before .before .before .before .before .pre .1) (l .t) (l .found) (c .wide2 .result) (l .inv .1) (c .before .before .before .before .loop-test .taken) e (c .before .before .before .is-variable .ensures) (c .before .before .if1 .found) (w .0 .left) (w .1))
+          (λ w. sought-hit filed (l .inv .1) (c .before .before .before .before .loop-test .taken) e (c .before .before .before .is-variable .ensures) (w .0 .taken) (w .1))
+          (λ w. sought-miss filed (l .inv .1) (c .before .before .before .before .loop-test .taken) e (c .before .before .before .is-variable .ensures) (w .0 .left) (w .1))
           (c .before .before .if1 .came),
     )
 
@@ -75,7 +74,7 @@ returns : tie.Need-returns Inv-loop μ-loop
 returns c =
     let a = c .before .before .before .before .before .args in
     let l = c .before .loop in
-    sought-end (bundleIn (a .words .now) (a .c)) (a .index .now) (sameVariable (a .y)) (c .before .before .before .before .before .pre .1) (l .t) (l .found) (l .inv .1) (c .loop-test .left)
+    sought-end (bundleIn (a .words .now) (a .c)) (sameVariable (a .y)) (a .index .now) (l .inv .1) (c .loop-test .left)
 
 pub find-variable-spec : {M : Type 1} → statement M
 find-variable-spec =

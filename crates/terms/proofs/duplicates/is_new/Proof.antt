@@ -2,16 +2,17 @@
 -- chain from there. Chains fall, so the measure is where it stands.
 use borrow.Author.Needs.{needs}
 use native.Mathlib.Omega.{arith}
-use Prim.Native.Nat.{_<_}
-use mathlib.Core.Path.{_≡_, sym}
+use Prim.Native.Nat.{_-_}
+use mathlib.Core.Path.{_≡_, refl, sym, _∙_}
 use lib.ListN.{getD}
 use Rattle.bundle.specs.File.{bundleAt}
-use Rattle.terms.proofs.Digests.{Sought, sought-start, sought-on, sought-end, sought-found}
+use Rattle.bundle.proofs.Filed.{Sought, sought-start, sought-less, sought-miss}
+use Rattle.terms.proofs.Digests.{same-digest, same, new-at-end, not-new}
 use Rattle.terms.proofs.duplicates.is_new.Statement.{statement}
 use Rattle.terms.proofs.duplicates.is_new.Tie as tie
 
 abbrev Inv-loop : tie.InvT-loop
-Inv-loop file b heads next i d j₀ j = (j < i) × Sought (bundleAt file b) next i j
+Inv-loop file b heads next i d j₀ j = Sought (λ k. getD next k 0) (i - 1) (same (bundleAt file b) i) j 0
 
 abbrev μ-loop : tie.MeasureT-loop
 μ-loop file b heads next i d j₀ j = j
@@ -29,9 +30,8 @@ loop-holds : tie.Need-loop-holds Inv-loop μ-loop
 loop-holds c =
     let k = c .before .before .before .before in
     let a = k .args in
-    let filed = k .pre .1 in
-    let e : c .wide .result ≡ getD (a .heads .now) (a .d) 0 = c .wide .ensures in
-    (omega (arith, filed .low (a .d)), sought-start (bundleAt (a .file .now) (a .b)) (a .next .now) (a .i) (a .heads .now) (a .d) (c .wide .result) filed (k .pre .4) e)
+    let b = bundleAt (a .file .now) (a .b) in
+    sought-start (k .pre .1) (same b (a .i)) (a .d) (k .pre .3) (λ j t. same-digest b _ _ t ∙ sym (k .pre .4)) (c .wide .ensures)
 
 same-term-requires : tie.Need-same-term-requires Inv-loop μ-loop
 same-term-requires c κs = search needs
@@ -41,7 +41,7 @@ returns c =
     let a = c .before .before .before .before .before .before .before .before .args in
     let l = c .before .before .before .loop in
     let some : l .j ≡ 0 → ⊥ = c .before .before .loop-test .taken in
-    sym (sought-found (bundleAt (a .file .now) (a .b)) (a .next .now) (a .i) (l .j) (omega arith) (l .inv .0) (rw (← c .before .same-term .ensures) (c .if1 .taken)))
+    sym (not-new (bundleAt (a .file .now) (a .b)) (a .i) (l .j) (omega arith) (omega (arith, l .inv .stands)) (sym (c .before .same-term .ensures) ∙ c .if1 .taken))
 
 mul-wide-2 : tie.Need-mul-wide-2 Inv-loop μ-loop
 mul-wide-2 c = search needs
@@ -55,25 +55,20 @@ wide-requires-2 c κs = search needs
 loop-less : tie.Need-loop-less Inv-loop μ-loop
 loop-less c =
     let k = c .before .before .before .before .before .before .before .before .before .before in
-    let l = c .before .before .before .before .before .loop in
-    let e : c .wide2 .result ≡ getD (k .args .next .now) (l .j) 0 = c .wide2 .ensures in
-    omega (arith, k .pre .1 .falls (l .j) (omega arith))
+    sought-less (k .pre .1) (c .before .before .before .before .loop-test .taken) (c .wide2 .ensures)
 
 loop-again : tie.Need-loop-again Inv-loop μ-loop
 loop-again c =
     let k = c .before .before .before .before .before .before .before .before .before .before in
-    let a = k .args in
     let l = c .before .before .before .before .before .loop in
-    let e : c .wide2 .result ≡ getD (a .next .now) (l .j) 0 = c .wide2 .ensures in (
-      omega (arith, k .pre .1 .falls (l .j) (omega arith)),
-      sought-on (bundleAt (a .file .now) (a .b)) (a .next .now) (a .i) (l .j) (c .wide2 .result) (l .inv .1) (rw (← c .before .before .before .same-term .ensures) (c .before .before .if1 .left)) e,
-    )
+    sought-miss (k .pre .1) (l .inv) (c .before .before .before .before .loop-test .taken) (c .wide2 .ensures)
+    (c .before .before .before .same-term .ensures) (c .before .before .if1 .left) refl
 
 returns-2 : tie.Need-returns-2 Inv-loop μ-loop
 returns-2 c =
     let a = c .before .before .before .before .before .before .args in
     let l = c .before .loop in
-    sym (sought-end (bundleAt (a .file .now) (a .b)) (a .next .now) (a .i) (l .j) (l .inv .1) (c .loop-test .left))
+    sym (new-at-end (bundleAt (a .file .now) (a .b)) _ (a .i) (l .j) (l .inv) (c .loop-test .left))
 
 pub is-new-spec : {M : Type 1} → statement M
 is-new-spec =

@@ -7,12 +7,13 @@ use mathlib.Core.Path.{_≡_, refl, sym, _∙_}
 use lib.ListN.{length, length-set, length-replicate}
 use Rattle.bundle.specs.File.{bundleAt}
 use Rattle.bundle.proofs.Fields.{terms-length}
+use Rattle.bundle.proofs.Filed.{filed-none}
 use Rattle.logic.specs.Checks.{termFault, termsFault}
 use Rattle.logic.proofs.Firsts.{restFault, rest-start, rest-on, rest-here, rest-end}
 use Rattle.terms.specs.Digests.{FiledBelow}
 use Rattle.sorting.specs.Notes.{AllTo, SortsFit, LowerNoted, Fitting}
 use Rattle.sorting.proofs.NoteLaws.{zeros, noted-none, lower-up}
-use Rattle.terms.proofs.Digests.{filed-none, filed-on}
+use Rattle.terms.proofs.Digests.{term-filed}
 use Rattle.terms.proofs.terms.noted_fault.Statement.{statement}
 use Rattle.terms.proofs.terms.noted_fault.Tie as tie
 
@@ -32,7 +33,7 @@ loop-holds c =
       omega arith,
       length-replicate {A = ℕ} 2048 0,
       refl,
-      filed-none _ _ _ (zeros 2048) (c .before .before .before .before .before .pre .7),
+      filed-none _ _ _ (zeros 2048 .zero) (c .before .before .before .before .before .pre .7 .zero),
       rw terms-length (rest-start _ _),
       noted-none (AllTo (a .file .now) (a .b) 0) (a .b .links) (a .lower .now) (c .before .before .before .before .before .pre .3) (c .before .before .before .before .before .pre .2),
       noted-none (SortsFit (a .file .now) (a .b)) (a .b .links) (a .fitting .now) (c .before .before .before .before .before .pre .5) (c .before .before .before .before .before .pre .4),
@@ -101,7 +102,7 @@ loop-again c =
       omega arith,
       length-set (l .heads) (d .result) (l .i) ∙ l .inv .1,
       length-set (l .next) (l .i) _ ∙ l .inv .2,
-      filed-on (bundleAt (a .file .now) (a .b)) (l .heads) (l .next) (l .i) (d .result) (l .inv .3) (d .ensures .0) heads-room next-room,
+      term-filed (bundleAt (a .file .now) (a .b)) (l .heads) (l .next) (l .i) (d .result) (l .inv .0) (l .inv .3) (d .ensures .0) heads-room next-room,
       l .inv .4 ∙ rest-on _ _ _ (c .before .before .before .before .before .term-fault .ensures .0) (c .before .before .before .before .before .before .before .before .before .before .before .loop-test .taken) none,
       lower-up (a .file .now) (a .b) (l .i - 1) (l .i + 1 - 1) _ (omega arith) (noted .0),
       noted .1,

@@ -1,10 +1,10 @@
--- `filing::mixed` meets its contract: the definition, which is small.
+-- `digests::mixed` meets its contract: the definition, which is small.
 use borrow.Author.Needs.{needs}
 use mathlib.Core.Path.{refl}
-use Rattle.filing.specs.Filing.{mix}
-use Rattle.filing.proofs.Filed.{mix-small}
-use Rattle.filing.proofs.filing.mixed.Statement.{statement}
-use Rattle.filing.proofs.filing.mixed.Tie as tie
+use Rattle.bundle.specs.Filed.{mix}
+use Rattle.bundle.proofs.Filed.{mix-small}
+use Rattle.bundle.proofs.digests.mixed.Statement.{statement}
+use Rattle.bundle.proofs.digests.mixed.Tie as tie
 
 mul-result : tie.Need-mul-result
 mul-result c = search needs

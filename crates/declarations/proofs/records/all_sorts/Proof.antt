@@ -1,4 +1,4 @@
--- `symbols::all_sorts` meets its contract. The invariant: the list has only sorts where what is left of it has.
+-- `records::all_sorts` meets its contract. The invariant: the list has only sorts where what is left of it has.
 -- The measure is the length of what is left.
 use borrow.Author.Needs.{needs}
 use borrow.Author.Tests.{not-true, not-false}
@@ -11,8 +11,8 @@ use Rattle.bundle.specs.File.{bundleAt}
 use Rattle.bundle.specs.Lists.{each}
 use Rattle.bundle.proofs.Walks.{walk-start, walk-start-le, walk-le, walk-nil, walk-cons, walk-some, walk-length}
 use Rattle.logic.specs.Symbols.{isSort}
-use Rattle.declarations.proofs.symbols.all_sorts.Statement.{statement}
-use Rattle.declarations.proofs.symbols.all_sorts.Tie as tie
+use Rattle.declarations.proofs.records.all_sorts.Statement.{statement}
+use Rattle.declarations.proofs.records.all_sorts.Tie as tie
 
 abbrev Inv-loop : tie.InvT-loop
 Inv-loop file b list i₀ i = (i ≤ b .links) × (each (isSort (bundleAt file b)) (items (bundleAt file b) list) ≡ each (isSort (bundleAt file b)) (items (bundleAt file b) i))

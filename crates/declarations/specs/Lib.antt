@@ -1,0 +1,3 @@
+-- What the contracts cite.
+--     Sections   what is wrong with a record, by its section
+pub mod Sections
