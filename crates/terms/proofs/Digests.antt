@@ -19,7 +19,7 @@ use Rattle.logic.specs.Checks.{firstIsList, secondIsList, sameField, sameTerm, 
 use Rattle.logic.proofs.Tests.{passed-each, same-list, not-in, up-to-all}
 use Rattle.logic.proofs.Passes.{new-before}
 use Rattle.terms.specs.Digests.{mix, mixItems, mixField, termDigest, Reach, here, later, FiledBelow}
-use Rattle.sorting.specs.Notes.{Zeros}
+use Rattle.bundle.specs.LinkNotes.{Zeros}
 
 pub mix-small : (d x : ℕ) → mix d x < 2048
 unfolding mix

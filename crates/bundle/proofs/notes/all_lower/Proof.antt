@@ -1,17 +1,16 @@
 -- `notes::all_lower` meets its contract. The invariant: the items are 1 to n where what is left of them is. The measure is how many links are left
 -- to walk before those that are noted.
 use borrow.Author.Needs.{needs}
-use native.Mathlib.Omega.{arith}
 use Prim.Native.Nat.{_≤_}
 use mathlib.Core.Path.{_≡_, sym, _∙_}
 use mathlib.Core.Bool.{false≢true}
 use Rattle.bundle.specs.Links.{items}
 use Rattle.bundle.specs.Lists.{numbers, each}
 use Rattle.bundle.specs.File.{bundleAt}
 use Rattle.bundle.proofs.Walks.{walk-start, walk-start-le, walk-le}
-use Rattle.sorting.proofs.NoteLaws.{each-nil, each-on, each-here}
-use Rattle.sorting.proofs.notes.all_lower.Statement.{statement}
-use Rattle.sorting.proofs.notes.all_lower.Tie as tie
+use Rattle.bundle.proofs.NumberLists.{each-nil, each-on, each-here}
+use Rattle.bundle.proofs.notes.all_lower.Statement.{statement}
+use Rattle.bundle.proofs.notes.all_lower.Tie as tie
 
 abbrev Inv-loop : tie.InvT-loop
 Inv-loop file b lower list n i₀ left₀ i left = (i ≤ b .links) × (each (numbers n) (items (bundleAt file b) list) ≡ each (numbers n) (items (bundleAt file b) i))
