@@ -1,13 +1,14 @@
 -- Lists of records' numbers, 1 to n, along a walk over links in a file.
 --     each-nil, each-here, each-on   the walk has ended; is at an item that is no number; goes on past one that is
 --     each-up                        what is 1 to n is 1 to a greater number
+--     both-some                      the test of a walk over so many links: two numbers that are not 0
 use mathlib.Core.Path.{_≡_, refl}
-use mathlib.Core.Bool.{true, false, _||_}
+use mathlib.Core.Bool.{true, false, not, _&&_, _||_}
 use mathlib.Core.List.{List, [], _∷_}
 use Prim.Native.Nat.{ℕ, _≤_}
 use native.Mathlib.Omega.{arith}
 use lib.Dec.{eqb, ltb, leb}
-use borrow.Author.Tests.{leb-true, le-leb}
+use borrow.Author.Tests.{eqb-false, leb-true, le-leb, not-true}
 use Rattle.bundle.specs.declared.Bundle.{Bundle as Counts}
 use Rattle.bundle.specs.Bundle.{linkOf}
 use Rattle.bundle.specs.Links.{items, nextOf}
@@ -40,3 +41,8 @@ each-up n m (x ∷ xs) h e =
     let one : (ltb 0 x ≡ true) × (leb x n ≡ true) = both (ltb 0 x) (all .0) in
     let low : x ≤ m = omega (arith, leb-true x n (one .1)) in
     rw (one .0, le-leb x m low) (each-up n m xs h (all .1))
+
+pub both-some : (i j : ℕ) → (not (eqb i 0) && not (eqb j 0)) ≡ true → (i ≡ 0 → ⊥) × (j ≡ 0 → ⊥)
+both-some i j e =
+    let some = both (not (eqb i 0)) {b = not (eqb j 0)} e in
+    (eqb-false i 0 (not-true (eqb i 0) (some .0)), eqb-false j 0 (not-true (eqb j 0) (some .1)))

@@ -32,17 +32,21 @@ fn far_lower(file: &[u8], b: Bundle, lower: &mut [u8], start: usize, n: usize) -
     true
 }
 
-// Whether each item of a list is 1 to n. Most lists end before anything is noted.
-pub fn all_lower(file: &[u8], b: Bundle, lower: &mut [u8], list: usize, n: usize) -> bool
+// Whether each item of a list is 1 to n. The first links, so many as `plain` says, are not noted: most lists of terms end before any is.
+pub fn all_lower(
+    file: &[u8],
+    b: Bundle,
+    lower: &mut [u8],
+    list: usize,
+    n: usize,
+    plain: usize,
+) -> bool
     requires { ⌜ Whole (now file) b × LowerNoted (now file) b n (now lower) ⌝ }
     ensures { λ r. ⌜ (r ≡ each (numbers n) (items (bundleAt (now (file .entry)) b) list)) × (r ≡ true → LowerNoted (now (file .entry)) b n (now (lower .exit))) ⌝ }
 {
     let mut i = first_link(b, list);
-    let mut left = 8usize;
-    while left != 0 {
-        if i == 0 {
-            return true;
-        }
+    let mut left = plain;
+    while (i != 0) & (left != 0) {
         let x = link_field(file, b, i, 0);
         if (x == 0) | (x > n) {
             return false;

@@ -54,7 +54,7 @@ pub fn term_refers(file: &[u8], b: Bundle, lower: &mut [u8], i: usize) -> bool
     if (kind != 2) & (kind != 5) {
         return false;
     }
-    let terms = all_lower(file, b, lower, second, below);
+    let terms = all_lower(file, b, lower, second, below, 8);
     if kind == 2 {
         let symbol = is_known(signature_of(b, first));
         return symbol & (second <= links) & terms & (third == 0);
