@@ -4,6 +4,8 @@
 --     Fields       the fields of records are the words where they stand; the counts are the lengths of the sections
 --     Chains       lists of links
 --     Walks        what a walk over links in a file knows
+--     NumberLists  lists of records' numbers, along a walk
+--     LinkNotes    what is noted at links, along a walk that notes them
 --     ListPlaces   first, second and last items of a list, and lists of one item or two
 --     Filed        numbers filed by their digests, and the walk down the chain of a digest
 pub mod Tab
@@ -11,5 +13,7 @@ pub mod Limits
 pub mod Fields
 pub mod Chains
 pub mod Walks
+pub mod NumberLists
+pub mod LinkNotes
 pub mod ListPlaces
 pub mod Filed

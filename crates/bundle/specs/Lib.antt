@@ -5,6 +5,7 @@
 --     Limits     the limits of the counts, the places of the sections, the length that the counts give
 --     File       THE TIE: the bundle that a file stands for
 --     Lists      tests on lists of numbers, and items by their place
+--     LinkNotes  what is noted at the links of lists
 --     Filed      numbers filed by digests
 pub mod Words
 pub mod Bundle
@@ -12,4 +13,5 @@ pub mod Links
 pub mod Limits
 pub mod File
 pub mod Lists
+pub mod LinkNotes
 pub mod Filed

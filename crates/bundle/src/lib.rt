@@ -9,6 +9,7 @@ pub mod words; // words.rt: words of bytes, and the header
 pub mod halves; // halves.rt: words of 16 bits as numbers
 pub mod records; // records.rt: the fields of a record
 pub mod lists; // lists.rt: walks of lists of links
+pub mod notes; // notes.rt: walks that note links of long lists
 pub mod places; // places.rt: items of lists by their place
 pub mod digests; // digests.rt: digests, by which records are filed
 

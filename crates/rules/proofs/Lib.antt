@@ -1,7 +1,7 @@
 -- Laws that the functions' proofs share. Each file stands on those above it.
 --     BedSteps       earlier steps, of the file or of the bed
 --     Premises       the premises of CONG and LET, along a walk over the links of three lists
---     PremiseMarks   marks at the links of premises, along a walk that writes them
+--     PremiseMarks   keys at the links of premises
 pub mod BedSteps
 pub mod Premises
 pub mod PremiseMarks

@@ -118,12 +118,12 @@ pub fn all_prove(
     (j == 0) & left
 }
 
-// A context and two links as one number, another for each context and each two links from 1.
+// A context and two links, or 0 for one, as one number, another for each.
 fn key(context: usize, i: usize, j: usize) -> u32
     requires { ⌜ (context ≤ limits .contexts) × (i ≤ limits .links) × (j ≤ limits .links) ⌝ }
     ensures { λ r. ⌜ r ≡ keyOf context i j ⌝ }
 {
-    ((context * Bundle::LINKS + i) * Bundle::LINKS + j) as u32
+    ((context * (Bundle::LINKS + 1) + i) * (Bundle::LINKS + 1) + j) as u32
 }
 
 // The same with no premise more, for the batch check. `carried` has at a premise's link the key at which the premises from there on were last found to carry the
@@ -138,9 +138,9 @@ pub fn all_carried(
     rights: usize,
     premises: usize,
 ) -> bool
-    requires { ⌜ Whole (now file) b × Carried (stepIn (bundleAt (now file) b) (now bed)) (bundleAt (now file) b) (now carried) × (context ≤ limits .contexts) ⌝ }
+    requires { ⌜ Whole (now file) b × Carried (now file) b (now bed) (now carried) × (context ≤ limits .contexts) ⌝ }
     ensures { λ x. ⌜ x ≡ allProveBy (stepIn (bundleAt (now (file .entry)) b) (now (bed .entry))) false context (items (bundleAt (now (file .entry)) b) lefts) (items (bundleAt (now (file .entry)) b) rights) (items (bundleAt (now (file .entry)) b) premises) ⌝ }
-    ensures { λ x. ⌜ (x ≡ true → Carried (stepIn (bundleAt (now (file .entry)) b) (now (bed .entry))) (bundleAt (now (file .entry)) b) (now (carried .exit))) ⌝ }
+    ensures { λ x. ⌜ (x ≡ true → Carried (now (file .entry)) b (now (bed .entry)) (now (carried .exit))) ⌝ }
 {
     let mut i = first_link(b, lefts);
     let mut j = first_link(b, rights);

@@ -1,3 +1,3 @@
 -- What the contracts of inner functions cite.
---     Notes   what is noted of terms and of long lists
+--     Notes   what is noted of terms and of long lists of them
 pub mod Notes

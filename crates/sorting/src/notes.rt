@@ -1,21 +1,16 @@
-// What is noted while terms are checked: the sort of each term; and, of a link of a long list, that each item from there on is a lower term.
+// What is noted while terms are checked: the sort of each term.
 ghost use mathlib.Core.Path.{_≡_};
-ghost use mathlib.Core.Bool.{true};
-ghost use Prim.Native.Nat.{_≤_, _<_};
+ghost use Prim.Native.Nat.{_<_};
 ghost use lib.ListN.{length, getD};
 ghost use Rattle.bundle.specs.Bundle.{termOf};
-ghost use Rattle.bundle.specs.Links.{items};
-ghost use Rattle.bundle.specs.Lists.{numbers, each};
 ghost use Rattle.bundle.specs.File.{Whole, bundleAt};
+ghost use Rattle.bundle.specs.LinkNotes.{Zeros};
 ghost use Rattle.logic.specs.Sorts.{sortBy};
-ghost use Rattle.sorting.specs.Notes.{Zeros, Sorted, LowerNoted};
+ghost use Rattle.sorting.specs.Notes.{Sorted};
 use super::sorts::result_sort;
 use super::sorts::signature_of;
 use super::sorts::sort_in;
 use bundle::Bundle;
-use bundle::lists::first_link;
-use bundle::lists::next_link;
-use bundle::records::link_field;
 use bundle::records::term_field;
 use bundle::records::variable_sort;
 
@@ -49,46 +44,4 @@ pub fn note_sorts(file: &[u8], b: Bundle, sorts: &mut [usize])
         sorts[t] = sort;
         t += 1;
     }
-}
-
-// Whether each item from link `start` on is 1 to n: up to a link from which that is noted. Each link on the way is noted before the rest of its
-// list is known, so what is noted holds only where the answer is yes.
-fn far_lower(file: &[u8], b: Bundle, lower: &mut [u8], start: usize, n: usize) -> bool
-    requires { ⌜ Whole (now file) b × LowerNoted (now file) b n (now lower) × (start ≤ b .links) ⌝ }
-    ensures { λ r. ⌜ (r ≡ each (numbers n) (items (bundleAt (now (file .entry)) b) start)) × (r ≡ true → LowerNoted (now (file .entry)) b n (now (lower .exit))) ⌝ }
-{
-    let mut i = start;
-    while i != 0 {
-        if lower[i] != 0 {
-            return true;
-        }
-        lower[i] = 1;
-        let x = link_field(file, b, i, 0);
-        if (x == 0) | (x > n) {
-            return false;
-        }
-        i = next_link(file, b, i);
-    }
-    true
-}
-
-// Whether each item of a list is 1 to n. Most lists end before anything is noted.
-pub fn all_lower(file: &[u8], b: Bundle, lower: &mut [u8], list: usize, n: usize) -> bool
-    requires { ⌜ Whole (now file) b × LowerNoted (now file) b n (now lower) ⌝ }
-    ensures { λ r. ⌜ (r ≡ each (numbers n) (items (bundleAt (now (file .entry)) b) list)) × (r ≡ true → LowerNoted (now (file .entry)) b n (now (lower .exit))) ⌝ }
-{
-    let mut i = first_link(b, list);
-    let mut left = 8usize;
-    while left != 0 {
-        if i == 0 {
-            return true;
-        }
-        let x = link_field(file, b, i, 0);
-        if (x == 0) | (x > n) {
-            return false;
-        }
-        i = next_link(file, b, i);
-        left -= 1;
-    }
-    far_lower(file, b, lower, i, n)
 }

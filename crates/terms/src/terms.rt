@@ -6,19 +6,20 @@ ghost use lib.ListN.{length};
 ghost use Rattle.bundle.specs.Bundle.{termOf};
 ghost use Rattle.bundle.specs.Lists.{numbers};
 ghost use Rattle.bundle.specs.File.{Whole, bundleAt};
+ghost use Rattle.bundle.specs.LinkNotes.{Zeros, LowerNoted};
 ghost use Rattle.bundle.specs.Filed.{digests};
 ghost use Rattle.logic.specs.Checks.{refers, sorted, termFault, termsFault};
 ghost use Rattle.terms.specs.Digests.{termDigest, FiledBelow};
-ghost use Rattle.sorting.specs.Notes.{Zeros, Sorted, LowerNoted, Fitting};
+ghost use Rattle.sorting.specs.Notes.{Sorted, Fitting};
 use super::duplicates::digest;
 use super::duplicates::is_new;
 use bundle::Bundle;
 use bundle::digests::DIGESTS;
 use bundle::lists::all_numbers;
+use bundle::notes::all_lower;
 use bundle::records::term_field;
 use logic::Fault;
 use logic::no_fault;
-use sorting::notes::all_lower;
 use sorting::notes::note_sorts;
 use sorting::sorts::arguments_fit;
 use sorting::sorts::is_known;
@@ -54,7 +55,7 @@ pub fn term_refers(file: &[u8], b: Bundle, lower: &mut [u8], i: usize) -> bool
     if (kind != 2) & (kind != 5) {
         return false;
     }
-    let terms = all_lower(file, b, lower, second, below);
+    let terms = all_lower(file, b, lower, second, below, 8);
     if kind == 2 {
         let symbol = is_known(signature_of(b, first));
         return symbol & (second <= links) & terms & (third == 0);

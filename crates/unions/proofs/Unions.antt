@@ -27,11 +27,13 @@ use Rattle.bundle.specs.Bundle.{Bundle, termOf}
 use Rattle.bundle.specs.Links.{items}
 use Rattle.bundle.specs.Lists.{numbers, each}
 use Rattle.bundle.proofs.Fields.{record-within}
+use Rattle.bundle.proofs.NumberLists.{each-up}
+use Rattle.bundle.proofs.LinkNotes.{zeros}
 use Rattle.sets.specs.Sets.{bitAt, holds, member, filled}
 use Rattle.sets.proofs.Digits.{bit-or, bit-none}
 use Rattle.sets.proofs.Members.{held, member-same, filled-length, filled-in, filled-out}
 use Rattle.logic.specs.Free.{freesOf, freeBy, freeAt}
-use Rattle.logic.proofs.Tests.{and-left, and-right, and-both, numbers-of, numbers-in, or-neither}
+use Rattle.logic.proofs.Tests.{and-left, and-right, and-both, numbers-of, or-neither}
 use Rattle.unions.specs.Put.{SetRoom, Kept, Put, setBelow, SetsBelow}
 use Rattle.unions.specs.Unions.{known, unmet, Fewer, joined, Unions, Partly}
 use Rattle.unions.proofs.Puts.{kept-trans, below-kept}
@@ -216,25 +218,20 @@ module _ (area lists marks : List ℕ) (n t k term next : ℕ) (b : Bundle) (so 
 
 -- ---- from the start, and from term to term
 
-zero-at : (n d : ℕ) → _≡_ {A = ℕ} (getD (replicate n 0) d 0) 0
-zero-at zero d = refl
-zero-at (suc n) zero = refl
-zero-at (suc n) (suc d) = zero-at n d
-
 known-none : (q k : ℕ) → known (replicate q 0) k ≡ true → k ≡ 0
 unfolding known
 known-none q k e = go (eqb k 0) refl
   where
     go : (p : Bool) → eqb k 0 ≡ p → k ≡ 0
     go true d = eqb-true k 0 d
-    go false d = absurd (false≢true (sym (rw (d, zero-at q k)) ∙ e))
+    go false d = absurd (false≢true (sym (rw (d, zeros q .zero k)) ∙ e))
 
 none-member : (p at n x : ℕ) → member (replicate p 0) at n x ≡ false
 unfolding member
 none-member p at n x = go (holds n x)
   where
     go : (q : Bool) → cond q (bitAt (getD (replicate p 0) (at + (x - 1) / 64) 0) ((x - 1) % 64)) false ≡ false
-    go true = rw (zero-at p (at + (x - 1) / 64)) (bit-none ((x - 1) % 64))
+    go true = rw (zeros p .zero (at + (x - 1) / 64)) (bit-none ((x - 1) % 64))
     go false = refl
 
 pub unions-none : (b : Bundle) (n p q : ℕ) → items b 0 ≡ [] → length (b .links) < q → n * length (b .links) + n ≤ p → Unions b n 1 (replicate p 0) (replicate q 0)
@@ -253,19 +250,11 @@ links-room n links m words few =
     let l : n * (links + 1) ≤ setWords * (m + 1) = mul-le-mul words (omega arith) in
     omega arith
 
-each-later : (t : ℕ) (ys : List ℕ) → each (numbers (t - 1)) ys ≡ true → each (numbers (t + 1 - 1)) ys ≡ true
-unfolding each
-each-later t [] e = refl
-each-later t (y ∷ ys) e =
-    let p : (1 ≤ y) × (y ≤ t - 1) = numbers-of (t - 1) y (and-left (numbers (t - 1) y) (each (numbers (t - 1)) ys) e) in
-    and-both (numbers (t + 1 - 1) y) (each (numbers (t + 1 - 1)) ys) (numbers-in (t + 1 - 1) y (p .0) (omega arith))
-    (each-later t ys (and-right (numbers (t - 1) y) (each (numbers (t - 1)) ys) e))
-
 pub unions-later : (b : Bundle) (n t : ℕ) (lists marks : List ℕ) → Unions b n t lists marks → Unions b n (t + 1) lists marks
 unions-later b n t lists marks so = record {
   marked = so .marked;
   room = so .room;
-  lower = λ k e. each-later t (items b k) (so .lower k e);
+  lower = λ k e. each-up (t - 1) (t + 1 - 1) (items b k) (omega arith) (so .lower k e);
   union = so .union;
 }
 

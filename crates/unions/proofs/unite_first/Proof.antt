@@ -2,15 +2,11 @@
 use borrow.Author.Needs.{needs}
 use native.Mathlib.Omega.{arith}
 use Prim.Native.Nat.{_≤_}
-use mathlib.Core.Path.{_≡_}
-use mathlib.Core.Bool.{not}
 use lib.ListN.{length}
-use lib.Dec.{eqb}
-use borrow.Author.Tests.{eqb-false, not-true}
 use Rattle.bundle.specs.Links.{items}
 use Rattle.bundle.specs.File.{bundleAt}
 use Rattle.bundle.proofs.Walks.{walk-start, walk-start-le, walk-le, walk-cons, walk-length}
-use Rattle.logic.proofs.Tests.{and-left, and-right}
+use Rattle.bundle.proofs.NumberLists.{both-some}
 use Rattle.unions.specs.Unions.{Partly}
 use Rattle.unions.proofs.Puts.{kept-refl, kept-trans, room-kept, adding-turn}
 use Rattle.unions.proofs.unite_first.Statement.{statement}
@@ -48,19 +44,18 @@ next-link-requires c κs = c .before .before .before .before .before .before .be
 sub-left : tie.Need-sub-left Inv-loop μ-loop
 sub-left c =
     let l = c .before .before .before .before .before .before .before .loop in
-    let some : l .left ≡ 0 → ⊥ = eqb-false (l .left) 0 (not-true (eqb (l .left) 0) (and-right (not (eqb (l .i) 0)) (not (eqb (l .left) 0)) (c .before .before .before .before .before .before .loop-test .taken))) in
-    omega arith
+    omega (arith, both-some (l .i) (l .left) (c .before .before .before .before .before .before .loop-test .taken) .1)
 
 loop-less : tie.Need-loop-less Inv-loop μ-loop
 loop-less c =
     let a = c .before .before .before .before .before .before .before .before .before .before .before .args in
-    let some : c .before .before .before .before .before .before .before .loop .i ≡ 0 → ⊥ = eqb-false (c .before .before .before .before .before .before .before .loop .i) 0 (not-true (eqb (c .before .before .before .before .before .before .before .loop .i) 0) (and-left (not (eqb (c .before .before .before .before .before .before .before .loop .i) 0)) (not (eqb (c .before .before .before .before .before .before .before .loop .left) 0)) (c .before .before .before .before .before .before .loop-test .taken))) in
+    let some = both-some (c .before .before .before .before .before .before .before .loop .i) (c .before .before .before .before .before .before .before .loop .left) (c .before .before .before .before .before .before .loop-test .taken) .0 in
     omega (arith, walk-length (a .file .now) (a .b) (c .before .before .before .before .before .before .before .loop .i) (c .next-link .result) some (c .before .before .before .before .before .before .before .loop .inv .0) (c .next-link .ensures))
 
 loop-again : tie.Need-loop-again Inv-loop μ-loop
 loop-again c =
     let a = c .before .before .before .before .before .before .before .before .before .before .before .args in
-    let some : c .before .before .before .before .before .before .before .loop .i ≡ 0 → ⊥ = eqb-false (c .before .before .before .before .before .before .before .loop .i) 0 (not-true (eqb (c .before .before .before .before .before .before .before .loop .i) 0) (and-left (not (eqb (c .before .before .before .before .before .before .before .loop .i) 0)) (not (eqb (c .before .before .before .before .before .before .before .loop .left) 0)) (c .before .before .before .before .before .before .loop-test .taken))) in
+    let some = both-some (c .before .before .before .before .before .before .before .loop .i) (c .before .before .before .before .before .before .before .loop .left) (c .before .before .before .before .before .before .loop-test .taken) .0 in
     let l = c .before .before .before .before .before .before .before .loop in
     let b = bundleAt (a .file .now) (a .b) in (
       walk-le (a .file .now) (a .b) (l .i) (c .next-link .result) (c .next-link .ensures),

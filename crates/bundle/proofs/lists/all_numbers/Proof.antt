@@ -3,12 +3,13 @@
 use borrow.Author.Needs.{needs}
 use native.Mathlib.Omega.{arith}
 use Prim.Native.Nat.{_≤_}
-use mathlib.Core.Path.{_≡_}
+use mathlib.Core.Path.{_≡_, sym, _∙_}
 use lib.ListN.{length}
 use Rattle.bundle.specs.Links.{items}
 use Rattle.bundle.specs.File.{bundleAt}
 use Rattle.bundle.specs.Lists.{each, numbers}
-use Rattle.bundle.proofs.Walks.{walk-start, walk-start-le, walk-le, walk-nil, walk-cons, walk-some, walk-length, numbers-not}
+use Rattle.bundle.proofs.Walks.{walk-start, walk-start-le, walk-le, walk-length}
+use Rattle.bundle.proofs.NumberLists.{each-nil, each-here, each-on}
 use Rattle.bundle.proofs.lists.all_numbers.Statement.{statement}
 use Rattle.bundle.proofs.lists.all_numbers.Tie as tie
 
@@ -31,11 +32,10 @@ link-field-requires : tie.Need-link-field-requires Inv-loop μ-loop
 link-field-requires c κs = search needs
 
 returns : tie.Need-returns Inv-loop μ-loop
-unfolding each
 returns c =
     let a = c .before .before .before .before .before .before .args in
     let l = c .before .before .before .loop in
-    rw (l .inv .1, walk-some (a .file .now) (a .b) (l .i) (c .before .before .loop-test .taken) (l .inv .0), ← c .before .link-field .ensures, numbers-not, c .if1 .taken)
+    sym (l .inv .1 ∙ each-here (a .file .now) (a .b) (a .n) (l .i) (c .before .link-field .result) (c .before .before .loop-test .taken) (l .inv .0) (c .before .link-field .ensures) (c .if1 .taken))
 
 next-link-requires : tie.Need-next-link-requires Inv-loop μ-loop
 next-link-requires c κs = c .before .before .before .before .before .before .pre
@@ -47,21 +47,19 @@ loop-less c =
     omega (arith, walk-length (a .file .now) (a .b) (l .i) (c .next-link .result) (c .before .before .before .loop-test .taken) (l .inv .0) (c .next-link .ensures))
 
 loop-again : tie.Need-loop-again Inv-loop μ-loop
-unfolding each
 loop-again c =
     let a = c .before .before .before .before .before .before .before .args in
     let l = c .before .before .before .before .loop in
     let x = c .before .before .link-field in
     let r = c .next-link in (
       walk-le (a .file .now) (a .b) (l .i) (r .result) (r .ensures),
-      rw (l .inv .1, walk-cons (a .file .now) (a .b) (l .i) (x .result) (r .result) (c .before .before .before .loop-test .taken) (l .inv .0) (x .ensures) (r .ensures), numbers-not, c .before .if1 .left),
+      l .inv .1 ∙ each-on (a .file .now) (a .b) (a .n) (l .i) (x .result) (r .result) (c .before .before .before .loop-test .taken) (l .inv .0) (x .ensures) (r .ensures) (c .before .if1 .left),
     )
 
 returns-2 : tie.Need-returns-2 Inv-loop μ-loop
-unfolding each
 returns-2 c =
     let a = c .before .before .before .before .args in
-    rw (c .before .loop .inv .1, walk-nil (a .file .now) (a .b) (c .before .loop .i) (c .loop-test .left))
+    sym (c .before .loop .inv .1 ∙ each-nil (a .file .now) (a .b) (a .n) (c .before .loop .i) (c .loop-test .left))
 
 pub all-numbers-spec : {M : Type 1} → statement M
 all-numbers-spec =

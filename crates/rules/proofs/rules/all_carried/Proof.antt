@@ -1,21 +1,22 @@
--- `rules::all_carried` meets its contract: three lists in lockstep. The invariant: the whole holds where what is left of the lists does; the keys
--- from link k on are sound, and the others where what is left holds. The measure is the length of what is left of the first.
+-- `rules::all_carried` meets its contract: three lists in lockstep. The invariant: the whole holds where what is left of the lists does; and `OnWay`,
+-- for the keys. The measure is the length of what is left of the first.
 use borrow.Author.Needs.{needs}
 use native.Mathlib.Omega.{arith}
-use Prim.Native.Nat.{_≤_}
-use mathlib.Core.Path.{_≡_, sym, _∙_}
+use Prim.Native.Nat.{_≤_, _<_}
+use mathlib.Core.Path.{_≡_, refl, sym, _∙_}
 use mathlib.Core.Bool.{true, false, _&&_, false≢true}
 use lib.Dec.{eqb}
-use lib.ListN.{length, getD}
+use lib.ListN.{length, getD, length-set}
 use borrow.Author.Tests.{eqb-false, not-true, not-false}
 use Rattle.bundle.specs.Links.{items}
 use Rattle.bundle.specs.File.{bundleAt}
 use Rattle.bundle.proofs.Walks.{walk-start, walk-start-le, walk-le, walk-up, walk-nil, walk-length, or-none}
+use Rattle.bundle.proofs.LinkNotes.{OnWay, way-start, way-on, way-end}
 use Rattle.logic.specs.Rules.{allProveBy}
 use Rattle.images.specs.LentReading.{stepIn}
-use Rattle.rules.specs.PremiseMarks.{keyOf}
+use Rattle.rules.specs.PremiseMarks.{keyOf, CarriedFrom}
 use Rattle.rules.proofs.Premises.{prove-short, prove-on, prove-end, left-none}
-use Rattle.rules.proofs.PremiseMarks.{CarriedAt, carried-start, carried-on, carried-stop}
+use Rattle.rules.proofs.PremiseMarks.{carried-key}
 use Rattle.rules.proofs.rules.all_carried.Statement.{statement}
 use Rattle.rules.proofs.rules.all_carried.Tie as tie
 
@@ -24,7 +25,7 @@ Inv-loop file b bed carried₀ context lefts rights premises i₀ j₀ k₀ carr
     (i ≤ b .links) × (j ≤ b .links) × (k ≤ b .links)
     × (allProveBy (stepIn (bundleAt file b) bed) false context (items (bundleAt file b) lefts) (items (bundleAt file b) rights) (items (bundleAt file b) premises)
     ≡ allProveBy (stepIn (bundleAt file b) bed) false context (items (bundleAt file b) i) (items (bundleAt file b) j) (items (bundleAt file b) k))
-    × CarriedAt (stepIn (bundleAt file b) bed) (bundleAt file b) carried context i j k
+    × (b .links < length carried) × OnWay (CarriedFrom (stepIn (bundleAt file b) bed) (bundleAt file b)) carried (keyOf context i j) k
 
 abbrev μ-loop : tie.MeasureT-loop
 μ-loop file b bed carried₀ context lefts rights premises i₀ j₀ k₀ carried i j k = length (items (bundleAt file b) i)
@@ -48,7 +49,9 @@ loop-holds c =
       walk-start-le (a .file .now) (a .b) (a .rights) (s .result) (s .ensures),
       walk-start-le (a .file .now) (a .b) (a .premises) (t .result) (t .ensures),
       rw (walk-start (a .file .now) (a .b) (a .lefts) (r .result) (r .ensures), walk-start (a .file .now) (a .b) (a .rights) (s .result) (s .ensures), walk-start (a .file .now) (a .b) (a .premises) (t .result) (t .ensures)),
-      carried-start (stepIn (bundleAt (a .file .now) (a .b)) (a .bed .now)) (bundleAt (a .file .now) (a .b)) (a .carried .now) (a .context) (r .result) (s .result) (t .result) (c .before .before .before .before .before .pre .1),
+      c .before .before .before .before .before .pre .1 .enough,
+      way-start (CarriedFrom (stepIn (bundleAt (a .file .now) (a .b)) (a .bed .now)) (bundleAt (a .file .now) (a .b))) (a .b .links) (a .carried .now)
+          (keyOf (a .context) (r .result) (s .result)) (t .result) (c .before .before .before .before .before .pre .1),
     )
 
 returns : tie.Need-returns Inv-loop μ-loop
@@ -78,14 +81,18 @@ returns-2 c =
     let a = c .before .before .before .before .before .before .before .before .before .before .before .args in
     let l = c .before .before .before .before .before .loop in
     let w = c .before .before .before .before .before .before .before .before .before .before .before .pre .0 .within .links in
-    let o = or-none _ _ (c .before .before .before .if1 .left) in
-    let i-some : l .i ≡ 0 → ⊥ = c .before .before .before .before .loop-test .taken in
-    let j-some : l .j ≡ 0 → ⊥ = eqb-false (l .j) 0 (o .0) in
-    let i-le : l .i ≤ a .b .links = l .inv .0 in
-    let j-le : l .j ≤ a .b .links = l .inv .1 in
+    let k-some : l .k ≡ 0 → ⊥ = eqb-false (l .k) 0 (or-none (eqb (l .j) 0) (eqb (l .k) 0) (c .before .before .before .if1 .left) .1) in
+    let b = bundleAt (a .file .now) (a .b) in
+    let i-le : l .i ≤ 2048 = omega (arith, w, l .inv .0) in
+    let j-le : l .j ≤ 2048 = omega (arith, w, l .inv .1) in
+    let here : l .k ≤ l .k = omega arith in
     let known : getD (l .carried) (l .k) 0 ≡ keyOf (a .context) (l .i) (l .j) = c .if2 .taken ∙ c .before .before .key .ensures in
-    let good = carried-stop (stepIn (bundleAt (a .file .now) (a .b)) (a .bed .now)) (bundleAt (a .file .now) (a .b)) (l .carried) (a .context) (l .i) (l .j) (l .k) (l .inv .4) (eqb-false (l .k) 0 (o .1)) (omega arith) (omega arith) (omega arith) (omega arith) known in
-    (sym (l .inv .3 ∙ good), λ e. l .inv .4 .behind good)
+    let some : getD (l .carried) (l .k) 0 ≡ 0 → ⊥ = λ z. omega (arith, z, known, c .before .before .before .before .loop-test .taken) in
+    let good = l .inv .5 .above (l .k) here k-some some (a .context) (l .i) (l .j) i-le j-le known in (
+      sym (l .inv .3 ∙ good),
+      λ e. way-end (CarriedFrom (stepIn b (a .bed .now)) b) (a .b .links) (l .carried) (keyOf (a .context) (l .i) (l .j)) (l .k) (l .inv .5)
+          (carried-key (stepIn b (a .bed .now)) b (a .context) (l .i) (l .j) (l .k) i-le j-le good) (l .inv .4),
+    )
 
 link-field-requires : tie.Need-link-field-requires Inv-loop μ-loop
 link-field-requires c κs = search needs
@@ -138,14 +145,13 @@ loop-again c =
     let l = c .before .before .before .before .before .before .before .before .before .before .before .before .before .loop in
     let b = bundleAt (a .file .now) (a .b) in
     let w = c .before .before .before .before .before .before .before .before .before .before .before .before .before .before .before .before .before .before .before .pre .0 .within .links in
-    let o = or-none _ _ (c .before .before .before .before .before .before .before .before .before .before .before .if1 .left) in
+    let k-some : l .k ≡ 0 → ⊥ = eqb-false (l .k) 0 (or-none (eqb (l .j) 0) (eqb (l .k) 0) (c .before .before .before .before .before .before .before .before .before .before .before .if1 .left) .1) in
     let u = c .before .before .next-link in
     let v = c .before .next-link2 in
     let z = c .next-link3 in
-    let i-some : l .i ≡ 0 → ⊥ = c .before .before .before .before .before .before .before .before .before .before .before .before .loop-test .taken in
-    let j-some : l .j ≡ 0 → ⊥ = eqb-false (l .j) 0 (o .0) in
-    let i-le : l .i ≤ a .b .links = l .inv .0 in
-    let j-le : l .j ≤ a .b .links = l .inv .1 in
+    let u-le = walk-le (a .file .now) (a .b) (l .i) (u .result) (u .ensures) in
+    let v-le = walk-le (a .file .now) (a .b) (l .j) (v .result) (v .ensures) in
+    let room : l .k < length (l .carried) = omega (arith, l .inv .2, l .inv .4) in
     let same : allProveBy (stepIn b (a .bed .now)) false (a .context) (items b (l .i)) (items b (l .j)) (items b (l .k)) ≡ allProveBy (stepIn b (a .bed .now)) false (a .context) (items b (u .result)) (items b (v .result)) (items b (z .result)) =
     rw (
       prove-on (a .file .now) (a .b) (stepIn (bundleAt (a .file .now) (a .b)) (a .bed .now)) false (a .context) (c .before .before .before .before .before .before .before .before .before .before .before .before .loop-test .taken) (l .inv .0) (l .inv .1) (l .inv .2) (c .before .before .before .before .before .before .before .before .before .before .before .if1 .left) (c .before .before .before .before .before .before .before .link-field .ensures) (c .before .before .before .before .before .before .link-field2 .ensures) (c .before .before .before .before .before .link-field3 .ensures) (c .before .before .before .before .step-carries .ensures),
@@ -154,13 +160,16 @@ loop-again c =
       v .ensures,
       z .ensures,
     ) in (
-      walk-le (a .file .now) (a .b) (l .i) (u .result) (u .ensures),
-      walk-le (a .file .now) (a .b) (l .j) (v .result) (v .ensures),
+      u-le,
+      v-le,
       walk-le (a .file .now) (a .b) (l .k) (z .result) (z .ensures),
       l .inv .3 ∙ same,
+      rw length-set (l .inv .4),
       rw (c .before .before .before .before .before .before .before .before .before .before .key .ensures)
-          (carried-on (stepIn b (a .bed .now)) b (l .carried) (a .context) (l .i) (l .j) (l .k) (l .inv .4) (eqb-false (l .k) 0 (o .1)) (omega arith) (omega arith) (omega arith) (omega arith) (u .result) (v .result) (z .result)
-          (walk-up (a .file .now) (a .b) (l .k) (z .result) (z .ensures)) (λ e. same ∙ e)),
+          (way-on (CarriedFrom (stepIn b (a .bed .now)) b) (l .carried) (keyOf (a .context) (l .i) (l .j)) (l .k) (keyOf (a .context) (u .result) (v .result)) (z .result)
+          (l .inv .5) k-some room (walk-up (a .file .now) (a .b) (l .k) (z .result) (z .ensures))
+          (λ e. carried-key (stepIn b (a .bed .now)) b (a .context) (l .i) (l .j) (l .k) (omega (arith, w, l .inv .0)) (omega (arith, w, l .inv .1))
+          (same ∙ e (a .context) (u .result) (v .result) (omega (arith, w, u-le)) (omega (arith, w, v-le)) refl))),
     )
 
 returns-4 : tie.Need-returns-4 Inv-loop μ-loop
@@ -174,7 +183,11 @@ returns-4 c =
       prove-end (a .file .now) (a .b) (stepIn (bundleAt (a .file .now) (a .b)) (a .bed .now)) false (a .context) (l .j) (l .k) (l .inv .1),
       left-none (a .file .now) (a .b) (l .k) (l .inv .2),
     ) in
-    (sym (l .inv .3 ∙ same), λ e. l .inv .4 .behind (same ∙ e))
+    let w = c .before .before .before .before .before .before .before .pre .0 .within .links in (
+      sym (l .inv .3 ∙ same),
+      λ e. way-end (CarriedFrom (stepIn b (a .bed .now)) b) (a .b .links) (l .carried) (keyOf (a .context) (l .i) (l .j)) (l .k) (l .inv .5)
+          (carried-key (stepIn b (a .bed .now)) b (a .context) (l .i) (l .j) (l .k) (omega (arith, w, l .inv .0)) (omega (arith, w, l .inv .1)) (same ∙ e)) (l .inv .4),
+    )
 
 pub all-carried-spec : {M : Type 1} → statement M
 all-carried-spec =

@@ -4,7 +4,7 @@ use native.Mathlib.Omega.{arith}
 use Prim.Native.Nat.{_+_, _-_, _≤_}
 use mathlib.Core.Path.{_≡_, refl, _∙_}
 use lib.ListN.{length, length-set}
-use Rattle.sorting.proofs.NoteLaws.{SortsBelow, sorts-none, sorts-on, sorts-all}
+use Rattle.sorting.proofs.SortsNoted.{SortsBelow, sorts-none, sorts-on, sorts-all}
 use Rattle.sorting.proofs.notes.note_sorts.Statement.{statement}
 use Rattle.sorting.proofs.notes.note_sorts.Tie as tie
 

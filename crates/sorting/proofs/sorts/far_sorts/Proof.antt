@@ -10,8 +10,8 @@ use Rattle.bundle.specs.Links.{items}
 use Rattle.bundle.specs.File.{bundleAt}
 use Rattle.bundle.specs.Lists.{sameList}
 use Rattle.bundle.proofs.Walks.{walk-le, walk-up, walk-nil, walk-cons, walk-some, walk-length}
+use Rattle.bundle.proofs.LinkNotes.{OnWay, way-start, way-on, way-end}
 use Rattle.sorting.specs.Notes.{SortsFit}
-use Rattle.sorting.proofs.NoteLaws.{OnWay, way-start, way-on, way-end}
 use Rattle.sorting.proofs.SortLists.{termSorts, ended, short, differs, on}
 use Rattle.sorting.proofs.sorts.far_sorts.Statement.{statement}
 use Rattle.sorting.proofs.sorts.far_sorts.Tie as tie

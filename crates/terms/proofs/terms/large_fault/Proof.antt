@@ -1,7 +1,7 @@
 -- `terms::large_fault` meets its contract: the arrays are zero at first and large enough, and each call asks for what those before it gave.
 use borrow.Author.Needs.{needs}
 use native.Mathlib.Omega.{arith}
-use Rattle.sorting.proofs.NoteLaws.{zeros}
+use Rattle.bundle.proofs.LinkNotes.{zeros}
 use Rattle.terms.proofs.terms.large_fault.Statement.{statement}
 use Rattle.terms.proofs.terms.large_fault.Tie as tie
 

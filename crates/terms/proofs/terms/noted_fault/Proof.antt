@@ -6,13 +6,14 @@ use Prim.Native.Nat.{ℕ, _+_, _-_, _≤_, _<_}
 use mathlib.Core.Path.{_≡_, refl, sym, _∙_}
 use lib.ListN.{length, length-set, length-replicate}
 use Rattle.bundle.specs.File.{bundleAt}
+use Rattle.bundle.specs.LinkNotes.{AllTo, LowerNoted}
 use Rattle.bundle.proofs.Fields.{terms-length}
 use Rattle.bundle.proofs.Filed.{filed-none}
+use Rattle.bundle.proofs.LinkNotes.{zeros, noted-none, lower-up}
 use Rattle.logic.specs.Checks.{termFault, termsFault}
 use Rattle.logic.proofs.Firsts.{restFault, rest-start, rest-on, rest-here, rest-end}
 use Rattle.terms.specs.Digests.{FiledBelow}
-use Rattle.sorting.specs.Notes.{AllTo, SortsFit, LowerNoted, Fitting}
-use Rattle.sorting.proofs.NoteLaws.{zeros, noted-none, lower-up}
+use Rattle.sorting.specs.Notes.{SortsFit, Fitting}
 use Rattle.terms.proofs.Digests.{term-filed}
 use Rattle.terms.proofs.terms.noted_fault.Statement.{statement}
 use Rattle.terms.proofs.terms.noted_fault.Tie as tie

@@ -3,17 +3,18 @@
 use borrow.Author.Needs.{needs}
 use native.Mathlib.Omega.{arith}
 use Prim.Native.Nat.{_≤_, _<_}
-use mathlib.Core.Path.{_≡_, refl, sym, ap, _∙_}
+use mathlib.Core.Path.{_≡_, refl, sym, _∙_}
 use mathlib.Core.Bool.{false≢true}
 use lib.ListN.{length, length-set}
 use Rattle.bundle.specs.Links.{items}
 use Rattle.bundle.specs.Lists.{numbers, each}
 use Rattle.bundle.specs.File.{bundleAt}
 use Rattle.bundle.proofs.Walks.{walk-le, walk-up, walk-length}
-use Rattle.sorting.specs.Notes.{AllTo}
-use Rattle.sorting.proofs.NoteLaws.{OnWay, way-start, way-on, way-end, each-nil, each-on, each-here}
-use Rattle.sorting.proofs.notes.far_lower.Statement.{statement}
-use Rattle.sorting.proofs.notes.far_lower.Tie as tie
+use Rattle.bundle.specs.LinkNotes.{AllTo}
+use Rattle.bundle.proofs.NumberLists.{each-nil, each-on, each-here}
+use Rattle.bundle.proofs.LinkNotes.{OnWay, way-start, way-on, way-end}
+use Rattle.bundle.proofs.notes.far_lower.Statement.{statement}
+use Rattle.bundle.proofs.notes.far_lower.Tie as tie
 
 abbrev Inv-loop : tie.InvT-loop
 Inv-loop file b lower₀ start n i₀ lower i =
