@@ -1,5 +1,3 @@
--- What the contracts of this crate say of the code's steps and of premises.
+-- What the contracts of this crate say of the code's steps.
 --     StepWords      a step as the code holds it
---     PremiseMarks   what is kept at links of premises so that they are not walked again
 pub mod StepWords
-pub mod PremiseMarks

@@ -1,171 +1,31 @@
 // The five rules, one function each.
 ghost use mathlib.Core.Path.{_≡_};
-ghost use mathlib.Core.Bool.{true, false, cond, not, _&&_};
-ghost use lib.Dec.{eqb};
-ghost use Prim.Native.Nat.{_+_, _*_, _≤_, _<_};
+ghost use mathlib.Core.Bool.{true, false};
+ghost use Prim.Native.Nat.{_+_, _*_, _≤_};
 ghost use lib.ListN.{length};
 ghost use Rattle.bundle.specs.Limits.{limits};
-ghost use Rattle.bundle.specs.Bundle.{stepField};
-ghost use Rattle.bundle.specs.Links.{items};
 ghost use Rattle.bundle.specs.File.{Whole, bundleAt};
 ghost use Rattle.logic.specs.Tests.{passed};
-ghost use Rattle.logic.specs.Rules.{carries, allProveBy, isImage, reflHoldsBy, congWhere, transTestsBy, transSideBy, bindTermsBy, bindContextsBy, freeInImageBy, bindSidesBy, letTestsBy};
+ghost use Rattle.logic.specs.Rules.{carries, isImage, reflHoldsBy, congWhere, transTestsBy, transSideBy, bindTermsBy, bindContextsBy, freeInImageBy, bindSidesBy, letTestsBy};
 ghost use Rattle.rules.specs.StepWords.{asStep};
 ghost use Rattle.images.specs.LentReading.{Lent, freeIn, stepIn, imagesIn, allSettledIn};
-ghost use Rattle.rules.specs.PremiseMarks.{keyOf, Carried};
 use super::StepWords;
 use bundle::Bundle;
-use bundle::lists::first_link;
-use bundle::lists::next_link;
 use bundle::lists::same_list;
 use bundle::places::first_item;
 use bundle::places::is_single;
 use bundle::places::last_item;
 use bundle::places::second_item;
 use bundle::records::context_field;
-use bundle::records::link_field;
-use bundle::records::step_field;
 use bundle::records::term_field;
-use bundle::words::wide;
 use images::images::image_of;
 use images::images::is_free;
 use images::images::is_settled;
 use images::images::is_variable;
 use logic::Image;
-
-// ---- Premises
-
-// Field k of step p: the file's steps come first, then those of the bed. The batch check has its steps in the file and no bed, a running check
-// has none in the file.
-fn taken_field(file: &[u8], b: Bundle, bed: &[u32], p: usize, k: usize) -> usize
-    requires { ⌜ Whole (now file) b × (k < 5) ⌝ }
-    ensures { λ r. ⌜ r ≡ stepField (stepIn (bundleAt (now (file .entry)) b) (now (bed .entry)) p) k ⌝ }
-{
-    let steps = b.steps;
-    if p <= steps {
-        return step_field(file, b, p, k);
-    }
-    let j = p - steps - 1;
-    if j < bed.len() / 5 {
-        return wide(bed[5 * j + k]);
-    }
-    0
-}
-
-// Whether step p carries l to r in the context. Every rule reads earlier steps here or by `taken_field`.
-fn step_carries(
-    file: &[u8],
-    b: Bundle,
-    bed: &[u32],
-    p: usize,
-    context: usize,
-    l: usize,
-    r: usize,
-) -> bool
-    requires { ⌜ Whole (now file) b ⌝ }
-    ensures { λ x. ⌜ x ≡ carries (stepIn (bundleAt (now (file .entry)) b) (now (bed .entry)) p) context l r ⌝ }
-{
-    let in_context = taken_field(file, b, bed, p, 1);
-    let left = taken_field(file, b, bed, p, 2);
-    let right = taken_field(file, b, bed, p, 3);
-    (in_context == context) & (left == l) & (right == r)
-}
-
-// Whether what is left of premises is what may be left: nothing, or one for a let's body. They go on at link k, and then at `more`.
-fn left_over(body: bool, k: usize, more: usize) -> bool
-    ensures { λ r. ⌜ r ≡ cond body (not (eqb k 0) && eqb more 0) (eqb k 0) ⌝ }
-{
-    if body {
-        return (k != 0) & (more == 0);
-    }
-    k == 0
-}
-
-// Whether the premises carry the terms of one list to those of another in the context, one for each, in order, and where `body` says so there
-// is one premise more.
-pub fn all_prove(
-    file: &[u8],
-    b: Bundle,
-    bed: &[u32],
-    body: bool,
-    context: usize,
-    lefts: usize,
-    rights: usize,
-    premises: usize,
-) -> bool
-    requires { ⌜ Whole (now file) b ⌝ }
-    ensures { λ x. ⌜ x ≡ allProveBy (stepIn (bundleAt (now (file .entry)) b) (now (bed .entry))) body context (items (bundleAt (now (file .entry)) b) lefts) (items (bundleAt (now (file .entry)) b) rights) (items (bundleAt (now (file .entry)) b) premises) ⌝ }
-{
-    let mut i = first_link(b, lefts);
-    let mut j = first_link(b, rights);
-    let mut k = first_link(b, premises);
-    while i != 0 {
-        if (j == 0) | (k == 0) {
-            return false;
-        }
-        let l = link_field(file, b, i, 0);
-        let r = link_field(file, b, j, 0);
-        let p = link_field(file, b, k, 0);
-        if !step_carries(file, b, bed, p, context, l, r) {
-            return false;
-        }
-        i = next_link(file, b, i);
-        j = next_link(file, b, j);
-        k = next_link(file, b, k);
-    }
-    let more = next_link(file, b, k);
-    let left = left_over(body, k, more);
-    (j == 0) & left
-}
-
-// A context and two links, or 0 for one, as one number, another for each.
-fn key(context: usize, i: usize, j: usize) -> u32
-    requires { ⌜ (context ≤ limits .contexts) × (i ≤ limits .links) × (j ≤ limits .links) ⌝ }
-    ensures { λ r. ⌜ r ≡ keyOf context i j ⌝ }
-{
-    ((context * (Bundle::LINKS + 1) + i) * (Bundle::LINKS + 1) + j) as u32
-}
-
-// The same with no premise more, for the batch check. `carried` has at a premise's link the key at which the premises from there on were last found to carry the
-// terms: there the walk ends. A key is written before the rest is known; where the rest fails, so does the step, and no key is read again.
-pub fn all_carried(
-    file: &[u8],
-    b: Bundle,
-    bed: &[u32],
-    carried: &mut [u32; Bundle::LINKS + 1],
-    context: usize,
-    lefts: usize,
-    rights: usize,
-    premises: usize,
-) -> bool
-    requires { ⌜ Whole (now file) b × Carried (now file) b (now bed) (now carried) × (context ≤ limits .contexts) ⌝ }
-    ensures { λ x. ⌜ x ≡ allProveBy (stepIn (bundleAt (now (file .entry)) b) (now (bed .entry))) false context (items (bundleAt (now (file .entry)) b) lefts) (items (bundleAt (now (file .entry)) b) rights) (items (bundleAt (now (file .entry)) b) premises) ⌝ }
-    ensures { λ x. ⌜ (x ≡ true → Carried (now (file .entry)) b (now (bed .entry)) (now (carried .exit))) ⌝ }
-{
-    let mut i = first_link(b, lefts);
-    let mut j = first_link(b, rights);
-    let mut k = first_link(b, premises);
-    while i != 0 {
-        if (j == 0) | (k == 0) {
-            return false;
-        }
-        let own = key(context, i, j);
-        if carried[k] == own {
-            return true;
-        }
-        let l = link_field(file, b, i, 0);
-        let r = link_field(file, b, j, 0);
-        let p = link_field(file, b, k, 0);
-        if !step_carries(file, b, bed, p, context, l, r) {
-            return false;
-        }
-        carried[k] = own;
-        i = next_link(file, b, i);
-        j = next_link(file, b, j);
-        k = next_link(file, b, k);
-    }
-    (j == 0) & (k == 0)
-}
+use premises::all_prove;
+use premises::step_carries;
+use premises::taken_field;
 
 // ---- REFL
 

@@ -1,10 +1,10 @@
 -- `rules::taken_field` meets its contract: a step of the file, of the bed, or of neither.
 use native.Mathlib.Omega.{arith}
 use mathlib.Core.Path.{sym, _∙_}
-use Rattle.rules.proofs.BedSteps.{taken-file, taken-bed, taken-none}
+use Rattle.premises.proofs.BedSteps.{taken-file, taken-bed, taken-none}
 use borrow.Author.Needs.{needs}
-use Rattle.rules.proofs.rules.taken_field.Statement.{statement}
-use Rattle.rules.proofs.rules.taken_field.Tie as tie
+use Rattle.premises.proofs.taken_field.Statement.{statement}
+use Rattle.premises.proofs.taken_field.Tie as tie
 
 step-field-requires : tie.Need-step-field-requires
 step-field-requires c κs = search needs

@@ -8,7 +8,7 @@ use native.Mathlib.Omega.{arith}
 use Rattle.bundle.specs.Bundle.{Bundle, Step}
 use Rattle.bundle.specs.Links.{items}
 use Rattle.logic.specs.Rules.{allProveBy}
-use Rattle.rules.specs.PremiseMarks.{keyOf, CarriedFrom}
+use Rattle.premises.specs.PremiseMarks.{keyOf, CarriedFrom}
 
 key-same : (c i j d k l : ℕ) → i ≤ 2048 → j ≤ 2048 → k ≤ 2048 → l ≤ 2048 → keyOf c i j ≡ keyOf d k l → (c ≡ d) × (i ≡ k) × (j ≡ l)
 key-same c i j d k l p q r s e = (omega arith, omega arith, omega arith)

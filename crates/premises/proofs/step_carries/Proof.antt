@@ -1,7 +1,7 @@
 -- `rules::step_carries` meets its contract: three reads, in the definition's order.
 use borrow.Author.Needs.{needs}
-use Rattle.rules.proofs.rules.step_carries.Statement.{statement}
-use Rattle.rules.proofs.rules.step_carries.Tie as tie
+use Rattle.premises.proofs.step_carries.Statement.{statement}
+use Rattle.premises.proofs.step_carries.Tie as tie
 
 taken-field-requires : tie.Need-taken-field-requires
 taken-field-requires c κs = search needs

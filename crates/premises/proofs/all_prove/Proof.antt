@@ -10,10 +10,10 @@ use Rattle.bundle.specs.File.{bundleAt}
 use Rattle.bundle.proofs.Walks.{walk-start, walk-start-le, walk-le, walk-nil, walk-length}
 use Rattle.logic.specs.Rules.{allProveBy}
 use Rattle.images.specs.LentReading.{stepIn}
-use Rattle.rules.proofs.Premises.{prove-short, prove-on, prove-end, left-any}
+use Rattle.premises.proofs.Premises.{prove-short, prove-on, prove-end, left-any}
 use borrow.Author.Needs.{needs}
-use Rattle.rules.proofs.rules.all_prove.Statement.{statement}
-use Rattle.rules.proofs.rules.all_prove.Tie as tie
+use Rattle.premises.proofs.all_prove.Statement.{statement}
+use Rattle.premises.proofs.all_prove.Tie as tie
 
 abbrev Inv-loop : tie.InvT-loop
 Inv-loop file b bed body context lefts rights premises i₀ j₀ k₀ i j k =

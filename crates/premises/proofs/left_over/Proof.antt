@@ -1,6 +1,6 @@
 -- `rules::left_over` meets its contract: one equation for each kind of rest.
-use Rattle.rules.proofs.rules.left_over.Statement.{statement}
-use Rattle.rules.proofs.rules.left_over.Tie as tie
+use Rattle.premises.proofs.left_over.Statement.{statement}
+use Rattle.premises.proofs.left_over.Tie as tie
 
 returns : tie.Need-returns
 returns c = rw (c .if1 .taken)

@@ -14,11 +14,11 @@ use Rattle.bundle.proofs.Walks.{walk-start, walk-start-le, walk-le, walk-up, wa
 use Rattle.bundle.proofs.LinkNotes.{OnWay, way-start, way-on, way-end}
 use Rattle.logic.specs.Rules.{allProveBy}
 use Rattle.images.specs.LentReading.{stepIn}
-use Rattle.rules.specs.PremiseMarks.{keyOf, CarriedFrom}
-use Rattle.rules.proofs.Premises.{prove-short, prove-on, prove-end, left-none}
-use Rattle.rules.proofs.PremiseMarks.{carried-key}
-use Rattle.rules.proofs.rules.all_carried.Statement.{statement}
-use Rattle.rules.proofs.rules.all_carried.Tie as tie
+use Rattle.premises.specs.PremiseMarks.{keyOf, CarriedFrom}
+use Rattle.premises.proofs.Premises.{prove-short, prove-on, prove-end, left-none}
+use Rattle.premises.proofs.PremiseMarks.{carried-key}
+use Rattle.premises.proofs.all_carried.Statement.{statement}
+use Rattle.premises.proofs.all_carried.Tie as tie
 
 abbrev Inv-loop : tie.InvT-loop
 Inv-loop file b bed carried₀ context lefts rights premises i₀ j₀ k₀ carried i j k =
