@@ -142,7 +142,8 @@ module _ (f : List ℕ) (out words sets : ℕ) where
             ),
           ) in
           both-next (tablesFault f m 3) (lastFault b)
-          (both-next (fault (headerFault f m 3) 0) (sectionsFault b) (header-exactly f m 3 .1 (formed .header, long-exactly out words sets .1 long)) (tables-exactly b .1 (formed .tables)))
+          (both-next (fault (headerFault f m 3) 0) (sectionsFault b) (header-exactly f m 3 .1 (formed .header, long-exactly out words sets .1 long))
+          (tables-exactly b .1 (formed .tables)))
           (rw (← last-find b .first, none-fails (lastChecks b) last))
 
 -- ---- the answer

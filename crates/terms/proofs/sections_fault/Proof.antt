@@ -21,7 +21,8 @@ returns-2 : tie.Need-returns-2
 unfolding sectionsFault recordFault
 returns-2 c =
     let l = c .before .before .before in
-    rw (links-length, ← l .before .before .section-fault .ensures, orElse-on _ _ _ (l .if1 .left), symbols-length, ← c .before .before .section-fault2 .ensures, orElse-here _ _ _ (c .if2 .taken))
+    rw (links-length, ← l .before .before .section-fault .ensures, orElse-on _ _ _ (l .if1 .left))
+    (rw (symbols-length, ← c .before .before .section-fault2 .ensures, orElse-here _ _ _ (c .if2 .taken)))
 
 section-fault-requires-3 : tie.Need-section-fault-requires-3
 section-fault-requires-3 c κs = search needs
@@ -31,7 +32,9 @@ unfolding sectionsFault recordFault
 returns-3 c =
     let s = c .before .before .before in
     let l = s .before .before .before in
-    rw (links-length, ← l .before .before .section-fault .ensures, orElse-on _ _ _ (l .if1 .left), symbols-length, ← s .before .before .section-fault2 .ensures, orElse-on _ _ _ (s .if2 .left), variables-length, ← c .before .before .section-fault3 .ensures, orElse-here _ _ _ (c .if3 .taken))
+    rw (links-length, ← l .before .before .section-fault .ensures, orElse-on _ _ _ (l .if1 .left))
+    (rw (symbols-length, ← s .before .before .section-fault2 .ensures, orElse-on _ _ _ (s .if2 .left))
+    (rw (variables-length, ← c .before .before .section-fault3 .ensures, orElse-here _ _ _ (c .if3 .taken))))
 
 terms-fault-requires : tie.Need-terms-fault-requires
 terms-fault-requires c κs = search needs
@@ -42,7 +45,9 @@ returns-4 c =
     let v = c .before in
     let s = v .before .before .before in
     let l = s .before .before .before in
-    rw (links-length, ← l .before .before .section-fault .ensures, orElse-on _ _ _ (l .if1 .left), symbols-length, ← s .before .before .section-fault2 .ensures, orElse-on _ _ _ (s .if2 .left), variables-length, ← v .before .before .section-fault3 .ensures, orElse-on _ _ _ (v .if3 .left)) (c .terms-fault .ensures)
+    rw (links-length, ← l .before .before .section-fault .ensures, orElse-on _ _ _ (l .if1 .left))
+    (rw (symbols-length, ← s .before .before .section-fault2 .ensures, orElse-on _ _ _ (s .if2 .left))
+    (rw (variables-length, ← v .before .before .section-fault3 .ensures, orElse-on _ _ _ (v .if3 .left)) (c .terms-fault .ensures)))
 
 pub sections-fault-spec : {M : Type 1} → statement M
 sections-fault-spec =

@@ -43,7 +43,8 @@ loop-again c =
     let b = bundleIn (a .words .now) (a .c) in
     let d = c .before .before .digest in
     let n : l .t ≡ suc (l .t - 1) = omega arith in
-    let filed = filed-on b (l .index) (l .t - 1) (d .result) (l .inv .2) (l .t) (l .t + 1 - 1) n (omega arith) (λ B more. formed-digested (c .before .before .before .before .before .before .pre .1) B more (l .t) (omega (arith, terms-length (a .words .now) (a .c))) ∙ sym (d .ensures .0))
+    let filed = filed-on b (l .index) (l .t - 1) (d .result) (l .inv .2) (l .t) (l .t + 1 - 1) n (omega arith)
+    (λ B more. formed-digested (c .before .before .before .before .before .before .pre .1) B more (l .t) (omega (arith, terms-length (a .words .now) (a .c))) ∙ sym (d .ensures .0))
     (d .ensures .1) (omega (arith, c .before .before .before .before .before .before .pre .0 .within .terms)) in (
       omega arith,
       omega arith,

@@ -13,7 +13,8 @@ use Rattle.filing.proofs.filing.mixed_items.Statement.{statement}
 use Rattle.filing.proofs.filing.mixed_items.Tie as tie
 
 abbrev Inv-loop : tie.InvT-loop
-Inv-loop words c d list sum₀ i₀ sum i = (i ≤ c .links) × (sum < 2048) × (mixAll d (items (bundleIn words c) list) ≡ mixAll sum (items (bundleIn words c) i))
+Inv-loop words c d list sum₀ i₀ sum i =
+    (i ≤ c .links) × (sum < 2048) × (mixAll d (items (bundleIn words c) list) ≡ mixAll sum (items (bundleIn words c) i))
 
 abbrev μ-loop : tie.MeasureT-loop
 μ-loop words c d list sum₀ i₀ sum i = length (items (bundleIn words c) i)

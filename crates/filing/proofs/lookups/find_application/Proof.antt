@@ -17,7 +17,8 @@ use Rattle.filing.proofs.lookups.find_application.Statement.{statement}
 use Rattle.filing.proofs.lookups.find_application.Tie as tie
 
 abbrev Inv-loop : tie.InvT-loop
-Inv-loop words c index d symbol stack from to found₀ t₀ found t = (t ≤ c .terms) × SoughtTerm (bundleIn words c) index (sameApplication (bundleIn words c) symbol (halves true stack from to)) t found
+Inv-loop words c index d symbol stack from to found₀ t₀ found t =
+    (t ≤ c .terms) × SoughtTerm (bundleIn words c) index (sameApplication (bundleIn words c) symbol (halves true stack from to)) t found
 
 abbrev μ-loop : tie.MeasureT-loop
 μ-loop words c index d symbol stack from to found₀ t₀ found t = t
@@ -33,11 +34,13 @@ wide-requires c κs = search needs
 
 loop-holds : tie.Need-loop-holds Inv-loop μ-loop
 loop-holds c =
-    let a = c .before .before .before .before .args in
+    let k = c .before .before .before .before in
+    let a = k .args in
+    let filed = held-own (k .pre .1) in
     let e : c .wide .result ≡ getD (a .index .now) (a .d) 0 = c .wide .ensures in (
-      omega (arith, held-own (c .before .before .before .before .pre .1) .low (a .d) (c .before .before .before .before .pre .2), terms-length (a .words .now) (a .c)),
-      sought-start (held-own (c .before .before .before .before .pre .1)) _ (a .d) (c .before .before .before .before .pre .2)
-          (λ j t. application-digest (bundleIn (a .words .now) (a .c)) (a .symbol) (halves true (a .stack .now) (a .from) (a .to)) _ t ∙ sym (c .before .before .before .before .pre .3)) e,
+      omega (arith, filed .low (a .d) (k .pre .2), terms-length (a .words .now) (a .c)),
+      sought-start filed _ (a .d) (k .pre .2)
+          (λ j t. application-digest (bundleIn (a .words .now) (a .c)) (a .symbol) (halves true (a .stack .now) (a .from) (a .to)) _ t ∙ sym (k .pre .3)) e,
     )
 
 is-application-requires : tie.Need-is-application-requires Inv-loop μ-loop
@@ -57,18 +60,20 @@ wide-requires-2 c κs = search needs
 
 loop-less : tie.Need-loop-less Inv-loop μ-loop
 loop-less c =
-    sought-less (held-own (c .before .before .before .before .before .before .before .before .before .before .pre .1)) (c .before .before .before .before .loop-test .taken) (c .wide2 .ensures)
+    let k = c .before .before .before .before .before .before .before .before .before .before in
+    sought-less (held-own (k .pre .1)) (c .before .before .before .before .loop-test .taken) (c .wide2 .ensures)
 
 loop-again : tie.Need-loop-again Inv-loop μ-loop
 loop-again c =
     let k = c .before .before .before .before .before .before .before .before .before .before in
     let filed = held-own (k .pre .1) in
     let l = c .before .before .before .before .before .loop in
+    let some = c .before .before .before .before .loop-test .taken in
     let e : c .wide2 .result ≡ getD (k .args .index .now) (2048 + l .t) 0 = c .wide2 .ensures in (
-      omega (arith, l .inv .0, sought-less filed (c .before .before .before .before .loop-test .taken) e),
+      omega (arith, l .inv .0, sought-less filed some e),
       ⊎-elim
-          (λ w. sought-hit filed (l .inv .1) (c .before .before .before .before .loop-test .taken) e (c .before .before .before .is-application .ensures) (w .0 .taken) (w .1))
-          (λ w. sought-miss filed (l .inv .1) (c .before .before .before .before .loop-test .taken) e (c .before .before .before .is-application .ensures) (w .0 .left) (w .1))
+          (λ w. sought-hit filed (l .inv .1) some e (c .before .before .before .is-application .ensures) (w .0 .taken) (w .1))
+          (λ w. sought-miss filed (l .inv .1) some e (c .before .before .before .is-application .ensures) (w .0 .left) (w .1))
           (c .before .before .if1 .came),
     )
 

@@ -17,7 +17,8 @@ use Rattle.filing.proofs.lookups.find_binder.Statement.{statement}
 use Rattle.filing.proofs.lookups.find_binder.Tie as tie
 
 abbrev Inv-loop : tie.InvT-loop
-Inv-loop words c index d kind y body found₀ t₀ found t = (t ≤ c .terms) × ((q : Binder) → kind ≡ numberOf (binder q) → SoughtTerm (bundleIn words c) index (sameBinder q y body) t found)
+Inv-loop words c index d kind y body found₀ t₀ found t =
+    (t ≤ c .terms) × ((q : Binder) → kind ≡ numberOf (binder q) → SoughtTerm (bundleIn words c) index (sameBinder q y body) t found)
 
 abbrev μ-loop : tie.MeasureT-loop
 μ-loop words c index d kind y body found₀ t₀ found t = t
@@ -33,11 +34,13 @@ wide-requires c κs = search needs
 
 loop-holds : tie.Need-loop-holds Inv-loop μ-loop
 loop-holds c =
-    let a = c .before .before .before .args in
+    let k = c .before .before .before in
+    let a = k .args in
+    let filed = held-own (k .pre .1) in
     let e : c .wide .result ≡ getD (a .index .now) (a .d) 0 = c .wide .ensures in (
-      omega (arith, held-own (c .before .before .before .pre .1) .low (a .d) (c .before .before .before .pre .2), terms-length (a .words .now) (a .c)),
-      λ q f. sought-start (held-own (c .before .before .before .pre .1)) _ (a .d) (c .before .before .before .pre .2)
-          (λ j t. binder-digest (bundleIn (a .words .now) (a .c)) q (a .y) (a .body) _ t ∙ ap (λ (k : ℕ). rootDigest k (a .y)) (sym f) ∙ sym (c .before .before .before .pre .3)) e,
+      omega (arith, filed .low (a .d) (k .pre .2), terms-length (a .words .now) (a .c)),
+      λ q f. sought-start filed _ (a .d) (k .pre .2)
+          (λ j t. binder-digest (bundleIn (a .words .now) (a .c)) q (a .y) (a .body) _ t ∙ ap (λ (k : ℕ). rootDigest k (a .y)) (sym f) ∙ sym (k .pre .3)) e,
     )
 
 is-binder-requires : tie.Need-is-binder-requires Inv-loop μ-loop
@@ -57,18 +60,20 @@ wide-requires-2 c κs = search needs
 
 loop-less : tie.Need-loop-less Inv-loop μ-loop
 loop-less c =
-    sought-less (held-own (c .before .before .before .before .before .before .before .before .before .pre .1)) (c .before .before .before .before .loop-test .taken) (c .wide2 .ensures)
+    let k = c .before .before .before .before .before .before .before .before .before in
+    sought-less (held-own (k .pre .1)) (c .before .before .before .before .loop-test .taken) (c .wide2 .ensures)
 
 loop-again : tie.Need-loop-again Inv-loop μ-loop
 loop-again c =
     let k = c .before .before .before .before .before .before .before .before .before in
     let filed = held-own (k .pre .1) in
     let l = c .before .before .before .before .before .loop in
+    let some = c .before .before .before .before .loop-test .taken in
     let e : c .wide2 .result ≡ getD (k .args .index .now) (2048 + l .t) 0 = c .wide2 .ensures in (
-      omega (arith, l .inv .0, sought-less filed (c .before .before .before .before .loop-test .taken) e),
+      omega (arith, l .inv .0, sought-less filed some e),
       λ q f. ⊎-elim
-          (λ w. sought-hit filed (l .inv .1 q f) (c .before .before .before .before .loop-test .taken) e (c .before .before .before .is-binder .ensures q f) (w .0 .taken) (w .1))
-          (λ w. sought-miss filed (l .inv .1 q f) (c .before .before .before .before .loop-test .taken) e (c .before .before .before .is-binder .ensures q f) (w .0 .left) (w .1))
+          (λ w. sought-hit filed (l .inv .1 q f) some e (c .before .before .before .is-binder .ensures q f) (w .0 .taken) (w .1))
+          (λ w. sought-miss filed (l .inv .1 q f) some e (c .before .before .before .is-binder .ensures q f) (w .0 .left) (w .1))
           (c .before .before .if1 .came),
     )
 

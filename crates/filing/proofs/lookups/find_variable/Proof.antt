@@ -31,11 +31,13 @@ wide-requires c κs = search needs
 
 loop-holds : tie.Need-loop-holds Inv-loop μ-loop
 loop-holds c =
-    let a = c .before .before .before .args in
+    let k = c .before .before .before in
+    let a = k .args in
+    let filed = held-own (k .pre .1) in
     let e : c .wide .result ≡ getD (a .index .now) (a .d) 0 = c .wide .ensures in (
-      omega (arith, held-own (c .before .before .before .pre .1) .low (a .d) (c .before .before .before .pre .2), terms-length (a .words .now) (a .c)),
-      sought-start (held-own (c .before .before .before .pre .1)) _ (a .d) (c .before .before .before .pre .2)
-          (λ j t. variable-digest (bundleIn (a .words .now) (a .c)) (a .y) _ t ∙ sym (c .before .before .before .pre .3)) e,
+      omega (arith, filed .low (a .d) (k .pre .2), terms-length (a .words .now) (a .c)),
+      sought-start filed _ (a .d) (k .pre .2)
+          (λ j t. variable-digest (bundleIn (a .words .now) (a .c)) (a .y) _ t ∙ sym (k .pre .3)) e,
     )
 
 is-variable-requires : tie.Need-is-variable-requires Inv-loop μ-loop
@@ -55,18 +57,20 @@ wide-requires-2 c κs = search needs
 
 loop-less : tie.Need-loop-less Inv-loop μ-loop
 loop-less c =
-    sought-less (held-own (c .before .before .before .before .before .before .before .before .before .pre .1)) (c .before .before .before .before .loop-test .taken) (c .wide2 .ensures)
+    let k = c .before .before .before .before .before .before .before .before .before in
+    sought-less (held-own (k .pre .1)) (c .before .before .before .before .loop-test .taken) (c .wide2 .ensures)
 
 loop-again : tie.Need-loop-again Inv-loop μ-loop
 loop-again c =
     let k = c .before .before .before .before .before .before .before .before .before in
     let filed = held-own (k .pre .1) in
     let l = c .before .before .before .before .before .loop in
+    let some = c .before .before .before .before .loop-test .taken in
     let e : c .wide2 .result ≡ getD (k .args .index .now) (2048 + l .t) 0 = c .wide2 .ensures in (
-      omega (arith, l .inv .0, sought-less filed (c .before .before .before .before .loop-test .taken) e),
+      omega (arith, l .inv .0, sought-less filed some e),
       ⊎-elim
-          (λ w. sought-hit filed (l .inv .1) (c .before .before .before .before .loop-test .taken) e (c .before .before .before .is-variable .ensures) (w .0 .taken) (w .1))
-          (λ w. sought-miss filed (l .inv .1) (c .before .before .before .before .loop-test .taken) e (c .before .before .before .is-variable .ensures) (w .0 .left) (w .1))
+          (λ w. sought-hit filed (l .inv .1) some e (c .before .before .before .is-variable .ensures) (w .0 .taken) (w .1))
+          (λ w. sought-miss filed (l .inv .1) some e (c .before .before .before .is-variable .ensures) (w .0 .left) (w .1))
           (c .before .before .if1 .came),
     )
 

@@ -41,7 +41,8 @@ returns c =
     let a = c .before .before .before .before .before .before .before .before .args in
     let l = c .before .before .before .loop in
     let some : l .j ≡ 0 → ⊥ = c .before .before .loop-test .taken in
-    sym (not-new (bundleAt (a .file .now) (a .b)) (a .i) (l .j) (omega arith) (omega (arith, l .inv .stands)) (sym (c .before .same-term .ensures) ∙ c .if1 .taken))
+    sym (not-new (bundleAt (a .file .now) (a .b)) (a .i) (l .j) (omega arith) (omega (arith, l .inv .stands))
+    (sym (c .before .same-term .ensures) ∙ c .if1 .taken))
 
 mul-wide-2 : tie.Need-mul-wide-2 Inv-loop μ-loop
 mul-wide-2 c = search needs
