@@ -10,7 +10,7 @@ use mathlib.Core.Bool.{true}
 use Rattle.scratch.specs.Stack.{halves}
 use Rattle.logic.specs.Lookup.{sameApplication}
 use Rattle.scratch.specs.Scratch.{bundleIn}
-use Rattle.scratch.proofs.ScratchFields.{terms-length}
+use Rattle.scratch.proofs.ScratchFields.{sized-in}
 use Rattle.filing.proofs.Filed.{application-digest, Sought, sought-start, sought-hit, sought-miss, sought-end}
 use Rattle.filing.proofs.lookups.find_application.Statement.{statement}
 use Rattle.filing.proofs.lookups.find_application.Tie as tie
@@ -34,7 +34,7 @@ loop-holds : tie.Need-loop-holds Inv-loop μ-loop
 loop-holds c =
     let a = c .before .before .before .before .args in
     let e : c .wide .result ≡ getD (a .index .now) (a .d) 0 = c .wide .ensures in (
-      omega (arith, c .before .before .before .before .pre .1 .low (a .d) (c .before .before .before .before .pre .2), terms-length (a .words .now) (a .c)),
+      omega (arith, c .before .before .before .before .pre .1 .low (a .d) (c .before .before .before .before .pre .2), sized-in (a .words .now) (a .c) .terms),
       sought-start (bundleIn (a .words .now) (a .c)) (a .index .now) (sameApplication (bundleIn (a .words .now) (a .c)) (a .symbol) (halves true (a .stack .now) (a .from) (a .to))) (c .before .before .before .before .pre .1) (a .d) (c .wide .result) (c .before .before .before .before .pre .2)
           (λ r t. application-digest (bundleIn (a .words .now) (a .c)) (a .symbol) (halves true (a .stack .now) (a .from) (a .to)) r t ∙ sym (c .before .before .before .before .pre .3)) e,
     )

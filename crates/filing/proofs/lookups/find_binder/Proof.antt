@@ -10,7 +10,7 @@ use Rattle.logic.specs.Terms.{Binder, binder, numberOf}
 use Rattle.logic.specs.Lookup.{sameBinder}
 use Rattle.filing.specs.Filing.{rootDigest}
 use Rattle.scratch.specs.Scratch.{bundleIn}
-use Rattle.scratch.proofs.ScratchFields.{terms-length}
+use Rattle.scratch.proofs.ScratchFields.{sized-in}
 use Rattle.filing.proofs.Filed.{binder-digest, Sought, sought-start, sought-hit, sought-miss, sought-end}
 use Rattle.filing.proofs.lookups.find_binder.Statement.{statement}
 use Rattle.filing.proofs.lookups.find_binder.Tie as tie
@@ -34,7 +34,7 @@ loop-holds : tie.Need-loop-holds Inv-loop μ-loop
 loop-holds c =
     let a = c .before .before .before .args in
     let e : c .wide .result ≡ getD (a .index .now) (a .d) 0 = c .wide .ensures in (
-      omega (arith, c .before .before .before .pre .1 .low (a .d) (c .before .before .before .pre .2), terms-length (a .words .now) (a .c)),
+      omega (arith, c .before .before .before .pre .1 .low (a .d) (c .before .before .before .pre .2), sized-in (a .words .now) (a .c) .terms),
       λ q f. sought-start (bundleIn (a .words .now) (a .c)) (a .index .now) (sameBinder q (a .y) (a .body)) (c .before .before .before .pre .1) (a .d) (c .wide .result) (c .before .before .before .pre .2)
           (λ r t. binder-digest (bundleIn (a .words .now) (a .c)) q (a .y) (a .body) r t ∙ ap (λ (k : ℕ). rootDigest k (a .y)) (sym f) ∙ sym (c .before .before .before .pre .3)) e,
     )

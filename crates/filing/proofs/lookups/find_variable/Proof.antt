@@ -8,7 +8,7 @@ use mathlib.Core.Path.{_≡_, sym, _∙_}
 use lib.ListN.{getD}
 use Rattle.logic.specs.Lookup.{sameVariable}
 use Rattle.scratch.specs.Scratch.{bundleIn}
-use Rattle.scratch.proofs.ScratchFields.{terms-length}
+use Rattle.scratch.proofs.ScratchFields.{sized-in}
 use Rattle.filing.proofs.Filed.{variable-digest, Sought, sought-start, sought-hit, sought-miss, sought-end}
 use Rattle.filing.proofs.lookups.find_variable.Statement.{statement}
 use Rattle.filing.proofs.lookups.find_variable.Tie as tie
@@ -32,7 +32,7 @@ loop-holds : tie.Need-loop-holds Inv-loop μ-loop
 loop-holds c =
     let a = c .before .before .before .args in
     let e : c .wide .result ≡ getD (a .index .now) (a .d) 0 = c .wide .ensures in (
-      omega (arith, c .before .before .before .pre .1 .low (a .d) (c .before .before .before .pre .2), terms-length (a .words .now) (a .c)),
+      omega (arith, c .before .before .before .pre .1 .low (a .d) (c .before .before .before .pre .2), sized-in (a .words .now) (a .c) .terms),
       sought-start (bundleIn (a .words .now) (a .c)) (a .index .now) (sameVariable (a .y)) (c .before .before .before .pre .1) (a .d) (c .wide .result) (c .before .before .before .pre .2)
           (λ r t. variable-digest (bundleIn (a .words .now) (a .c)) (a .y) r t ∙ sym (c .before .before .before .pre .3)) e,
     )
