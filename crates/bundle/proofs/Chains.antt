@@ -1,5 +1,4 @@
 -- Laws of lists of links. A walk needs three: `chain-nil`, `chain-cons` and `next-le`; its measure is the length of the list that is left.
---     start-items, start-le    the first link of a list, which is a link or 0
 --     chain-nil, chain-past    0 and a number past the last link start the empty list
 --     chain-cons               a link's list is its value, and then the list of the link that follows
 --     next-le, next-up         the link that follows is a link or 0; if it is not 0, it is above
@@ -11,9 +10,9 @@ use native.Mathlib.Nat.{not-suc-le-zero, le-of-suc-le-suc}
 use native.Mathlib.Omega.{arith}
 use lib.ListN.{length, getD}
 use lib.Dec.{ltb, leb}
-use borrow.Author.Tests.{ltb-true, leb-true, leb-false, ltb-false}
-use Rattle.bundle.specs.Bundle.{Link, noLink, at, Bundle}
-use Rattle.bundle.specs.Links.{rest, lists, chain, follows, nextOf, startsAt, items}
+use borrow.Author.Tests.{ltb-true, leb-true, leb-false}
+use Rattle.bundle.specs.Bundle.{Link, noLink, at}
+use Rattle.bundle.specs.Links.{rest, lists, chain, follows, nextOf}
 use Rattle.bundle.proofs.Tab.{at-none}
 
 -- two conds on one test that agree where it holds
@@ -105,33 +104,3 @@ next-le ls i = follows-le (length ls) i (at noLink ls i .next)
 
 pub next-up : (ls : List Link) (i : ℕ) → (nextOf ls i ≡ 0 → ⊥) → i < nextOf ls i
 next-up ls i = follows-up (length ls) i (at noLink ls i .next)
-
--- ---- lists of a bundle, by the number n of its links
-
-module _ (b : Bundle) (n : ℕ) (count : length (b .links) ≡ n) where
-  pub start-le : (s : ℕ) → startsAt n s ≤ n
-  unfolding startsAt
-  start-le s = go (leb s n) refl
-    where
-      go : (p : Bool) → leb s n ≡ p → cond p s 0 ≤ n
-      go true e = leb-true s n e
-      go false e = omega arith
-
-  pub start-items : (s : ℕ) → items b (startsAt n s) ≡ items b s
-  unfolding startsAt items
-  start-items s = go (leb s n) refl
-    where
-      go : (p : Bool) → leb s n ≡ p → chain (b .links) (cond p s 0) ≡ chain (b .links) s
-      go true e = refl
-      go false e = sym (chain-past (b .links) s (let l : n < s = leb-false s n e in omega arith))
-
-  pub items-nil : items b 0 ≡ []
-  unfolding items
-  items-nil = chain-nil (b .links)
-
-  pub items-cons : (i : ℕ) → (i ≡ 0 → ⊥) → i ≤ n → items b i ≡ at noLink (b .links) i .value ∷ items b (nextOf (b .links) i)
-  unfolding items
-  items-cons i ne h = chain-cons (b .links) i ne (omega arith)
-
-  pub items-next-le : (i : ℕ) → nextOf (b .links) i ≤ n
-  items-next-le i = omega (arith, next-le (b .links) i)

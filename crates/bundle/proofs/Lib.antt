@@ -3,7 +3,8 @@
 --     Limits       the test of the counts says that each is within its limit
 --     Fields       the fields of records are the words where they stand; the counts are the lengths of the sections
 --     Chains       lists of links
---     Walks        what a walk over links in a file knows
+--     BundleWalks  what a walk over links knows
+--     Walks        the same of a file
 --     NumberLists  lists of records' numbers, along a walk
 --     LinkNotes    what is noted at links, along a walk that notes them
 --     ListPlaces   first, second and last items of a list, and lists of one item or two
@@ -12,6 +13,7 @@ pub mod Tab
 pub mod Limits
 pub mod Fields
 pub mod Chains
+pub mod BundleWalks
 pub mod Walks
 pub mod NumberLists
 pub mod LinkNotes

@@ -1,10 +1,13 @@
 -- Laws of `tab` and of the total lookup `at`.
 --     tab-length, tab-at     length, an element
+--     tab-ext, tab-more      two functions that agree below n; one element more
 --     at-tab, at-none, tab-none     the element of a number in range, and of one past the end
 --     at-field               a field of the record of a number is the number's element in the list of that field alone
-use mathlib.Core.Path.{_≡_, refl, sym, ap, _∙_}
+use mathlib.Core.Path.{_≡_, refl, sym, ap, ap₂, _∙_}
 use mathlib.Core.List.{List, [], _∷_, _++_}
 use Prim.Native.Nat.{ℕ, zero, suc, _+_, _-_, _≤_, _<_}
+use native.Mathlib.Numerals.{add-one}
+use native.Mathlib.Nat.{lt-suc-self}
 use native.Mathlib.Omega.{arith}
 use native.Mathlib.Decide.{decLt}
 use lib.ListN.{length, getD, length-append, List·getD-append, List·getD-eq-default}
@@ -27,6 +30,15 @@ module _ {ℓ} {A : Type ℓ} where
       go ih (yes h) = List·getD-append (tab f n) (f n ∷ []) d i (rw tab-length h) ∙ ih h
       go ih (no h) = let e : i ≡ n = omega arith in
           rw e (getD-at (tab f n) (f n) [] d n (tab-length f n))
+
+  pub tab-ext : (f g : ℕ → A) (n : ℕ) → ((i : ℕ) → i < n → f i ≡ g i) → tab f n ≡ tab g n
+  unfolding tab
+  tab-ext f g zero h = refl
+  tab-ext f g (suc n) h = ap₂ (λ (xs : List A) (x : A). xs ++ (x ∷ [])) (tab-ext f g n (λ i l. h i (omega arith))) (h n (lt-suc-self n))
+
+  pub tab-more : (f g : ℕ → A) (n : ℕ) (x : A) → ((i : ℕ) → i < n → f i ≡ g i) → f n ≡ x → tab f (n + 1) ≡ tab g n ++ (x ∷ [])
+  unfolding tab
+  tab-more f g n x h e = rw add-one (ap₂ (λ (xs : List A) (y : A). xs ++ (y ∷ [])) (tab-ext f g n h) e)
 
   pub at-tab : (f : ℕ → A) (n i : ℕ) (d : A) → (i ≡ 0 → ⊥) → i ≤ n → at d (tab f n) i ≡ f (i - 1)
   at-tab f n zero d ne h = absurd (ne refl)

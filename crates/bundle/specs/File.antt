@@ -1,5 +1,5 @@
--- THE TIE: the bundle that a file stands for.
-use Prim.Native.Nat.{ℕ, zero, suc, _+_, _*_, _≤_}
+-- The bundle that a memory of words stands for, and THE TIE: the bundle that a file stands for.
+use Prim.Native.Nat.{ℕ, zero, suc, _+_, _*_}
 use mathlib.Core.Path.{_≡_}
 use mathlib.Core.List.{List, [], _∷_, _++_}
 use lib.ListN.{length}
@@ -19,8 +19,8 @@ tab f zero = []
 tab f (suc n) = tab f n ++ (f n ∷ [])
 
 -- word k of record j, counted from 0, of a section that starts at word `start` and has `size` words a record
-abbrev pub recordWord : List ℕ → ℕ → ℕ → ℕ → ℕ → ℕ
-recordWord f start size j k = wordAt f (start + size * j + k)
+abbrev pub recordBy : (ℕ → ℕ) → ℕ → ℕ → ℕ → ℕ → ℕ
+recordBy word start size j k = word (start + size * j + k)
 
 -- a record of its words
 abbrev pub symbolFrom : (ℕ → ℕ) → Symbol
@@ -38,19 +38,23 @@ contextFrom w = record { kind = w 0; a = w 1; b = w 2; parent = w 3 }
 abbrev pub stepFrom : (ℕ → ℕ) → Step
 stepFrom w = record { rule = w 0; context = w 1; left = w 2; right = w 3; premises = w 4 }
 
--- the bundle that a file of these counts stands for
-unfoldable pub bundleAt : List ℕ → Counts → Bundle
-unfolding tab wordAt headerWords
-bundleAt f c = record {
-  symbols = tab (λ j. symbolFrom (recordWord f (symbolsAt c) 2 j)) (c .symbols);
-  variables = tab (λ j. recordWord f (variablesAt c) 1 j 0) (c .variables);
-  terms = tab (λ j. termFrom (recordWord f (termsAt c) 4 j)) (c .terms);
-  links = tab (λ j. linkFrom (recordWord f (linksAt c) 2 j)) (c .links);
-  contexts = tab (λ j. contextFrom (recordWord f (contextsAt c) 4 j)) (c .contexts);
-  steps = tab (λ j. stepFrom (recordWord f (stepsAt c) 5 j)) (c .steps);
-  left = wordAt f 7;
-  right = wordAt f 8;
+-- The bundle that a memory stands for: its words by their places, the counts that give the places of the sections, and the counts that there are.
+unfoldable pub bundleBy : (ℕ → ℕ) → Counts → Counts → Bundle
+unfolding tab headerWords
+bundleBy word places c = record {
+  symbols = tab (λ j. symbolFrom (recordBy word (symbolsAt places) 2 j)) (c .symbols);
+  variables = tab (λ j. recordBy word (variablesAt places) 1 j 0) (c .variables);
+  terms = tab (λ j. termFrom (recordBy word (termsAt places) 4 j)) (c .terms);
+  links = tab (λ j. linkFrom (recordBy word (linksAt places) 2 j)) (c .links);
+  contexts = tab (λ j. contextFrom (recordBy word (contextsAt places) 4 j)) (c .contexts);
+  steps = tab (λ j. stepFrom (recordBy word (stepsAt places) 5 j)) (c .steps);
+  left = word 7;
+  right = word 8;
 }
+
+-- THE TIE: the bundle that a file of these counts stands for. Its sections stand one right after another.
+abbrev pub bundleAt : List ℕ → Counts → Bundle
+bundleAt f c = bundleBy (wordAt f) c c
 
 -- Header: version; the counts S, V, T, L, C, P; the claim's left term; its right term
 unfoldable pub countsOf : List ℕ → Counts
@@ -67,5 +71,5 @@ countsOf f = record {
 
 -- the bundle that a file stands for
 unfoldable pub bundleOf : List ℕ → Bundle
-unfolding bundleAt countsOf
+unfolding bundleBy wordAt countsOf
 bundleOf f = bundleAt f (countsOf f)

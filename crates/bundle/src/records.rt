@@ -2,15 +2,16 @@
 ghost use mathlib.Core.Path.{_≡_};
 ghost use Prim.Native.Nat.{ℕ, _+_, _*_, _≤_, _<_};
 ghost use lib.ListN.{length};
+ghost use Rattle.bundle.specs.Words.{wordAt};
 ghost use Rattle.bundle.specs.Bundle.{at, symbolOf, sortOfVariable, termOf, linkOf, contextOf, stepOf, symbolField, termField, linkField, contextField, stepField};
-ghost use Rattle.bundle.specs.File.{Whole, tab, recordWord, bundleAt};
+ghost use Rattle.bundle.specs.File.{Whole, tab, recordBy, bundleAt};
 use super::Bundle;
 use super::words::word_at;
 
 // Word k of record i of a section: the section starts at word `start` and has `count` records of `size` words.
 fn field(file: &[u8], start: usize, size: usize, count: usize, i: usize, k: usize) -> usize
     requires { ⌜ (k < size) × (4 * (start + size * count) ≤ length (now file)) ⌝ }
-    ensures { λ r. ⌜ r ≡ at 0 (tab (λ j. recordWord (now (file .entry)) start size j k) count) i ⌝ }
+    ensures { λ r. ⌜ r ≡ at 0 (tab (λ j. recordBy (wordAt (now (file .entry))) start size j k) count) i ⌝ }
 {
     if i == 0 {
         return 0;

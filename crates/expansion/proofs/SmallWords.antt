@@ -1,5 +1,5 @@
 -- All numbers of the bundle that is written are words of 32 bits, where its counts are within the limits.
---     file-small                       a bundle that is read out of bytes
+--     memory-small, file-small         a bundle that is read out of words, and out of bytes
 --     small-variables .. small-steps   records appended to one section
 --     items-small, image-small         items of lists; images
 --     SmallNode, node-small            the numbers of a node; of the node of a term
@@ -16,9 +16,9 @@ use lib.Dec.{eqb, ltb}
 use Rattle.bundle.specs.declared.Bundle.{Bundle as Counts}
 use Rattle.bundle.specs.Bundle.{Bundle, Link, TermRecord, Context, Step, at, noTerm, noContext, sortOfVariable, contextOf}
 use Rattle.bundle.specs.Words.{wordAt}
-use Rattle.bundle.specs.Limits.{symbolsAt, variablesAt, termsAt, linksAt, contextsAt, stepsAt, Within}
+use Rattle.bundle.specs.Limits.{Within}
 use Rattle.bundle.specs.Links.{rest, lists, chain, items}
-use Rattle.bundle.specs.File.{recordWord, symbolFrom, linkFrom, termFrom, contextFrom, stepFrom, countsOf, bundleOf}
+use Rattle.bundle.specs.File.{bundleBy, countsOf, bundleOf}
 use Rattle.logic.specs.Lists.{All}
 use Rattle.logic.specs.declared.Image.{Image}
 use Rattle.logic.specs.declared.Image.the-variants.{Own, Gives}
@@ -37,7 +37,7 @@ use Rattle.expansion.specs.Demands.{Bytes}
 use Rattle.expansion.proofs.SmallNumbers.{Word, SmallBundle, all-append, all-snoc, all-getD, all-at, all-tab}
 use Rattle.expansion.proofs.Grown.{placed-longer, concluded-longer, replacing-longer, fixing-longer, visit-longer, visitAll-longer}
 
--- ---- a bundle that is read out of bytes
+-- ---- a bundle that is read out of words, and out of bytes
 
 word-small : (f : List ℕ) → Bytes f → (k : ℕ) → Word (wordAt f k)
 unfolding wordAt
@@ -45,27 +45,22 @@ word-small f h k =
     let byte : (i : ℕ) → getD f i 0 < 256 = all-getD (λ x. x < 256) f 0 h (omega arith) in
     omega (arith, byte (4 * k), byte (4 * k + 1), byte (4 * k + 2), byte (4 * k + 3))
 
+pub memory-small : (word : ℕ → ℕ) (places c : Counts) → ((k : ℕ) → Word (word k)) → SmallBundle (bundleBy word places c)
+unfolding bundleBy
+memory-small word places c h = record {
+  symbols = all-tab (λ r. All Word (symbolWords r)) _ (λ j. (h _, (h _, tt))) (c .symbols);
+  variables = all-tab (λ s. All Word (variableWords s)) _ (λ j. (h _, tt)) (c .variables);
+  terms = all-tab (λ r. All Word (termWords r)) _ (λ j. (h _, (h _, (h _, (h _, tt))))) (c .terms);
+  links = all-tab (λ r. All Word (linkWords r)) _ (λ j. (h _, (h _, tt))) (c .links);
+  contexts = all-tab (λ r. All Word (contextWords r)) _ (λ j. (h _, (h _, (h _, (h _, tt))))) (c .contexts);
+  steps = all-tab (λ r. All Word (stepWords r)) _ (λ j. (h _, (h _, (h _, (h _, (h _, tt)))))) (c .steps);
+  left = h 7;
+  right = h 8;
+}
+
 pub file-small : (f : List ℕ) → Bytes f → SmallBundle (bundleOf f)
 unfolding bundleOf
-file-small f h =
-    let c : Counts = countsOf f in
-    let w : (start size j k : ℕ) → Word (recordWord f start size j k) = λ start size j k. word-small f h (start + size * j + k) in
-    record {
-      symbols = all-tab (λ r. All Word (symbolWords r)) (λ j. symbolFrom (recordWord f (symbolsAt c) 2 j))
-          (λ j. let v = w (symbolsAt c) 2 j in (v 0, (v 1, tt))) (c .symbols);
-      variables = all-tab (λ s. All Word (variableWords s)) (λ j. recordWord f (variablesAt c) 1 j 0)
-          (λ j. (w (variablesAt c) 1 j 0, tt)) (c .variables);
-      terms = all-tab (λ r. All Word (termWords r)) (λ j. termFrom (recordWord f (termsAt c) 4 j))
-          (λ j. let v = w (termsAt c) 4 j in (v 0, (v 1, (v 2, (v 3, tt))))) (c .terms);
-      links = all-tab (λ r. All Word (linkWords r)) (λ j. linkFrom (recordWord f (linksAt c) 2 j))
-          (λ j. let v = w (linksAt c) 2 j in (v 0, (v 1, tt))) (c .links);
-      contexts = all-tab (λ r. All Word (contextWords r)) (λ j. contextFrom (recordWord f (contextsAt c) 4 j))
-          (λ j. let v = w (contextsAt c) 4 j in (v 0, (v 1, (v 2, (v 3, tt))))) (c .contexts);
-      steps = all-tab (λ r. All Word (stepWords r)) (λ j. stepFrom (recordWord f (stepsAt c) 5 j))
-          (λ j. let v = w (stepsAt c) 5 j in (v 0, (v 1, (v 2, (v 3, (v 4, tt)))))) (c .steps);
-      left = word-small f h 7;
-      right = word-small f h 8;
-    }
+file-small f h = memory-small (wordAt f) (countsOf f) (countsOf f) (word-small f h)
 
 -- ---- records appended to one section
 

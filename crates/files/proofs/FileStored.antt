@@ -17,10 +17,10 @@ use Rattle.bundle.specs.declared.Bundle.{Bundle as Counts}
 use Rattle.bundle.specs.Bundle.{Bundle}
 use Rattle.bundle.specs.Words.{encode}
 use Rattle.bundle.specs.Limits.{limits, headerWords, symbolsAt, variablesAt, termsAt, linksAt, contextsAt, stepsAt, bytesOf}
-use Rattle.bundle.specs.File.{tab, symbolFrom, linkFrom, termFrom, contextFrom, stepFrom}
+use Rattle.bundle.specs.File.{tab, recordBy, symbolFrom, linkFrom, termFrom, contextFrom, stepFrom, bundleBy}
 use Rattle.scratch.specs.Scratch.{wordIn, bundleIn, Roomy}
 use Rattle.files.proofs.Encoded.{encode-append}
-use Rattle.scratch.proofs.ScratchFields.{symbols-length, variables-length, terms-length, links-length, contexts-length, steps-length, symbols-fit, variables-fit, terms-fit, links-fit, contexts-fit, steps-fit}
+use Rattle.scratch.proofs.ScratchFields.{sized-in, symbols-fit, variables-fit, terms-fit, links-fit, contexts-fit, steps-fit}
 use Rattle.expansion.specs.Visit.{claiming}
 use Rattle.expansion.specs.File.{flat, symbolWords, variableWords, termWords, linkWords, contextWords, stepWords, headerWordsOf, fileWords, fileOf}
 use Rattle.files.specs.HeaderWritten.{HeaderWritten}
@@ -43,7 +43,7 @@ flat-snoc words (y ∷ xs) x = rw (flat-snoc words xs x, append-assoc)
 -- Records of `size` words; `from` makes a record of its words.
 module _ {A : Type 0} (words : A → List ℕ) (size : ℕ) (from : (ℕ → ℕ) → A) (same : (u : ℕ → ℕ) → words (from u) ≡ tab u size) where
   pub section-flat : (w : List ℕ) (p count : ℕ) → p + size * count ≤ length w
-      → take (size * count) (drop p w) ≡ flat words (tab (λ j. from (wordIn w p size j)) count)
+      → take (size * count) (drop p w) ≡ flat words (tab (λ j. from (recordBy (wordIn w) p size j)) count)
   unfolding flat tab
   section-flat w p zero h = let e : size * 0 ≡ 0 = omega arith in rw e
   section-flat w p (suc n) h =
@@ -105,49 +105,49 @@ module _ (w v : List ℕ) (c : Counts) (left right : ℕ) (room : Roomy w c) (wr
   header-words =
       written .header
       ∙ sym (λ i. 1
-      ∷ symbols-length w c i
-      ∷ variables-length w c i
-      ∷ terms-length w c i
-      ∷ links-length w c i
-      ∷ contexts-length w c i
-      ∷ steps-length w c i
+      ∷ sized-in w c .symbols i
+      ∷ sized-in w c .variables i
+      ∷ sized-in w c .terms i
+      ∷ sized-in w c .links i
+      ∷ sized-in w c .contexts i
+      ∷ sized-in w c .steps i
       ∷ left
       ∷ right
       ∷ [])
 
   pub symbols-words : take (2 * c .symbols) (drop (symbolsAt limits) v) ≡ flat symbolWords (claimed .symbols)
-  unfolding bundleIn headerWords tab
+  unfolding bundleBy headerWords tab
   symbols-words =
       after (symbolsAt limits) (2 * c .symbols) (omega arith)
       ∙ section-flat symbolWords 2 symbolFrom (λ u. refl) w (symbolsAt limits) (c .symbols) (symbols-fit w c room)
 
   pub variables-words : take (c .variables) (drop (variablesAt limits) v) ≡ flat variableWords (claimed .variables)
-  unfolding bundleIn headerWords tab
+  unfolding bundleBy headerWords tab
   variables-words =
       let one : 1 * c .variables ≡ c .variables = omega arith in
       after (variablesAt limits) (c .variables) (omega arith)
       ∙ (rw one at (section-flat variableWords 1 (λ u. u 0) (λ u. refl) w (variablesAt limits) (c .variables) (variables-fit w c room)))
 
   pub terms-words : take (4 * c .terms) (drop (termsAt limits) v) ≡ flat termWords (claimed .terms)
-  unfolding bundleIn headerWords tab
+  unfolding bundleBy headerWords tab
   terms-words =
       after (termsAt limits) (4 * c .terms) (omega arith)
       ∙ section-flat termWords 4 termFrom (λ u. refl) w (termsAt limits) (c .terms) (terms-fit w c room)
 
   pub links-words : take (2 * c .links) (drop (linksAt limits) v) ≡ flat linkWords (claimed .links)
-  unfolding bundleIn headerWords tab
+  unfolding bundleBy headerWords tab
   links-words =
       after (linksAt limits) (2 * c .links) (omega arith)
       ∙ section-flat linkWords 2 linkFrom (λ u. refl) w (linksAt limits) (c .links) (links-fit w c room)
 
   pub contexts-words : take (4 * c .contexts) (drop (contextsAt limits) v) ≡ flat contextWords (claimed .contexts)
-  unfolding bundleIn headerWords tab
+  unfolding bundleBy headerWords tab
   contexts-words =
       after (contextsAt limits) (4 * c .contexts) (omega arith)
       ∙ section-flat contextWords 4 contextFrom (λ u. refl) w (contextsAt limits) (c .contexts) (contexts-fit w c room)
 
   pub steps-words : take (5 * c .steps) (drop (stepsAt limits) v) ≡ flat stepWords (claimed .steps)
-  unfolding bundleIn headerWords tab
+  unfolding bundleBy headerWords tab
   steps-words =
       after (stepsAt limits) (5 * c .steps) (omega arith)
       ∙ section-flat stepWords 5 stepFrom (λ u. refl) w (stepsAt limits) (c .steps) (steps-fit w c room)

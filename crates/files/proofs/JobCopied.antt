@@ -3,10 +3,9 @@
 --     kept-all, kept-on      nothing was copied, and a section that was copied before
 --     Copy, copy-of          one section copied
 --     in-place               the words of a section that was copied, after the sections above it
---     section-same           a section of the scratch that holds the words of a section of the file has its records
---     bundle-same            so the scratch holds the bundle, where it holds each section
+--     bundle-same            the scratch holds the bundle, where it holds each section
 --     job-copied             so it does where the header and the six sections were copied in order
-use Prim.Native.Nat.{ℕ, suc, _+_, _*_, _-_, _<_, _≤_}
+use Prim.Native.Nat.{ℕ, _+_, _*_, _<_, _≤_}
 use mathlib.Core.Path.{_≡_, refl, ap, _∙_}
 use mathlib.Core.List.{List}
 use native.Mathlib.Omega.{arith}
@@ -14,10 +13,9 @@ use lib.ListN.{length, getD}
 use Rattle.bundle.specs.declared.Bundle.{Bundle as Counts}
 use Rattle.bundle.specs.Words.{wordAt}
 use Rattle.bundle.specs.Limits.{limits, symbolsAt, variablesAt, termsAt, linksAt, contextsAt, stepsAt, wordsOf, Within}
-use Rattle.bundle.specs.File.{tab, recordWord, symbolFrom, linkFrom, termFrom, contextFrom, stepFrom, bundleAt}
-use Rattle.bundle.proofs.Fields.{record-within}
+use Rattle.bundle.specs.File.{symbolFrom, linkFrom, termFrom, contextFrom, stepFrom, bundleBy, bundleAt}
+use Rattle.bundle.proofs.Fields.{symbol-same, variable-same, term-same, link-same, context-same, step-same, section-same}
 use Rattle.scratch.specs.Scratch.{wordIn, bundleIn}
-use Rattle.scratch.proofs.Tabs.{tab-ext}
 use Rattle.files.proofs.Copied.{copied, getD-copied, getD-copied-below}
 use Rattle.files.proofs.SectionPlaces.{Apart, apart}
 
@@ -52,48 +50,6 @@ module _ {f w v u : List ℕ} {p q n : ℕ} (c : Copy f w v p q n) (room : q ≤
   pub in-place : q + n ≤ e → InPlace f u q p n
   in-place h j l = kept .word (q + j) (omega arith) ∙ ap (λ (s : List ℕ). getD s (q + j) 0) (c .words) ∙ getD-copied w q f p n j room l
 
--- ---- records
-
--- Records of `size` words; `from` makes a record of its words.
-module _ {A : Type 0} (size : ℕ) (from : (ℕ → ℕ) → A) (same : (u v : ℕ → ℕ) → ((k : ℕ) → k < size → u k ≡ v k) → from u ≡ from v) where
-  pub section-same : (f w : List ℕ) (q p count : ℕ) → InPlace f w q p (size * count)
-      → tab (λ j. from (wordIn w q size j)) count ≡ tab (λ j. from (recordWord f p size j)) count
-  section-same f w q p count h =
-      tab-ext (λ j. from (wordIn w q size j)) (λ j. from (recordWord f p size j)) count
-      (λ j l. same (wordIn w q size j) (recordWord f p size j) (λ k m. word j k l m))
-    where
-      word : (j k : ℕ) → j < count → k < size → wordIn w q size j k ≡ recordWord f p size j k
-      word j k l m =
-          let d : suc j - 1 ≡ j = omega arith in
-          let fits : size * j + size ≤ size * count = rw d at (record-within size count (suc j) (λ z. omega arith) l) in
-          let a : q + size * j + k ≡ q + (size * j + k) = omega arith in
-          let b : p + size * j + k ≡ p + (size * j + k) = omega arith in
-          rw (a, b) (h (size * j + k) (omega arith))
-
-symbol-same : (u v : ℕ → ℕ) → ((k : ℕ) → k < 2 → u k ≡ v k) → symbolFrom u ≡ symbolFrom v
-symbol-same u v h = λ i. record { result = h 0 (omega arith) i; sorts = h 1 (omega arith) i }
-
-variable-same : (u v : ℕ → ℕ) → ((k : ℕ) → k < 1 → u k ≡ v k) → u 0 ≡ v 0
-variable-same u v h = h 0 (omega arith)
-
-term-same : (u v : ℕ → ℕ) → ((k : ℕ) → k < 4 → u k ≡ v k) → termFrom u ≡ termFrom v
-term-same u v h = λ i. record { kind = h 0 (omega arith) i; a = h 1 (omega arith) i; b = h 2 (omega arith) i; c = h 3 (omega arith) i }
-
-link-same : (u v : ℕ → ℕ) → ((k : ℕ) → k < 2 → u k ≡ v k) → linkFrom u ≡ linkFrom v
-link-same u v h = λ i. record { value = h 0 (omega arith) i; next = h 1 (omega arith) i }
-
-context-same : (u v : ℕ → ℕ) → ((k : ℕ) → k < 4 → u k ≡ v k) → contextFrom u ≡ contextFrom v
-context-same u v h = λ i. record { kind = h 0 (omega arith) i; a = h 1 (omega arith) i; b = h 2 (omega arith) i; parent = h 3 (omega arith) i }
-
-step-same : (u v : ℕ → ℕ) → ((k : ℕ) → k < 5 → u k ≡ v k) → stepFrom u ≡ stepFrom v
-step-same u v h = λ i. record {
-  rule = h 0 (omega arith) i;
-  context = h 1 (omega arith) i;
-  left = h 2 (omega arith) i;
-  right = h 3 (omega arith) i;
-  premises = h 4 (omega arith) i;
-}
-
 -- ---- the bundle
 
 pub record Sections (f w : List ℕ) (c : Counts) : Type 0 where
@@ -106,17 +62,17 @@ pub record Sections (f w : List ℕ) (c : Counts) : Type 0 where
   pub steps : InPlace f w (stepsAt limits) (stepsAt c) (5 * c .steps)
 
 pub bundle-same : (f w : List ℕ) (c : Counts) → Sections f w c → bundleIn w c ≡ bundleAt f c
-unfolding bundleIn bundleAt
+unfolding bundleBy
 bundle-same f w c s =
     let one : 1 * c .variables ≡ c .variables = omega arith in
     let variables : InPlace f w (variablesAt limits) (variablesAt c) (1 * c .variables) = rw one (s .variables) in
     λ i. record {
-      symbols = section-same 2 symbolFrom symbol-same f w (symbolsAt limits) (symbolsAt c) (c .symbols) (s .symbols) i;
-      variables = section-same 1 (λ u. u 0) variable-same f w (variablesAt limits) (variablesAt c) (c .variables) variables i;
-      terms = section-same 4 termFrom term-same f w (termsAt limits) (termsAt c) (c .terms) (s .terms) i;
-      links = section-same 2 linkFrom link-same f w (linksAt limits) (linksAt c) (c .links) (s .links) i;
-      contexts = section-same 4 contextFrom context-same f w (contextsAt limits) (contextsAt c) (c .contexts) (s .contexts) i;
-      steps = section-same 5 stepFrom step-same f w (stepsAt limits) (stepsAt c) (c .steps) (s .steps) i;
+      symbols = section-same symbolFrom 2 symbol-same (wordIn w) (wordAt f) (symbolsAt limits) (symbolsAt c) (c .symbols) (s .symbols) i;
+      variables = section-same (λ u. u 0) 1 variable-same (wordIn w) (wordAt f) (variablesAt limits) (variablesAt c) (c .variables) variables i;
+      terms = section-same termFrom 4 term-same (wordIn w) (wordAt f) (termsAt limits) (termsAt c) (c .terms) (s .terms) i;
+      links = section-same linkFrom 2 link-same (wordIn w) (wordAt f) (linksAt limits) (linksAt c) (c .links) (s .links) i;
+      contexts = section-same contextFrom 4 context-same (wordIn w) (wordAt f) (contextsAt limits) (contextsAt c) (c .contexts) (s .contexts) i;
+      steps = section-same stepFrom 5 step-same (wordIn w) (wordAt f) (stepsAt limits) (stepsAt c) (c .steps) (s .steps) i;
       left = s .header 7 (omega arith) i;
       right = s .header 8 (omega arith) i;
     }

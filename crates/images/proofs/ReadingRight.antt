@@ -6,16 +6,16 @@
 --     fault-right, lent-right       so the faults of steps are the bundle's, and the memory is long enough
 use mathlib.Core.Path.{_≡_, refl, sym, ap, _∙_, fun-ext}
 use mathlib.Core.Bool.{Bool, true, false, not, _||_}
-use mathlib.Core.List.{List}
+use mathlib.Core.List.{List, append-nil}
 use Prim.Native.Nat.{ℕ, _+_, _*_, _-_, _/_, _^_, _≤_, _<_}
 use native.Mathlib.Omega.{arith}
 use native.Mathlib.Nat.{mul-le-mul-left}
 use native.Mathlib.Decide.{ℕ-discrete, decLe}
 use lib.ListN.{length, getD}
-use borrow.Author.Tests.{le-leb, lt-leb, le-ltb}
+use borrow.Author.Tests.{le-leb, lt-leb}
 use Rattle.bundle.specs.declared.Bundle.{Bundle as Counts}
-use Rattle.bundle.specs.Bundle.{Bundle, noTerm, noContext, noStep, termOf, contextOf, stepOf}
-use Rattle.bundle.specs.File.{bundleAt}
+use Rattle.bundle.specs.Bundle.{Bundle, noTerm, noContext, termOf, contextOf, stepOf}
+use Rattle.bundle.specs.File.{bundleAt, tab}
 use Rattle.bundle.proofs.Tab.{at-none}
 use Rattle.bundle.proofs.Fields.{variables-length, terms-length, contexts-length}
 use Rattle.logic.specs.Table.{table, below}
@@ -61,15 +61,10 @@ all-settled b k t e = up-to-all (length (b .variables)) (λ x. not (freeAt b t x
 -- ---- a bed that is shorter than a step has none
 
 pub step-right : (f : List ℕ) (c : Counts) (bed : List ℕ) → length bed < 5 → (p : ℕ) → stepIn (bundleAt f c) bed p ≡ stepOf (bundleAt f c) p
-unfolding stepIn
-step-right f c bed short p = go (decLe p (length (bundleAt f c .steps)))
-  where
-    none : length bed / 5 ≡ 0
-    none = omega arith
-
-    go : Dec (p ≤ length (bundleAt f c .steps)) → stepIn (bundleAt f c) bed p ≡ stepOf (bundleAt f c) p
-    go (yes l) = rw (le-leb p (length (bundleAt f c .steps)) l)
-    go (no l) = rw (lt-leb p (length (bundleAt f c .steps)) (omega arith), none, le-ltb (p - length (bundleAt f c .steps) - 1) 0 (omega arith), at-none noStep (bundleAt f c .steps) p (omega arith))
+unfolding stepIn tab
+step-right f c bed short p =
+    let none : length bed / 5 ≡ 0 = omega arith in
+    rw (none, append-nil)
 
 -- ---- the readings
 

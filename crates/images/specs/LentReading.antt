@@ -3,15 +3,16 @@ use Prim.Native.Nat.{ℕ, _+_, _*_, _-_, _/_, _≤_}
 use mathlib.Core.Bool.{Bool, true, false, cond}
 use mathlib.Core.List.{List}
 use lib.ListN.{length, getD}
-use lib.Dec.{ltb, leb}
+use lib.Dec.{leb}
 use Rattle.bundle.specs.declared.Bundle.{Bundle as Counts}
 use Rattle.bundle.specs.Bundle.{Bundle, Step, stepOf}
 use Rattle.bundle.specs.Lists.{numbers}
 use Rattle.bundle.specs.Limits.{limits}
-use Rattle.bundle.specs.File.{stepFrom, bundleAt}
+use Rattle.bundle.specs.File.{tab, recordBy, stepFrom, bundleAt}
 use Rattle.sets.specs.Sets.{member, disjointOf}
 use Rattle.logic.specs.declared.Image.{Image}
 use Rattle.logic.specs.declared.Image.the-variants.{Own}
+use Rattle.logic.specs.Longer.{withSteps}
 use Rattle.logic.specs.Readings.{Reading}
 use Rattle.images.specs.ContextRows.{imageAt}
 
@@ -23,13 +24,13 @@ freeIn terms w n t v = cond (numbers terms t) (member w (n * (t - 1)) n v) false
 unfoldable pub settledIn : ℕ → List ℕ → List ℕ → ℕ → ℕ → ℕ → Bool
 settledIn terms w m n k t = cond (numbers terms t) (disjointOf w (n * (t - 1)) m (n * k) n) true
 
--- word k of record j, counted from 0, of a bed of steps, five words each
-abbrev pub bedWord : List ℕ → ℕ → ℕ → ℕ
-bedWord bed j k = cond (ltb j (length bed / 5)) (getD bed (5 * j + k) 0) 0
+-- the steps of a bed, five words each
+abbrev pub bedSteps : List ℕ → List Step
+bedSteps bed = tab (λ j. stepFrom (recordBy (λ k. getD bed k 0) 0 5 j)) (length bed / 5)
 
 -- the step of a number: first come those of the file, then those of the bed
 unfoldable pub stepIn : Bundle → List ℕ → ℕ → Step
-stepIn b bed p = cond (leb p (length (b .steps))) (stepOf b p) (stepFrom (bedWord bed (p - length (b .steps) - 1)))
+stepIn b bed p = stepOf (withSteps b (bedSteps bed)) p
 
 -- f for the contexts up to c, and d for a number that is none
 abbrev pub known : {A : Type 0} → ℕ → A → (ℕ → ℕ → A) → ℕ → ℕ → A

@@ -26,7 +26,7 @@ use Rattle.logic.specs.Lookup.{seek, sameVariable, sameApplication, sameBinder}
 use Rattle.logic.specs.Longer.{Longer, withVariables, withTerms, withContexts, withSteps, addList, listStart}
 use Rattle.logic.proofs.Longer.{longer-trans, list-longer, terms-longer, contexts-longer, steps-longer}
 use Rattle.scratch.specs.Scratch.{bundleIn, Ready}
-use Rattle.scratch.proofs.ScratchFields.{contexts-count}
+use Rattle.scratch.proofs.ScratchFields.{sized-as}
 use Rattle.filing.proofs.Seeks.{seek-le}
 use Rattle.scratch.proofs.Pushed.{add-none}
 use Rattle.placing.specs.declared.Visited.{Visited}
@@ -181,7 +181,7 @@ module _ (b : Bundle) (y v : ℕ) {w : List ℕ} {a : Recorded} (o : OpenOutcome
     fixed-asks =
         let k = open-done o e in (
           k .0 .ready,
-          omega (arith, k .1, k .0 .ready .room .within .contexts, contexts-count w c (k .0 .bundle), length-append (b .contexts) (record { kind = 1; a = y; b = 0; parent = v } ∷ [])),
+          omega (arith, k .1, k .0 .ready .room .within .contexts, sized-as w c (k .0 .bundle) .contexts, length-append (b .contexts) (record { kind = 1; a = y; b = 0; parent = v } ∷ [])),
         )
 
     -- w₂, d and s are what the list of x left

@@ -4,23 +4,23 @@
 --     visit-full, open-full, list-full       an outcome that is full
 --     more-full                              what is too much for a bundle is too much for a longer one
 --     on, contexts-on, steps-on              words and counts that stand for a longer bundle
---     holds, counts-are                      words and counts stand for their own bundle
 --     Words, result-word                     where the words are of 32 bits, so is the result of a visit
 use mathlib.Core.Path.{_≡_, sym, ap, _∙_, subst}
 use mathlib.Core.Bool.{true, false}
 use mathlib.Core.List.{List}
-use Prim.Native.Nat.{ℕ, _+_, _-_, _≤_}
+use Prim.Native.Nat.{ℕ, _+_, _≤_}
 use native.Mathlib.Omega.{arith}
 use lib.ListN.{length, getD}
 use Rattle.bundle.specs.declared.Bundle.{Bundle as Counts}
 use Rattle.bundle.specs.Bundle.{Bundle, stepOf}
-use Rattle.bundle.specs.File.{tab}
+use Rattle.bundle.specs.File.{tab, recordBy}
 use Rattle.bundle.specs.Limits.{Within, limits, stepsAt}
 use Rattle.logic.specs.Longer.{Longer}
 use Rattle.logic.proofs.Longer.{sizes}
 use Rattle.scratch.specs.Scratch.{bundleIn, wordIn, Ready}
 use Rattle.scratch.specs.Stack.{halves}
-use Rattle.scratch.proofs.ScratchFields.{symbols-length, variables-length, terms-length, links-length, contexts-length, steps-length, step-is}
+use Rattle.bundle.proofs.Fields.{step-is}
+use Rattle.scratch.proofs.ScratchFields.{sized-in, sized-as}
 use Rattle.placing.specs.declared.Visited.{Visited}
 use Rattle.placing.specs.declared.Listed.{Listed}
 use Rattle.placing.specs.declared.Recorded.{Recorded}
@@ -111,37 +111,16 @@ module _ {b b1 : Bundle} (longer : Longer b b1) {w1 : List ℕ} {n1 : Counts} (n
   on = subst (Longer b) (sym (now .bundle)) longer
 
   pub contexts-on : length (b .contexts) ≤ n1 .contexts
-  contexts-on = omega (arith, sizes on .contexts, contexts-length w1 n1)
+  contexts-on = omega (arith, sizes on .contexts, sized-in w1 n1 .contexts)
 
   pub steps-on : length (b .steps) ≤ n1 .steps
-  steps-on = omega (arith, sizes on .steps, steps-length w1 n1)
+  steps-on = omega (arith, sizes on .steps, sized-in w1 n1 .steps)
 
 pub steps-are : {b : Bundle} {w : List ℕ} {n : Counts} → StandFor b w n → n .steps ≡ length (b .steps)
-steps-are {b} {w} {n} now = sym (steps-length w n) ∙ ap (λ (x : Bundle). length (x .steps)) (now .bundle)
+steps-are {b} {w} {n} now = sym (sized-as w n (now .bundle) .steps)
 
 pub contexts-are : {b : Bundle} {w : List ℕ} {n : Counts} → StandFor b w n → n .contexts ≡ length (b .contexts)
-contexts-are {b} {w} {n} now = sym (contexts-length w n) ∙ ap (λ (x : Bundle). length (x .contexts)) (now .bundle)
-
--- the counts of the bundle that words and counts stand for
-pub counts-are : (w : List ℕ) (n : Counts) → n .version ≡ 1 → n ≡ countsIn (bundleIn w n)
-counts-are w n v = λ i. record {
-  version = v i;
-  symbols = sym (symbols-length w n) i;
-  variables = sym (variables-length w n) i;
-  terms = sym (terms-length w n) i;
-  links = sym (links-length w n) i;
-  contexts = sym (contexts-length w n) i;
-  steps = sym (steps-length w n) i;
-}
-
-pub holds : {w : List ℕ} {n : Counts} → Ready w n → StandsFor w (bundleIn w n)
-holds {w} {n} r =
-    let e = counts-are w n (r .version) in
-    record {
-      within = subst Within e (r .room .within);
-      ready = subst (Ready w) e r;
-      bundle = ap (bundleIn w) (sym e);
-    }
+contexts-are {b} {w} {n} now = sym (sized-as w n (now .bundle) .contexts)
 
 -- the words are of 32 bits
 abbrev pub Words : List ℕ → Type 0
@@ -151,12 +130,12 @@ Words w = (i : ℕ) → getD w i 0 ≤ 4294967295
 pub result-word : {v : Visit} {b : Bundle} {w : List ℕ} {n : Counts} {x y : ℕ} → Ends b v → VisitDone v w n x y → Words w → (x ≤ 4294967295) × (y ≤ 1024)
 result-word {v} {b} {w} {n} {x} {y} ends d word =
     let e : stepOf (bundleIn w n) (v .step) .right ≡ v .result = ap (λ (u : Bundle). stepOf u (v .step) .right) (d .now .bundle) ∙ ends .right in
-    let f : ℕ → ℕ = λ j. wordIn w (stepsAt limits) 5 j 3 in (
+    let f : ℕ → ℕ = λ j. recordBy (wordIn w) (stepsAt limits) 5 j 3 in (
       omega (
         arith,
         d .result,
         e,
-        step-is w n (v .step) 3 (omega arith),
+        step-is (wordIn w) limits n (v .step) 3 (omega arith),
         all-at (λ k. k ≤ 4294967295) (tab f (n .steps)) 0 (all-tab (λ k. k ≤ 4294967295) f (λ j. word _) (n .steps)) (omega arith) (v .step),
       ),
       omega (arith, d .step, ends .step, d .now .within .steps),

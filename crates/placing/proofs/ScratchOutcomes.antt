@@ -1,37 +1,35 @@
 -- From what the scratch ensures of its appends to outcomes, and from outcomes to what is known after a call.
 --     Known                                     words and counts that stand for a bundle, ready for more
+--     counts-are, holds                         their counts are those of the bundle
 --     add-is, place-is, open-is, visit-is       the outcome where the section had room
 --     add-done, place-done, open-done           what is known where a call was done
 --     add-full, place-full, open-full           that the bundle is too much where a call was full
 --     list-over, variable-over, term-over, context-over, step-over     a section that has no room: one more is too much
 --     longer-over                               a bundle that is longer than one that is too much
 --     start-word, placed-word, given-word       where a list starts, a term that is placed, an image's term: words of 32 bits
---     scratch-small                             words of 32 bits stand for a bundle whose numbers are such
 use mathlib.Core.Path.{_≡_, refl, sym, ap, ap₂, subst, _∙_}
 use mathlib.Core.List.{List, [], _∷_}
-use Prim.Native.Nat.{ℕ, zero, suc, _+_, _*_, _≤_, _<_}
+use Prim.Native.Nat.{ℕ, zero, suc, _+_, _≤_, _<_}
 use native.Mathlib.Omega.{arith}
 use lib.ListN.{length, getD, length-append}
 use Rattle.bundle.specs.declared.Bundle.{Bundle as Counts}
 use Rattle.bundle.specs.Bundle.{Bundle, TermRecord, Context, Step}
-use Rattle.bundle.specs.Limits.{limits, symbolsAt, variablesAt, termsAt, linksAt, contextsAt, stepsAt, Within}
-use Rattle.bundle.specs.File.{symbolFrom, termFrom, linkFrom, contextFrom, stepFrom}
+use Rattle.bundle.specs.Limits.{limits, Within}
 use Rattle.logic.specs.declared.Image.{Image}
 use Rattle.logic.specs.declared.Image.the-variants.{Gives}
-use Rattle.logic.specs.Lists.{All}
 use Rattle.logic.specs.Contexts.{image}
 use Rattle.logic.specs.Longer.{Longer, withVariables, withTerms, withContexts, withSteps, consecutive, addList, listStart}
 use Rattle.logic.proofs.Longer.{sizes, consecutive-length}
 use Rattle.scratch.specs.Scratch.{wordIn, bundleIn, Roomy, Ready}
-use Rattle.scratch.proofs.ScratchFields.{symbols-count, variables-count, terms-count, links-count, contexts-count, steps-count, variables-length, terms-length, links-length, contexts-length, steps-length}
+use Rattle.scratch.proofs.ScratchFields.{sized-in, sized-as}
 use Rattle.placing.specs.declared.Visited.{Visited}
 use Rattle.placing.specs.declared.Recorded.{Recorded}
-use Rattle.expansion.specs.File.{countsIn, symbolWords, variableWords, termWords, linkWords, contextWords, stepWords}
+use Rattle.expansion.specs.File.{countsIn}
 use Rattle.expansion.specs.Visit.{Visit, placed, imageTerm}
 use Rattle.expansion.specs.Visit as unlimited
 use Rattle.placing.specs.Outcomes.{StandsFor, TooMuch, VisitOutcome, OpenOutcome, PlaceOutcome, AddOutcome}
-use Rattle.expansion.proofs.SmallNumbers.{Word, SmallBundle, all-tab}
-use Rattle.expansion.proofs.SmallWords.{image-small}
+use Rattle.expansion.proofs.SmallNumbers.{Word}
+use Rattle.expansion.proofs.SmallWords.{memory-small, image-small}
 
 -- ---- words and counts that stand for a bundle
 
@@ -39,18 +37,20 @@ pub record Known (w : List ℕ) (c : Counts) (b : Bundle) : Type 0 where
   pub ready : Ready w c
   pub bundle : bundleIn w c ≡ b
 
-counts-are : (w : List ℕ) (c : Counts) {b : Bundle} → c .version ≡ 1 → bundleIn w c ≡ b → c ≡ countsIn b
-counts-are w c v e = λ i. record {
-  version = v i;
-  symbols = symbols-count w c e i;
-  variables = variables-count w c e i;
-  terms = terms-count w c e i;
-  links = links-count w c e i;
-  contexts = contexts-count w c e i;
-  steps = steps-count w c e i;
-}
+pub counts-are : (w : List ℕ) (c : Counts) {b : Bundle} → c .version ≡ 1 → bundleIn w c ≡ b → c ≡ countsIn b
+counts-are w c v e =
+    let z = sized-as w c e in
+    λ i. record {
+      version = v i;
+      symbols = sym (z .symbols) i;
+      variables = sym (z .variables) i;
+      terms = sym (z .terms) i;
+      links = sym (z .links) i;
+      contexts = sym (z .contexts) i;
+      steps = sym (z .steps) i;
+    }
 
-holds : (w : List ℕ) (c : Counts) {b : Bundle} → Roomy w c → c .version ≡ 1 → bundleIn w c ≡ b → StandsFor w b
+pub holds : (w : List ℕ) (c : Counts) {b : Bundle} → Roomy w c → c .version ≡ 1 → bundleIn w c ≡ b → StandsFor w b
 holds w c {b} r v e =
     let k : c ≡ countsIn b = counts-are w c v e in
     record {
@@ -113,19 +113,19 @@ list-length b vs =
 
 module _ (w : List ℕ) (c : Counts) where
   pub list-over : (vs : List ℕ) → 2048 < c .links + length vs → TooMuch (addList (bundleIn w c) vs)
-  list-over vs l h = omega (arith, h .links, list-length (bundleIn w c) vs, links-length w c)
+  list-over vs l h = omega (arith, h .links, list-length (bundleIn w c) vs, sized-in w c .links)
 
   pub variable-over : (s : ℕ) → 64 ≤ c .variables → TooMuch (withVariables (bundleIn w c) (s ∷ []))
-  variable-over s l h = omega (arith, h .variables, length-append (bundleIn w c .variables) (s ∷ []), variables-length w c)
+  variable-over s l h = omega (arith, h .variables, length-append (bundleIn w c .variables) (s ∷ []), sized-in w c .variables)
 
   pub term-over : (r : TermRecord) → 1024 ≤ c .terms → TooMuch (withTerms (bundleIn w c) (r ∷ []))
-  term-over r l h = omega (arith, h .terms, length-append (bundleIn w c .terms) (r ∷ []), terms-length w c)
+  term-over r l h = omega (arith, h .terms, length-append (bundleIn w c .terms) (r ∷ []), sized-in w c .terms)
 
   pub context-over : (r : Context) → 256 ≤ c .contexts → TooMuch (withContexts (bundleIn w c) (r ∷ []))
-  context-over r l h = omega (arith, h .contexts, length-append (bundleIn w c .contexts) (r ∷ []), contexts-length w c)
+  context-over r l h = omega (arith, h .contexts, length-append (bundleIn w c .contexts) (r ∷ []), sized-in w c .contexts)
 
   pub step-over : (r : Step) → 1024 ≤ c .steps → TooMuch (withSteps (bundleIn w c) (r ∷ []))
-  step-over r l h = omega (arith, h .steps, length-append (bundleIn w c .steps) (r ∷ []), steps-length w c)
+  step-over r l h = omega (arith, h .steps, length-append (bundleIn w c .steps) (r ∷ []), sized-in w c .steps)
 
 pub longer-over : {b b′ : Bundle} → Longer b b′ → TooMuch b → TooMuch b′
 longer-over e over h =
@@ -143,38 +143,17 @@ longer-over e over h =
 
 pub start-word : (w : List ℕ) (c : Counts) (b : Bundle) (vs : List ℕ) → Known w c (addList b vs) → listStart b vs ≤ 4294967295
 start-word w c b [] k = omega arith
-start-word w c b (v ∷ vs) k = omega (arith, k .ready .room .within .links, links-count w c (k .bundle), list-length b (v ∷ vs))
+start-word w c b (v ∷ vs) k = omega (arith, k .ready .room .within .links, sized-as w c (k .bundle) .links, list-length b (v ∷ vs))
 
 -- n is what the lookup found
 pub placed-word : (w : List ℕ) (c : Counts) (b : Bundle) (vs : List ℕ) (r : ℕ → TermRecord) (n : ℕ) → n ≤ length (b .terms)
     → Known w c (placed b vs r n .bundle) → placed b vs r n .term ≤ 4294967295
 placed-word w c b vs r zero l k =
-    omega (arith, k .ready .room .within .terms, terms-count w c (k .bundle), length-append (b .terms) (r (listStart b vs) ∷ []))
-placed-word w c b vs r (suc n) l k = omega (arith, k .ready .room .within .terms, terms-count w c (k .bundle))
-
-pub scratch-small : (w : List ℕ) (c : Counts) → ((i : ℕ) → Word (getD w i 0)) → SmallBundle (bundleIn w c)
-unfolding bundleIn
-scratch-small w c h =
-    let word : (start size j k : ℕ) → Word (wordIn w start size j k) = λ start size j k. h (start + size * j + k) in
-    record {
-      symbols = all-tab (λ r. All Word (symbolWords r)) (λ j. symbolFrom (wordIn w (symbolsAt limits) 2 j))
-          (λ j. let v = word (symbolsAt limits) 2 j in (v 0, (v 1, tt))) (c .symbols);
-      variables = all-tab (λ s. All Word (variableWords s)) (λ j. wordIn w (variablesAt limits) 1 j 0)
-          (λ j. (word (variablesAt limits) 1 j 0, tt)) (c .variables);
-      terms = all-tab (λ r. All Word (termWords r)) (λ j. termFrom (wordIn w (termsAt limits) 4 j))
-          (λ j. let v = word (termsAt limits) 4 j in (v 0, (v 1, (v 2, (v 3, tt))))) (c .terms);
-      links = all-tab (λ r. All Word (linkWords r)) (λ j. linkFrom (wordIn w (linksAt limits) 2 j))
-          (λ j. let v = word (linksAt limits) 2 j in (v 0, (v 1, tt))) (c .links);
-      contexts = all-tab (λ r. All Word (contextWords r)) (λ j. contextFrom (wordIn w (contextsAt limits) 4 j))
-          (λ j. let v = word (contextsAt limits) 4 j in (v 0, (v 1, (v 2, (v 3, tt))))) (c .contexts);
-      steps = all-tab (λ r. All Word (stepWords r)) (λ j. stepFrom (wordIn w (stepsAt limits) 5 j))
-          (λ j. let v = word (stepsAt limits) 5 j in (v 0, (v 1, (v 2, (v 3, (v 4, tt)))))) (c .steps);
-      left = h 7;
-      right = h 8;
-    }
+    omega (arith, k .ready .room .within .terms, sized-as w c (k .bundle) .terms, length-append (b .terms) (r (listStart b vs) ∷ []))
+placed-word w c b vs r (suc n) l k = omega (arith, k .ready .room .within .terms, sized-as w c (k .bundle) .terms)
 
 -- the term that an image gives
 pub given-word : (w : List ℕ) (c : Counts) → ((i : ℕ) → Word (getD w i 0)) → (x y t : ℕ) → image (bundleIn w c) x y ≡ Gives t → t ≤ 4294967295
 given-word w c h x y t e =
-    let k : Word (imageTerm (image (bundleIn w c) x y) 0) = image-small (scratch-small w c h) x y 0 (omega arith) in
+    let k : Word (imageTerm (image (bundleIn w c) x y) 0) = image-small (memory-small (wordIn w) limits c h) x y 0 (omega arith) in
     omega (arith, k, ap (λ (i : Image). imageTerm i 0) e)

@@ -7,7 +7,6 @@
 use mathlib.Core.Path.{_≡_, refl, sym, _∙_}
 use mathlib.Core.List.{List, [], _∷_, _++_}
 use Prim.Native.Nat.{ℕ, _+_, _*_, _≤_, _<_}
-use native.Mathlib.Nat.{mul-le-mul-left, mul-add, mul-one}
 use native.Mathlib.Omega.{arith}
 use native.Mathlib.Decide.{decLt}
 use lib.ListN.{length, getD, set, length-append, length-set, List·getD-append}
@@ -15,10 +14,10 @@ use lib.Seq.{getD-set-same, getD-set-other, getD-append-seam}
 use Rattle.bundle.specs.declared.Bundle.{Bundle as Counts}
 use Rattle.bundle.specs.Bundle.{Bundle, Symbol, Link, TermRecord, Context, Step}
 use Rattle.bundle.specs.Limits.{limits, symbolsAt, variablesAt, termsAt, linksAt, contextsAt, stepsAt}
-use Rattle.bundle.specs.File.{tab, symbolFrom, linkFrom, termFrom, contextFrom, stepFrom}
+use Rattle.bundle.specs.File.{tab, recordBy, symbolFrom, linkFrom, termFrom, contextFrom, stepFrom, bundleBy}
+use Rattle.bundle.proofs.Fields.{symbol-same, variable-same, term-same, link-same, context-same, step-same, section-same, section-more}
 use Rattle.logic.specs.Longer.{withVariables, withTerms, withLinks, withContexts, withSteps}
 use Rattle.scratch.specs.Scratch.{wordIn, bundleIn, Roomy}
-use Rattle.scratch.proofs.Tabs.{tab-ext, tab-more}
 
 -- v is w with the words vs from place p on
 pub record Written (w v : List ℕ) (p : ℕ) (vs : List ℕ) : Type 0 where
@@ -62,70 +61,44 @@ module _ (w : List ℕ) (p a b : ℕ) where
         → Written w (set (set (set (set (set w p a) (p + 1) b) (p + 2) d) (p + 3) e) (p + 4) f) p (a ∷ b ∷ d ∷ e ∷ f ∷ [])
     written-5 f h = written-more (written-4 (omega arith)) (p + 4) f (omega arith) (omega arith)
 
--- a section of records that `from` makes of `size` words each, where `from` reads no other words
-module _ {A : Type 0} (from : (ℕ → ℕ) → A) (size : ℕ) (ext : (u u′ : ℕ → ℕ) → ((k : ℕ) → k < size → u k ≡ u′ k) → from u ≡ from u′) (w v : List ℕ) (start n : ℕ) (same : (j : ℕ) → start ≤ j → j < start + size * n → getD v j 0 ≡ getD w j 0) where
-  row-same : (i : ℕ) → i < n → from (wordIn v start size i) ≡ from (wordIn w start size i)
-  row-same i h =
-      let e : size * (i + 1) ≡ size * i + size = rw (mul-add, mul-one) in
-      let l : size * (i + 1) ≤ size * n = mul-le-mul-left size (omega arith) in
-      ext (wordIn v start size i) (wordIn w start size i) (λ k u. same (start + size * i + k) (omega arith) (omega arith))
-
-  pub rows-kept : tab (λ j. from (wordIn v start size j)) n ≡ tab (λ j. from (wordIn w start size j)) n
-  rows-kept = tab-ext (λ j. from (wordIn v start size j)) (λ j. from (wordIn w start size j)) n row-same
-
-  pub rows-more : (vs : List ℕ) → ((k : ℕ) → k < size → getD v (start + size * n + k) 0 ≡ getD vs k 0)
-      → tab (λ j. from (wordIn v start size j)) (n + 1) ≡ tab (λ j. from (wordIn w start size j)) n ++ (from (λ k. getD vs k 0) ∷ [])
-  rows-more vs new =
-      tab-more (λ j. from (wordIn v start size j)) (λ j. from (wordIn w start size j)) n (from (λ k. getD vs k 0)) row-same
-      (ext (wordIn v start size n) (λ k. getD vs k 0) new)
-
--- two records of the same words are the same
-symbol-ext : (u u′ : ℕ → ℕ) → ((k : ℕ) → k < 2 → u k ≡ u′ k) → symbolFrom u ≡ symbolFrom u′
-symbol-ext u u′ h = rw (h 0 (omega arith), h 1 (omega arith))
-
-variable-ext : (u u′ : ℕ → ℕ) → ((k : ℕ) → k < 1 → u k ≡ u′ k) → u 0 ≡ u′ 0
-variable-ext u u′ h = h 0 (omega arith)
-
-term-ext : (u u′ : ℕ → ℕ) → ((k : ℕ) → k < 4 → u k ≡ u′ k) → termFrom u ≡ termFrom u′
-term-ext u u′ h = rw (h 0 (omega arith), h 1 (omega arith), h 2 (omega arith), h 3 (omega arith))
-
-link-ext : (u u′ : ℕ → ℕ) → ((k : ℕ) → k < 2 → u k ≡ u′ k) → linkFrom u ≡ linkFrom u′
-link-ext u u′ h = rw (h 0 (omega arith), h 1 (omega arith))
-
-context-ext : (u u′ : ℕ → ℕ) → ((k : ℕ) → k < 4 → u k ≡ u′ k) → contextFrom u ≡ contextFrom u′
-context-ext u u′ h = rw (h 0 (omega arith), h 1 (omega arith), h 2 (omega arith), h 3 (omega arith))
-
-step-ext : (u u′ : ℕ → ℕ) → ((k : ℕ) → k < 5 → u k ≡ u′ k) → stepFrom u ≡ stepFrom u′
-step-ext u u′ h = rw (h 0 (omega arith), h 1 (omega arith), h 2 (omega arith), h 3 (omega arith), h 4 (omega arith))
-
 -- v has the words of w from place lo to before place hi
 abbrev pub Same : List ℕ → List ℕ → ℕ → ℕ → Type 0
 Same w v lo hi = (j : ℕ) → lo ≤ j → j < hi → getD v j 0 ≡ getD w j 0
 
+-- a section of records that `from` makes of `size` words each, where `from` reads no other words
+module _ {A : Type 0} (from : (ℕ → ℕ) → A) (size : ℕ) (same : (u u′ : ℕ → ℕ) → ((k : ℕ) → k < size → u k ≡ u′ k) → from u ≡ from u′)
+    (w v : List ℕ) (start n : ℕ) (h : Same w v start (start + size * n)) where
+  pub rows-kept : tab (λ j. from (recordBy (wordIn v) start size j)) n ≡ tab (λ j. from (recordBy (wordIn w) start size j)) n
+  rows-kept = section-same from size same (wordIn v) (wordIn w) start start n (λ j l. h (start + j) (omega arith) (omega arith))
+
+  pub rows-more : (vs : List ℕ) → ((k : ℕ) → k < size → getD v (start + size * n + k) 0 ≡ getD vs k 0)
+      → tab (λ j. from (recordBy (wordIn v) start size j)) (n + 1) ≡ tab (λ j. from (recordBy (wordIn w) start size j)) n ++ (from (wordIn vs) ∷ [])
+  rows-more vs = section-more from size same (wordIn v) (wordIn w) start start n (λ j l. h (start + j) (omega arith) (omega arith)) (wordIn vs)
+
 module _ (w v : List ℕ) (c : Counts) where
   pub symbols-kept : Same w v (symbolsAt limits) (symbolsAt limits + 2 * c .symbols) → bundleIn v c .symbols ≡ bundleIn w c .symbols
-  unfolding bundleIn
-  symbols-kept = rows-kept symbolFrom 2 symbol-ext w v (symbolsAt limits) (c .symbols)
+  unfolding bundleBy
+  symbols-kept = rows-kept symbolFrom 2 symbol-same w v (symbolsAt limits) (c .symbols)
 
   pub variables-kept : Same w v (variablesAt limits) (variablesAt limits + 1 * c .variables) → bundleIn v c .variables ≡ bundleIn w c .variables
-  unfolding bundleIn
-  variables-kept = rows-kept (λ u. u 0) 1 variable-ext w v (variablesAt limits) (c .variables)
+  unfolding bundleBy
+  variables-kept = rows-kept (λ u. u 0) 1 variable-same w v (variablesAt limits) (c .variables)
 
   pub terms-kept : Same w v (termsAt limits) (termsAt limits + 4 * c .terms) → bundleIn v c .terms ≡ bundleIn w c .terms
-  unfolding bundleIn
-  terms-kept = rows-kept termFrom 4 term-ext w v (termsAt limits) (c .terms)
+  unfolding bundleBy
+  terms-kept = rows-kept termFrom 4 term-same w v (termsAt limits) (c .terms)
 
   pub links-kept : Same w v (linksAt limits) (linksAt limits + 2 * c .links) → bundleIn v c .links ≡ bundleIn w c .links
-  unfolding bundleIn
-  links-kept = rows-kept linkFrom 2 link-ext w v (linksAt limits) (c .links)
+  unfolding bundleBy
+  links-kept = rows-kept linkFrom 2 link-same w v (linksAt limits) (c .links)
 
   pub contexts-kept : Same w v (contextsAt limits) (contextsAt limits + 4 * c .contexts) → bundleIn v c .contexts ≡ bundleIn w c .contexts
-  unfolding bundleIn
-  contexts-kept = rows-kept contextFrom 4 context-ext w v (contextsAt limits) (c .contexts)
+  unfolding bundleBy
+  contexts-kept = rows-kept contextFrom 4 context-same w v (contextsAt limits) (c .contexts)
 
   pub steps-kept : Same w v (stepsAt limits) (stepsAt limits + 5 * c .steps) → bundleIn v c .steps ≡ bundleIn w c .steps
-  unfolding bundleIn
-  steps-kept = rows-kept stepFrom 5 step-ext w v (stepsAt limits) (c .steps)
+  unfolding bundleBy
+  steps-kept = rows-kept stepFrom 5 step-same w v (stepsAt limits) (c .steps)
 
 -- a bundle of its parts, part by part
 abbrev bundle : List Symbol → List ℕ → List TermRecord → List Link → List Context → List Step → ℕ → ℕ → Bundle
@@ -156,7 +129,7 @@ Grows w v c r b = Roomy v r × (length v ≡ length w) × (bundleIn v r ≡ b) �
 module _ (w v : List ℕ) (c : Counts) (g : Roomy w c) where
   pub variable-appended : {x : ℕ} → c .variables < 64 → Written w v (variablesAt limits + 1 * c .variables) (x ∷ [])
       → Grows w v c (counted c (c .variables + 1) (c .terms) (c .links) (c .contexts) (c .steps)) (withVariables (bundleIn w c) (x ∷ []))
-  unfolding bundleIn
+  unfolding bundleBy
   variable-appended {x} l o = (
     record {
       within = record {
@@ -172,7 +145,7 @@ module _ (w v : List ℕ) (c : Counts) (g : Roomy w c) where
     o .long,
     bundle-path
         (symbols-kept w v c (λ j a b. o .below j (omega (arith, g .within))))
-        (rows-more (λ u. u 0) 1 variable-ext w v (variablesAt limits) (c .variables) (λ j a b. o .below j (omega arith)) (x ∷ []) (o .new))
+        (rows-more (λ u. u 0) 1 variable-same w v (variablesAt limits) (c .variables) (λ j a b. o .below j (omega arith)) (x ∷ []) (o .new))
         (terms-kept w v c (λ j a b. o .above j (omega (arith, g .within))))
         (links-kept w v c (λ j a b. o .above j (omega (arith, g .within))))
         (contexts-kept w v c (λ j a b. o .above j (omega (arith, g .within))))
@@ -184,7 +157,7 @@ module _ (w v : List ℕ) (c : Counts) (g : Roomy w c) where
 
   pub term-appended : {kind a b d : ℕ} → c .terms < 1024 → Written w v (termsAt limits + 4 * c .terms) (kind ∷ a ∷ b ∷ d ∷ [])
       → Grows w v c (counted c (c .variables) (c .terms + 1) (c .links) (c .contexts) (c .steps)) (withTerms (bundleIn w c) (record { kind = kind; a = a; b = b; c = d } ∷ []))
-  unfolding bundleIn
+  unfolding bundleBy
   term-appended {kind} {a} {b} {d} l o = (
     record {
       within = record {
@@ -201,7 +174,7 @@ module _ (w v : List ℕ) (c : Counts) (g : Roomy w c) where
     bundle-path
         (symbols-kept w v c (λ j a b. o .below j (omega (arith, g .within))))
         (variables-kept w v c (λ j a b. o .below j (omega (arith, g .within))))
-        (rows-more termFrom 4 term-ext w v (termsAt limits) (c .terms) (λ j a b. o .below j (omega arith)) (kind ∷ a ∷ b ∷ d ∷ []) (o .new))
+        (rows-more termFrom 4 term-same w v (termsAt limits) (c .terms) (λ j a b. o .below j (omega arith)) (kind ∷ a ∷ b ∷ d ∷ []) (o .new))
         (links-kept w v c (λ j a b. o .above j (omega (arith, g .within))))
         (contexts-kept w v c (λ j a b. o .above j (omega (arith, g .within))))
         (steps-kept w v c (λ j a b. o .above j (omega (arith, g .within))))
@@ -212,7 +185,7 @@ module _ (w v : List ℕ) (c : Counts) (g : Roomy w c) where
 
   pub link-appended : {value next : ℕ} → c .links < 2048 → Written w v (linksAt limits + 2 * c .links) (value ∷ next ∷ [])
       → Grows w v c (counted c (c .variables) (c .terms) (c .links + 1) (c .contexts) (c .steps)) (withLinks (bundleIn w c) (record { value = value; next = next } ∷ []))
-  unfolding bundleIn
+  unfolding bundleBy
   link-appended {value} {next} l o = (
     record {
       within = record {
@@ -230,7 +203,7 @@ module _ (w v : List ℕ) (c : Counts) (g : Roomy w c) where
         (symbols-kept w v c (λ j a b. o .below j (omega (arith, g .within))))
         (variables-kept w v c (λ j a b. o .below j (omega (arith, g .within))))
         (terms-kept w v c (λ j a b. o .below j (omega (arith, g .within))))
-        (rows-more linkFrom 2 link-ext w v (linksAt limits) (c .links) (λ j a b. o .below j (omega arith)) (value ∷ next ∷ []) (o .new))
+        (rows-more linkFrom 2 link-same w v (linksAt limits) (c .links) (λ j a b. o .below j (omega arith)) (value ∷ next ∷ []) (o .new))
         (contexts-kept w v c (λ j a b. o .above j (omega (arith, g .within))))
         (steps-kept w v c (λ j a b. o .above j (omega (arith, g .within))))
         (o .below 7 (omega arith))
@@ -240,7 +213,7 @@ module _ (w v : List ℕ) (c : Counts) (g : Roomy w c) where
 
   pub context-appended : {kind a b parent : ℕ} → c .contexts < 256 → Written w v (contextsAt limits + 4 * c .contexts) (kind ∷ a ∷ b ∷ parent ∷ [])
       → Grows w v c (counted c (c .variables) (c .terms) (c .links) (c .contexts + 1) (c .steps)) (withContexts (bundleIn w c) (record { kind = kind; a = a; b = b; parent = parent } ∷ []))
-  unfolding bundleIn
+  unfolding bundleBy
   context-appended {kind} {a} {b} {parent} l o = (
     record {
       within = record {
@@ -259,7 +232,7 @@ module _ (w v : List ℕ) (c : Counts) (g : Roomy w c) where
         (variables-kept w v c (λ j a b. o .below j (omega (arith, g .within))))
         (terms-kept w v c (λ j a b. o .below j (omega (arith, g .within))))
         (links-kept w v c (λ j a b. o .below j (omega (arith, g .within))))
-        (rows-more contextFrom 4 context-ext w v (contextsAt limits) (c .contexts) (λ j a b. o .below j (omega arith)) (kind ∷ a ∷ b ∷ parent ∷ []) (o .new))
+        (rows-more contextFrom 4 context-same w v (contextsAt limits) (c .contexts) (λ j a b. o .below j (omega arith)) (kind ∷ a ∷ b ∷ parent ∷ []) (o .new))
         (steps-kept w v c (λ j a b. o .above j (omega (arith, g .within))))
         (o .below 7 (omega arith))
         (o .below 8 (omega arith)),
@@ -268,7 +241,7 @@ module _ (w v : List ℕ) (c : Counts) (g : Roomy w c) where
 
   pub step-appended : {rule context left right premises : ℕ} → c .steps < 1024 → Written w v (stepsAt limits + 5 * c .steps) (rule ∷ context ∷ left ∷ right ∷ premises ∷ [])
       → Grows w v c (counted c (c .variables) (c .terms) (c .links) (c .contexts) (c .steps + 1)) (withSteps (bundleIn w c) (record { rule = rule; context = context; left = left; right = right; premises = premises } ∷ []))
-  unfolding bundleIn
+  unfolding bundleBy
   step-appended {rule} {context} {left} {right} {premises} l o = (
     record {
       within = record {
@@ -288,7 +261,7 @@ module _ (w v : List ℕ) (c : Counts) (g : Roomy w c) where
         (terms-kept w v c (λ j a b. o .below j (omega (arith, g .within))))
         (links-kept w v c (λ j a b. o .below j (omega (arith, g .within))))
         (contexts-kept w v c (λ j a b. o .below j (omega (arith, g .within))))
-        (rows-more stepFrom 5 step-ext w v (stepsAt limits) (c .steps) (λ j a b. o .below j (omega arith)) (rule ∷ context ∷ left ∷ right ∷ premises ∷ []) (o .new))
+        (rows-more stepFrom 5 step-same w v (stepsAt limits) (c .steps) (λ j a b. o .below j (omega arith)) (rule ∷ context ∷ left ∷ right ∷ premises ∷ []) (o .new))
         (o .below 7 (omega arith))
         (o .below 8 (omega arith)),
     refl,

@@ -15,7 +15,7 @@ use Rattle.bundle.specs.Bundle.{Bundle, Link}
 use Rattle.logic.specs.Longer.{withLinks, startOf, consecutive, addList, listStart}
 use Rattle.scratch.specs.Scratch.{bundleIn}
 use Rattle.scratch.specs.Stack.{halfOf, halves}
-use Rattle.scratch.proofs.ScratchFields.{links-length, links-count}
+use Rattle.scratch.proofs.ScratchFields.{sized-in, sized-as}
 use Rattle.scratch.proofs.Halves.{halves-none, halves-more}
 
 pub add-none : (b : Bundle) → addList b [] ≡ b
@@ -45,9 +45,9 @@ pub push-more : (w w′ : List ℕ) (c r : Counts) (u : Bool) (s : List ℕ) (fr
     → (r .links ≡ c .links + 1) × (addList (bundleIn w′ r) (halves u s (from + 1) to) ≡ addList (bundleIn w c) (halves u s from to))
 push-more w w′ c r u s from to v next h k p more none e =
     let b = bundleIn w c in
-    let n : length (b .links) ≡ c .links = links-length w c in
+    let n : length (b .links) ≡ c .links = sized-in w c .links in
     let l : length (b .links ++ (record { value = v; next = next } ∷ [])) ≡ length (b .links) + 1 = length-append (b .links) (record { value = v; next = next } ∷ []) in (
-      links-count w′ r e ∙ l ∙ ap (λ (x : ℕ). x + 1) n,
+      sym (sized-as w′ r e .links) ∙ l ∙ ap (λ (x : ℕ). x + 1) n,
       ap (λ (x : Bundle). addList x (halves u s (from + 1) to)) e
           ∙ add-more b v next (halves u s (from + 1) to)
           (next-start u s (from + 1) to (suc (suc (length (b .links)))) next k (λ i. more i ∙ omega arith) none)
@@ -57,4 +57,4 @@ push-more w w′ c r u s from to v next h k p more none e =
 -- where a list of n values starts that is appended next
 pub start-is : (w : List ℕ) (c : Counts) (vs : List ℕ) (n r : ℕ) → length vs ≡ n → (n ≡ 0 → r ≡ 0) → ((n ≡ 0 → ⊥) → r ≡ suc (c .links)) → r ≡ listStart (bundleIn w c) vs
 start-is w c [] n r e none some = none (sym e)
-start-is w c (v ∷ vs) n r e none some = some (λ z. omega arith) ∙ ap suc (sym (links-length w c))
+start-is w c (v ∷ vs) n r e none some = some (λ z. omega arith) ∙ ap suc (sym (sized-in w c .links))

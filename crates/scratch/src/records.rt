@@ -3,7 +3,7 @@ ghost use mathlib.Core.Path.{_≡_};
 ghost use Prim.Native.Nat.{ℕ, _+_, _*_, _≤_, _<_};
 ghost use lib.ListN.{length, getD};
 ghost use Rattle.bundle.specs.Bundle.{at, sortOfVariable, termOf, linkOf, contextOf, termField, linkField, contextField};
-ghost use Rattle.bundle.specs.File.{tab};
+ghost use Rattle.bundle.specs.File.{tab, recordBy};
 ghost use Rattle.scratch.specs.Scratch.{wordIn, bundleIn, Roomy};
 use bundle::Bundle;
 use bundle::words::wide;
@@ -11,7 +11,7 @@ use bundle::words::wide;
 // Word k of record i of a section: the section starts at word `start` and has `count` records of `size` words.
 fn field(words: &[u32], start: usize, size: usize, count: usize, i: usize, k: usize) -> usize
     requires { ⌜ (k < size) × (start + size * count ≤ length (now words)) ⌝ }
-    ensures { λ r. ⌜ (r ≡ at 0 (tab (λ j. wordIn (now (words .entry)) start size j k) count) i) × (r ≤ 4294967295) ⌝ }
+    ensures { λ r. ⌜ (r ≡ at 0 (tab (λ j. recordBy (wordIn (now (words .entry))) start size j k) count) i) × (r ≤ 4294967295) ⌝ }
 {
     if i == 0 {
         return 0;

@@ -15,7 +15,7 @@ use Rattle.bundle.specs.declared.Bundle.{Bundle as Counts}
 use Rattle.bundle.specs.Bundle.{Bundle, linkOf}
 use Rattle.logic.specs.Lists.{Number}
 use Rattle.scratch.specs.Scratch.{bundleIn}
-use Rattle.scratch.proofs.ScratchFields.{links-length, contexts-length, steps-length}
+use Rattle.scratch.proofs.ScratchFields.{sized-in}
 use Rattle.scratch.proofs.Halves.{halves-none}
 use Rattle.placing.specs.declared.Visited.{Visited}
 use Rattle.placing.specs.declared.Listed.{Listed}
@@ -24,8 +24,9 @@ use Rattle.expansion.specs.Visit.{visit, visitAll}
 use Rattle.expansion.specs.File.{countsIn}
 use Rattle.placing.specs.Outcomes.{ListOutcome, Stands, StandAll, TermAsks, TermGives, ListAsks, ListGives}
 use Rattle.expansion.proofs.Grown.{visit-longer, visitAll-longer}
+use Rattle.placing.proofs.ScratchOutcomes.{counts-are, holds}
 use Rattle.placing.proofs.StandingKept.{stand-all-on, visit-ends, visitAll-steps}
-use Rattle.placing.proofs.OutcomeFacts.{VisitDone, visit-done, visit-full, more-full, on, contexts-on, steps-are, holds, counts-are, Words, result-word}
+use Rattle.placing.proofs.OutcomeFacts.{VisitDone, visit-done, visit-full, more-full, on, contexts-on, steps-are, Words, result-word}
 use Rattle.visits.proofs.Pairs.{Pair, below-same, below-trans, below-set, halves-first}
 
 -- ---- the measure: how many links are left from a link on
@@ -53,9 +54,9 @@ list-none {w} {s} {n} {Γ} {h} {o} {l} asks z = record { long = refl; kept = bel
   where
     go : (ns : Nodes) → StandAll (bundleIn w n) o l ns → ListOutcome (visitAll ns Γ (bundleIn w n)) h w s (Listed.Done n h)
     go nil k =
-        let e : n ≡ countsIn (bundleIn w n) = counts-are w n (asks .ready .version) in
+        let e : n ≡ countsIn (bundleIn w n) = counts-are w n (asks .ready .version) refl in
         let m : h ≡ h + 0 = omega arith in
-        ListOutcome.done (holds (asks .ready)) (λ i. Listed.Done (e i) (m i)) (halves-none true s h (h + 0) (omega arith)) (halves-none false s h (h + 0) (omega arith))
+        ListOutcome.done (holds w n (asks .ready .room) (asks .ready .version) refl) (λ i. Listed.Done (e i) (m i)) (halves-none true s h (h + 0) (omega arith)) (halves-none false s h (h + 0) (omega arith))
     go (cons τ ns) k = absurd (omega (arith, k .0 .0, z))
 
 -- the first link of a list, as the code reads it
@@ -117,7 +118,7 @@ module _ {w s : List ℕ} {n : Counts} {Γ h o l : ℕ} (asks : ListAsks w s n �
       first-height = some-first _ (λ τ ns k.
           let d = first-done τ (k .first) in
           let e : h < length (visit τ Γ (bundleIn w n) .bundle .steps) =
-          omega (arith, asks .pending .height, steps-length w n, visit-ends τ Γ (bundleIn w n) .more) in
+          omega (arith, asks .pending .height, sized-in w n .steps, visit-ends τ Γ (bundleIn w n) .more) in
           let i : h < 1024 = omega (arith, e, d .now .within .steps) in
           (omega (arith, e, steps-are (d .now)), i, omega (arith, i, asks .pending .places, gave .kept .long)))
 
@@ -136,11 +137,11 @@ module _ {w s : List ℕ} {n : Counts} {Γ h o l : ℕ} (asks : ListAsks w s n �
                   places = omega (arith, length-set s1 h pair, gave .kept .long, asks .pending .places);
                   height = omega (arith, first-height .0);
                 };
-                context = omega (arith, asks .context, contexts-length w n, contexts-on longer (d .now));
+                context = omega (arith, asks .context, sized-in w n .contexts, contexts-on longer (d .now));
                 standing = ns;
                 stands = rest-stands τ ns k;
               },
-              left-less l next (k .link .0) (omega (arith, k .link .1, links-length w n, asks .ready .room .within .links)) (k .order),
+              left-less l next (k .link .0) (omega (arith, k .link .1, sized-in w n .links, asks .ready .room .within .links)) (k .order),
             ))
 
         -- the list's visit, from the visit to its first term and the visit to the others

@@ -22,7 +22,7 @@ use Rattle.logic.specs.Longer.{Longer}
 use Rattle.logic.proofs.Longer.{longer-trans}
 use Rattle.scratch.specs.Scratch.{bundleIn, Ready}
 use Rattle.scratch.specs.Stack.{halves}
-use Rattle.scratch.proofs.ScratchFields.{variables-length, terms-length, steps-length}
+use Rattle.scratch.proofs.ScratchFields.{sized-in}
 use Rattle.placing.specs.declared.Visited.{Visited}
 use Rattle.placing.specs.declared.Listed.{Listed}
 use Rattle.placing.specs.declared.Recorded.{Recorded}
@@ -119,7 +119,7 @@ module _ {w s : List ℕ} {n : Counts} {Γ h t : ℕ} (asks : TermAsks w s n Γ 
   term-words =
       let k = asks .ready .room .within in (
         omega (arith, asks .context, k .contexts),
-        omega (arith, stands-number (bundleIn w n) t (asks .standing) (asks .stands) .1, terms-length w n, k .terms),
+        omega (arith, stands-number (bundleIn w n) t (asks .standing) (asks .stands) .1, sized-in w n .terms, k .terms),
         omega (arith, k .variables),
       )
 
@@ -160,7 +160,7 @@ module _ {w s : List ℕ} {n : Counts} {Γ h t : ℕ} (asks : TermAsks w s n Γ 
             ready = binder-open .now .ready;
             pending = record {
               places = asks .pending .places;
-              height = omega (arith, asks .pending .height, steps-length w n, steps-on (open-longer (bundleIn w n) first Γ) (binder-open .now));
+              height = omega (arith, asks .pending .height, sized-in w n .steps, steps-on (open-longer (bundleIn w n) first Γ) (binder-open .now));
             };
             context = omega (arith, binder-open .context, contexts-are (binder-open .now), open-context (bundleIn w n) first Γ);
             standing = u;
@@ -205,7 +205,7 @@ module _ {w s : List ℕ} {n : Counts} {Γ h t : ℕ} (asks : TermAsks w s n Γ 
               outcome = binder-only reads (λ τ. VisitOutcome (visit τ Γ (bundleIn w n)) w3 r3) quantifies (λ q u i low k.
                   let o = openBinder (bundleIn w n) first Γ in
                   let d = visit-done (binder-body u k) told2 in
-                  let new : n .variables + 1 ≡ newVariable (bundleIn w n) = omega (arith, variables-length w n) in
+                  let new : n .variables + 1 ≡ newVariable (bundleIn w n) = omega (arith, sized-in w n .variables) in
                   let same : record { bundle = bundleIn w2 after; result = x; step = y } ≡ visit u (o .context) (o .bundle) =
                   λ j. record { bundle = d .now .bundle j; result = d .result j; step = d .step j } in
                   subst (λ (v : Visit). VisitOutcome v w3 r3) (λ j. closeBinder Γ t q (new j) (same j)) (g q i));
@@ -243,7 +243,7 @@ module _ {w s : List ℕ} {n : Counts} {Γ h t : ℕ} (asks : TermAsks w s n Γ 
               let ns = args-asks .standing in
               let d = args-done ns (args-asks .stands) in
               let e : top ≤ bound .steps =
-              omega (arith, d .height, asks .pending .height, steps-length w n, visitAll-steps ns Γ (bundleIn w n), steps-are (d .now)) in (
+              omega (arith, d .height, asks .pending .height, sized-in w n .steps, visitAll-steps ns Γ (bundleIn w n), steps-are (d .now)) in (
                 d .now .ready,
                 omega (arith, d .height),
                 e,

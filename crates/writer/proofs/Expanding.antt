@@ -173,7 +173,7 @@ module _ (f : List ℕ) (out words sets : ℕ) where
         bundle-is = copied ∙ ap (bundleAt f) counted
 
         left-is : left ≡ bundleOf f .left
-        unfolding bundleOf bundleAt
+        unfolding bundleOf bundleBy
         left-is = read
 
         visit-stands : Stands (bundleIn w c) left (nodeAt (bundleIn w c) left)
@@ -221,7 +221,7 @@ module _ (f out words sets out′ words′ sets′ : List ℕ) (o : length out�
 
     -- the claim's left is the job's
     left-of : left ≡ bundleOf f .left
-    unfolding bundleOf bundleAt
+    unfolding bundleOf bundleBy
     left-of = read
 
     file-is : fileOf (claiming (bundleIn v d) left x) ≡ fileOf (expanded (bundleOf f))

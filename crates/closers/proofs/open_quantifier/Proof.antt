@@ -4,7 +4,7 @@ use Prim.Native.Nat.{suc, _+_}
 use native.Mathlib.Numerals.{add-one}
 use native.Mathlib.Omega.{arith}
 use Rattle.scratch.specs.Scratch.{bundleIn}
-use Rattle.scratch.proofs.ScratchFields.{variables-length}
+use Rattle.scratch.proofs.ScratchFields.{sized-in}
 use Rattle.expansion.specs.Visit.{newVariable}
 use Rattle.placing.proofs.CallOutcomes.{fresh-asks, renaming-on, renaming-full}
 use Rattle.placing.proofs.Indexes.{full-record, renaming-indexed}
@@ -50,7 +50,7 @@ returns-2 c =
     let t = c .before .before .open-renaming in (
       t .ensures .0 ∙ p .ensures .0,
       renaming-on (p .ensures .1) (c .before .before .before .before .before .placed .given .1) (a .x) (a .c .variables + 1) (newVariable (bundleIn (a .words .now) (a .c))) (a .context)
-          (add-one (a .c .variables) ∙ ap suc (sym (variables-length (a .words .now) (a .c)))) (t .ensures .1),
+          (add-one (a .c .variables) ∙ ap suc (sym (sized-in (a .words .now) (a .c) .variables))) (t .ensures .1),
       renaming-indexed (p .ensures .2 .held _ _ (c .before .before .before .before .before .placed .given .1)) (a .x) (a .c .variables + 1) _ (a .context) (t .ensures .1),
     )
 

@@ -2,7 +2,7 @@
 use mathlib.Core.Path.{refl, sym, ap, _∙_}
 use Prim.Native.Nat.{suc}
 use native.Mathlib.Numerals.{add-one}
-use Rattle.scratch.proofs.ScratchFields.{contexts-length}
+use Rattle.scratch.proofs.ScratchFields.{sized-in}
 use Rattle.placing.specs.Outcomes.{OpenOutcome}
 use Rattle.placing.proofs.ScratchOutcomes.{open-is, context-over}
 use borrow.Author.Needs.{needs}
@@ -30,7 +30,7 @@ returns-2 c =
     let p = c .before .before .append-context in (
       p .ensures .1,
       open-is (p .last .0) (p .result) (p .ensures .0) (p .ensures .3 ∙ s .pre .0 .version) _ _ (p .ensures .2)
-          (add-one (a .c .contexts) ∙ ap suc (sym (contexts-length (a .words .now) (a .c)))),
+          (add-one (a .c .contexts) ∙ ap suc (sym (sized-in (a .words .now) (a .c) .contexts))),
     )
 
 pub add-context-spec : {M : Type 1} → statement M

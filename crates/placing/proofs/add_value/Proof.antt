@@ -5,7 +5,7 @@ use Prim.Native.Nat.{suc}
 use native.Mathlib.Numerals.{add-one}
 use native.Mathlib.Omega.{arith}
 use Rattle.scratch.specs.Scratch.{bundleIn}
-use Rattle.scratch.proofs.ScratchFields.{links-length}
+use Rattle.scratch.proofs.ScratchFields.{sized-in}
 use Rattle.placing.specs.Outcomes.{AddOutcome}
 use Rattle.placing.proofs.ScratchOutcomes.{add-is, list-over}
 use borrow.Author.Needs.{needs}
@@ -33,7 +33,7 @@ returns-2 c =
     let p = c .before .before .push-one in (
       p .ensures .1,
       add-is (p .last .0) (p .result) (p .ensures .0) (p .ensures .3 ∙ s .pre .0 .version) (bundleIn (a .words .now) (a .c)) (a .value ∷ []) _
-          (p .ensures .2) (add-one (a .c .links) ∙ ap suc (sym (links-length (a .words .now) (a .c)))),
+          (p .ensures .2) (add-one (a .c .links) ∙ ap suc (sym (sized-in (a .words .now) (a .c) .links))),
     )
 
 pub add-value-spec : {M : Type 1} → statement M

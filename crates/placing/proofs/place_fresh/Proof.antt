@@ -5,7 +5,7 @@ use Prim.Native.Nat.{suc, _+_}
 use native.Mathlib.Numerals.{add-one}
 use native.Mathlib.Omega.{arith}
 use Rattle.scratch.specs.Scratch.{bundleIn}
-use Rattle.scratch.proofs.ScratchFields.{variables-length}
+use Rattle.scratch.proofs.ScratchFields.{sized-in}
 use Rattle.placing.proofs.CallOutcomes.{no-list, found-is, term-on, fresh-on, variable-full}
 use Rattle.placing.proofs.Indexes.{full-record, place-holds, variable-indexed, plain-filed}
 use borrow.Author.Needs.{needs}
@@ -49,7 +49,7 @@ returns-2 c =
     let f = c .before .find-variable in (
       v .ensures .1,
       fresh-on (v .last .0) (v .result) (bundleIn (a .words .now) (a .c)) (a .x) _ (a .c .variables + 1) (v .ensures .2) (c .before .before .before .before .before .before .before .before .before .before .variable-sort .ensures .0)
-          (add-one (a .c .variables) ∙ ap suc (sym (variables-length (a .words .now) (a .c))))
+          (add-one (a .c .variables) ∙ ap suc (sym (sized-in (a .words .now) (a .c) .variables)))
           (found-is (record { room = v .ensures .0; version = v .ensures .3 ∙ s .pre .0 .version }) [] (λ s. record { kind = 1; a = a .c .variables + 1; b = 0; c = 0 }) _ (f .result) (f .ensures) (c .if2 .taken)),
       place-holds (variable-indexed (s .pre .1) (v .last .0) (v .result) _ (v .ensures .2)),
     )
@@ -81,7 +81,7 @@ returns-3 c =
     let t = c .before .before .add-term in (
       t .ensures .0 ∙ v .ensures .1,
       fresh-on (v .last .0) (v .result) (bundleIn (a .words .now) (a .c)) (a .x) _ (a .c .variables + 1) (v .ensures .2) (c .before .before .before .before .before .before .before .before .before .before .before .before .before .before .before .variable-sort .ensures .0)
-          (add-one (a .c .variables) ∙ ap suc (sym (variables-length (a .words .now) (a .c))))
+          (add-one (a .c .variables) ∙ ap suc (sym (sized-in (a .words .now) (a .c) .variables)))
           (term-on (no-list (record { room = v .ensures .0; version = v .ensures .3 ∙ s .pre .0 .version })) refl (λ s. record { kind = 1; a = a .c .variables + 1; b = 0; c = 0 }) _ (f .result) (f .ensures)
           (c .before .before .before .before .before .if2 .left) (t .ensures .1)),
       t .ensures .2,

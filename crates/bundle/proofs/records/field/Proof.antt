@@ -1,7 +1,8 @@
 -- `records::field` meets its contract: a record in range ends within its section, and every other number reads 0.
 use native.Mathlib.Omega.{arith}
 use mathlib.Core.Path.{sym, _∙_}
-use Rattle.bundle.specs.File.{recordWord}
+use Rattle.bundle.specs.Words.{wordAt}
+use Rattle.bundle.specs.File.{recordBy}
 use Rattle.bundle.proofs.Tab.{at-tab, tab-none}
 use Rattle.bundle.proofs.Fields.{record-within}
 use borrow.Author.Needs.{needs}
@@ -14,7 +15,7 @@ returns c = search needs
 returns-2 : tie.Need-returns-2
 returns-2 c =
     let a = c .before .before .before .args in
-    sym (tab-none 0 (λ j. recordWord (a .file .now) (a .start) (a .size) j (a .k)) (a .count) (a .i) (c .if2 .taken))
+    sym (tab-none 0 (λ j. recordBy (wordAt (a .file .now)) (a .start) (a .size) j (a .k)) (a .count) (a .i) (c .if2 .taken))
 
 sub-word-at : tie.Need-sub-word-at
 sub-word-at c = search needs
@@ -35,7 +36,7 @@ returns-3 : tie.Need-returns-3
 returns-3 c =
     let a = c .before .before .before .before .args in
     c .word-at .ensures .0
-    ∙ sym (at-tab (λ j. recordWord (a .file .now) (a .start) (a .size) j (a .k)) (a .count) (a .i) 0 (c .before .before .if1 .left) (c .before .if2 .left))
+    ∙ sym (at-tab (λ j. recordBy (wordAt (a .file .now)) (a .start) (a .size) j (a .k)) (a .count) (a .i) 0 (c .before .before .if1 .left) (c .before .if2 .left))
 
 pub field-spec : {M : Type 1} → statement M
 field-spec =

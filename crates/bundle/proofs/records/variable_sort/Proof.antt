@@ -1,5 +1,6 @@
 -- `records::variable_sort` meets its contract: `variable-is`, with the section's start as `variables_at` gives it.
 use mathlib.Core.Path.{sym, _∙_}
+use Rattle.bundle.specs.Words.{wordAt}
 use Rattle.bundle.proofs.Fields.{variable-is}
 use borrow.Author.Needs.{needs}
 use Rattle.bundle.proofs.records.variable_sort.Statement.{statement}
@@ -14,7 +15,7 @@ field-requires c κs = search needs
 returns : tie.Need-returns
 returns c =
     let a = c .before .before .before .args in
-    (rw (c .before .variables-at .ensures .0) at (c .field .ensures)) ∙ sym (variable-is (a .file .now) (a .b) (a .i))
+    (rw (c .before .variables-at .ensures .0) at (c .field .ensures)) ∙ sym (variable-is (wordAt (a .file .now)) (a .b) (a .b) (a .i))
 
 pub variable-sort-spec : {M : Type 1} → statement M
 variable-sort-spec = tie.close (tie.spec variables-at-requires field-requires returns)

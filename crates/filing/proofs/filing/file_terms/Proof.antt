@@ -7,7 +7,7 @@ use mathlib.Core.List.{List}
 use lib.ListN.{length}
 use Rattle.scratch.specs.Scratch.{bundleIn}
 use Rattle.filing.specs.Filing.{FiledTo}
-use Rattle.scratch.proofs.ScratchFields.{terms-length}
+use Rattle.scratch.proofs.ScratchFields.{sized-in}
 use Rattle.filing.proofs.Filed.{formed-digested, filed-none, filed-on}
 use Rattle.filing.proofs.filing.file_terms.Statement.{statement}
 use Rattle.filing.proofs.filing.file_terms.Tie as tie
@@ -44,7 +44,7 @@ loop-again c =
     let d = c .before .before .digest in
     let n : l .t ≡ suc (l .t - 1) = omega arith in
     let filed = filed-on b (l .index) (l .t - 1) (d .result) (l .inv .2) (l .t) (l .t + 1 - 1) n (omega arith)
-    (λ B more. formed-digested (c .before .before .before .before .before .before .pre .1) B more (l .t) (omega (arith, terms-length (a .words .now) (a .c))) ∙ sym (d .ensures .0))
+    (λ B more. formed-digested (c .before .before .before .before .before .before .pre .1) B more (l .t) (omega (arith, sized-in (a .words .now) (a .c) .terms)) ∙ sym (d .ensures .0))
     (d .ensures .1) (omega (arith, c .before .before .before .before .before .before .pre .0 .within .terms)) in (
       omega arith,
       omega arith,
@@ -55,7 +55,7 @@ returns : tie.Need-returns Inv-loop μ-loop
 returns c =
     let a = c .before .before .before .args in
     let l = c .before .loop in
-    let e : l .t - 1 ≡ length (bundleIn (a .words .now) (a .c) .terms) = omega (arith, terms-length (a .words .now) (a .c)) in
+    let e : l .t - 1 ≡ length (bundleIn (a .words .now) (a .c) .terms) = omega (arith, sized-in (a .words .now) (a .c) .terms) in
     subst (FiledTo (bundleIn (a .words .now) (a .c)) (l .index)) e (l .inv .2)
 
 pub file-terms-spec : {M : Type 1} → statement M

@@ -7,7 +7,8 @@ use mathlib.Core.Path.{_≡_}
 use lib.ListN.{length}
 use Rattle.bundle.specs.Links.{items}
 use Rattle.scratch.specs.Scratch.{bundleIn}
-use Rattle.scratch.proofs.ScratchWalks.{walk-start, walk-start-le, walk-le, walk-nil, walk-cons, walk-length}
+use Rattle.bundle.proofs.BundleWalks.{walk-start, walk-start-le, walk-le, walk-nil, walk-cons, walk-length}
+use Rattle.scratch.proofs.ScratchFields.{sized-in}
 use Rattle.filing.specs.Filing.{mixAll}
 use Rattle.filing.proofs.filing.mixed_items.Statement.{statement}
 use Rattle.filing.proofs.filing.mixed_items.Tie as tie
@@ -26,9 +27,9 @@ loop-holds : tie.Need-loop-holds Inv-loop μ-loop
 loop-holds c =
     let a = c .before .before .args in
     let r = c .first-link in (
-      walk-start-le (a .words .now) (a .c) (a .list) (r .result) (r .ensures),
+      walk-start-le (sized-in (a .words .now) (a .c)) (a .list) (r .result) (r .ensures),
       omega arith,
-      rw (walk-start (a .words .now) (a .c) (a .list) (r .result) (r .ensures)),
+      rw (walk-start (sized-in (a .words .now) (a .c)) (a .list) (r .result) (r .ensures)),
     )
 
 link-field-requires : tie.Need-link-field-requires Inv-loop μ-loop
@@ -44,7 +45,7 @@ loop-less : tie.Need-loop-less Inv-loop μ-loop
 loop-less c =
     let a = c .before .before .before .before .before .before .before .args in
     let l = c .before .before .before .before .loop in
-    omega (arith, walk-length (a .words .now) (a .c) (l .i) (c .next-link .result) (c .before .before .before .loop-test .taken) (l .inv .0) (c .next-link .ensures))
+    omega (arith, walk-length (sized-in (a .words .now) (a .c)) (l .i) (c .next-link .result) (c .before .before .before .loop-test .taken) (l .inv .0) (c .next-link .ensures))
 
 loop-again : tie.Need-loop-again Inv-loop μ-loop
 unfolding mixAll
@@ -53,9 +54,9 @@ loop-again c =
     let l = c .before .before .before .before .loop in
     let x = c .before .before .link-field in
     let r = c .next-link in (
-      walk-le (a .words .now) (a .c) (l .i) (r .result) (r .ensures),
+      walk-le (sized-in (a .words .now) (a .c)) (l .i) (r .result) (r .ensures),
       c .before .mixed .ensures .1,
-      rw (l .inv .2, walk-cons (a .words .now) (a .c) (l .i) (x .result) (r .result) (c .before .before .before .loop-test .taken) (l .inv .0) (x .ensures .0) (r .ensures), c .before .mixed .ensures .0),
+      rw (l .inv .2, walk-cons (sized-in (a .words .now) (a .c)) (l .i) (x .result) (r .result) (c .before .before .before .loop-test .taken) (l .inv .0) (x .ensures .0) (r .ensures), c .before .mixed .ensures .0),
     )
 
 returns : tie.Need-returns Inv-loop μ-loop
@@ -63,7 +64,7 @@ unfolding mixAll
 returns c =
     let a = c .before .before .before .before .args in
     let l = c .before .loop in
-    (rw (l .inv .2, walk-nil (a .words .now) (a .c) (l .i) (c .loop-test .left)), l .inv .1)
+    (rw (l .inv .2, walk-nil (sized-in (a .words .now) (a .c)) (l .i) (c .loop-test .left)), l .inv .1)
 
 pub mixed-items-spec : {M : Type 1} → statement M
 mixed-items-spec =

@@ -11,7 +11,7 @@ use Rattle.scratch.specs.Stack.{halves}
 use Rattle.logic.specs.Lookup.{sameApplication}
 use Rattle.bundle.proofs.Filed.{sought-start, sought-less, sought-hit, sought-miss}
 use Rattle.scratch.specs.Scratch.{bundleIn}
-use Rattle.scratch.proofs.ScratchFields.{terms-length}
+use Rattle.scratch.proofs.ScratchFields.{sized-in}
 use Rattle.filing.proofs.Filed.{application-digest, held-own, SoughtTerm, sought-end}
 use Rattle.filing.proofs.lookups.find_application.Statement.{statement}
 use Rattle.filing.proofs.lookups.find_application.Tie as tie
@@ -38,7 +38,7 @@ loop-holds c =
     let a = k .args in
     let filed = held-own (k .pre .1) in
     let e : c .wide .result ≡ getD (a .index .now) (a .d) 0 = c .wide .ensures in (
-      omega (arith, filed .low (a .d) (k .pre .2), terms-length (a .words .now) (a .c)),
+      omega (arith, filed .low (a .d) (k .pre .2), sized-in (a .words .now) (a .c) .terms),
       sought-start filed _ (a .d) (k .pre .2)
           (λ j t. application-digest (bundleIn (a .words .now) (a .c)) (a .symbol) (halves true (a .stack .now) (a .from) (a .to)) _ t ∙ sym (k .pre .3)) e,
     )

@@ -11,7 +11,7 @@ use Rattle.logic.specs.Lookup.{sameBinder}
 use Rattle.filing.specs.Filing.{rootDigest}
 use Rattle.bundle.proofs.Filed.{sought-start, sought-less, sought-hit, sought-miss}
 use Rattle.scratch.specs.Scratch.{bundleIn}
-use Rattle.scratch.proofs.ScratchFields.{terms-length}
+use Rattle.scratch.proofs.ScratchFields.{sized-in}
 use Rattle.filing.proofs.Filed.{binder-digest, held-own, SoughtTerm, sought-end}
 use Rattle.filing.proofs.lookups.find_binder.Statement.{statement}
 use Rattle.filing.proofs.lookups.find_binder.Tie as tie
@@ -38,7 +38,7 @@ loop-holds c =
     let a = k .args in
     let filed = held-own (k .pre .1) in
     let e : c .wide .result ≡ getD (a .index .now) (a .d) 0 = c .wide .ensures in (
-      omega (arith, filed .low (a .d) (k .pre .2), terms-length (a .words .now) (a .c)),
+      omega (arith, filed .low (a .d) (k .pre .2), sized-in (a .words .now) (a .c) .terms),
       λ q f. sought-start filed _ (a .d) (k .pre .2)
           (λ j t. binder-digest (bundleIn (a .words .now) (a .c)) q (a .y) (a .body) _ t ∙ ap (λ (k : ℕ). rootDigest k (a .y)) (sym f) ∙ sym (k .pre .3)) e,
     )

@@ -9,7 +9,7 @@ use lib.ListN.{getD}
 use Rattle.logic.specs.Lookup.{sameVariable}
 use Rattle.bundle.proofs.Filed.{sought-start, sought-less, sought-hit, sought-miss}
 use Rattle.scratch.specs.Scratch.{bundleIn}
-use Rattle.scratch.proofs.ScratchFields.{terms-length}
+use Rattle.scratch.proofs.ScratchFields.{sized-in}
 use Rattle.filing.proofs.Filed.{variable-digest, held-own, SoughtTerm, sought-end}
 use Rattle.filing.proofs.lookups.find_variable.Statement.{statement}
 use Rattle.filing.proofs.lookups.find_variable.Tie as tie
@@ -35,7 +35,7 @@ loop-holds c =
     let a = k .args in
     let filed = held-own (k .pre .1) in
     let e : c .wide .result ≡ getD (a .index .now) (a .d) 0 = c .wide .ensures in (
-      omega (arith, filed .low (a .d) (k .pre .2), terms-length (a .words .now) (a .c)),
+      omega (arith, filed .low (a .d) (k .pre .2), sized-in (a .words .now) (a .c) .terms),
       sought-start filed _ (a .d) (k .pre .2)
           (λ j t. variable-digest (bundleIn (a .words .now) (a .c)) (a .y) _ t ∙ sym (k .pre .3)) e,
     )

@@ -8,7 +8,8 @@ use lib.ListN.{length}
 use borrow.Author.Tests.{eq-eqb, ne-eqb}
 use Rattle.bundle.specs.Links.{items}
 use Rattle.scratch.specs.Scratch.{bundleIn}
-use Rattle.scratch.proofs.ScratchWalks.{walk-start, walk-start-le, walk-le, walk-nil, walk-cons, walk-some, walk-length}
+use Rattle.bundle.proofs.BundleWalks.{walk-start, walk-start-le, walk-le, walk-nil, walk-cons, walk-some, walk-length}
+use Rattle.scratch.proofs.ScratchFields.{sized-in}
 use Rattle.logic.specs.Contexts.{lookup}
 use Rattle.scratch.proofs.images.lookup_in.Statement.{statement}
 use Rattle.scratch.proofs.images.lookup_in.Tie as tie
@@ -31,9 +32,9 @@ loop-holds c =
     let a = c .before .before .before .args in
     let r = c .before .first-link in
     let s = c .first-link2 in (
-      walk-start-le (a .words .now) (a .c) (a .variables) (r .result) (r .ensures),
-      walk-start-le (a .words .now) (a .c) (a .terms) (s .result) (s .ensures),
-      rw (walk-start (a .words .now) (a .c) (a .variables) (r .result) (r .ensures), walk-start (a .words .now) (a .c) (a .terms) (s .result) (s .ensures)),
+      walk-start-le (sized-in (a .words .now) (a .c)) (a .variables) (r .result) (r .ensures),
+      walk-start-le (sized-in (a .words .now) (a .c)) (a .terms) (s .result) (s .ensures),
+      rw (walk-start (sized-in (a .words .now) (a .c)) (a .variables) (r .result) (r .ensures), walk-start (sized-in (a .words .now) (a .c)) (a .terms) (s .result) (s .ensures)),
     )
 
 returns : tie.Need-returns Inv-loop μ-loop
@@ -41,7 +42,7 @@ unfolding lookup
 returns c =
     let a = c .before .before .before .before .before .before .args in
     let l = c .before .before .loop in
-    rw (l .inv .2, walk-some (a .words .now) (a .c) (l .i) (c .before .loop-test .taken) (l .inv .0), walk-nil (a .words .now) (a .c) (l .j) (c .if1 .taken))
+    rw (l .inv .2, walk-some (sized-in (a .words .now) (a .c)) (l .i) (c .before .loop-test .taken) (l .inv .0), walk-nil (sized-in (a .words .now) (a .c)) (l .j) (c .if1 .taken))
 
 link-field-requires : tie.Need-link-field-requires Inv-loop μ-loop
 link-field-requires c κs = search needs
@@ -54,7 +55,7 @@ unfolding lookup
 returns-2 c =
     let a = c .before .before .before .before .before .before .before .before .before .args in
     let l = c .before .before .before .before .before .loop in
-    rw (l .inv .2, walk-some (a .words .now) (a .c) (l .i) (c .before .before .before .before .loop-test .taken) (l .inv .0), walk-some (a .words .now) (a .c) (l .j) (c .before .before .before .if1 .left) (l .inv .1))
+    rw (l .inv .2, walk-some (sized-in (a .words .now) (a .c)) (l .i) (c .before .before .before .before .loop-test .taken) (l .inv .0), walk-some (sized-in (a .words .now) (a .c)) (l .j) (c .before .before .before .if1 .left) (l .inv .1))
     (rw (← c .before .before .link-field .ensures .0, ← c .before .link-field2 .ensures .0, eq-eqb _ _ (c .if2 .taken)))
 
 next-link-requires : tie.Need-next-link-requires Inv-loop μ-loop
@@ -67,7 +68,7 @@ loop-less : tie.Need-loop-less Inv-loop μ-loop
 loop-less c =
     let a = c .before .before .before .before .before .before .before .before .before .before .before .args in
     let l = c .before .before .before .before .before .before .before .loop in
-    omega (arith, walk-length (a .words .now) (a .c) (l .i) (c .before .next-link .result) (c .before .before .before .before .before .before .loop-test .taken) (l .inv .0) (c .before .next-link .ensures))
+    omega (arith, walk-length (sized-in (a .words .now) (a .c)) (l .i) (c .before .next-link .result) (c .before .before .before .before .before .before .loop-test .taken) (l .inv .0) (c .before .next-link .ensures))
 
 loop-again : tie.Need-loop-again Inv-loop μ-loop
 unfolding lookup
@@ -78,12 +79,12 @@ loop-again c =
     let y = c .before .before .before .link-field2 in
     let r = c .before .next-link in
     let s = c .next-link2 in (
-      walk-le (a .words .now) (a .c) (l .i) (r .result) (r .ensures),
-      walk-le (a .words .now) (a .c) (l .j) (s .result) (s .ensures),
+      walk-le (sized-in (a .words .now) (a .c)) (l .i) (r .result) (r .ensures),
+      walk-le (sized-in (a .words .now) (a .c)) (l .j) (s .result) (s .ensures),
       rw (
         l .inv .2,
-        walk-cons (a .words .now) (a .c) (l .i) (x .result) (r .result) (c .before .before .before .before .before .before .loop-test .taken) (l .inv .0) (x .ensures .0) (r .ensures),
-        walk-cons (a .words .now) (a .c) (l .j) (y .result) (s .result) (c .before .before .before .before .before .if1 .left) (l .inv .1) (y .ensures .0) (s .ensures),
+        walk-cons (sized-in (a .words .now) (a .c)) (l .i) (x .result) (r .result) (c .before .before .before .before .before .before .loop-test .taken) (l .inv .0) (x .ensures .0) (r .ensures),
+        walk-cons (sized-in (a .words .now) (a .c)) (l .j) (y .result) (s .result) (c .before .before .before .before .before .if1 .left) (l .inv .1) (y .ensures .0) (s .ensures),
       )
           (rw (ne-eqb _ _ (c .before .before .if2 .left))),
     )
@@ -93,7 +94,7 @@ unfolding lookup
 returns-3 c =
     let a = c .before .before .before .before .before .args in
     let l = c .before .loop in
-    rw (l .inv .2, walk-nil (a .words .now) (a .c) (l .i) (c .loop-test .left))
+    rw (l .inv .2, walk-nil (sized-in (a .words .now) (a .c)) (l .i) (c .loop-test .left))
 
 pub lookup-in-spec : {M : Type 1} → statement M
 lookup-in-spec =

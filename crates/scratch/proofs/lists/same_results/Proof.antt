@@ -10,7 +10,8 @@ use Rattle.bundle.specs.Links.{items}
 use Rattle.bundle.specs.Lists.{sameList}
 use Rattle.scratch.specs.Scratch.{bundleIn}
 use Rattle.scratch.specs.Stack.{halves}
-use Rattle.scratch.proofs.ScratchWalks.{walk-start, walk-start-le, walk-le, walk-nil, walk-cons, walk-some, same-nil}
+use Rattle.bundle.proofs.BundleWalks.{walk-start, walk-start-le, walk-le, walk-nil, walk-cons, walk-some, same-nil}
+use Rattle.scratch.proofs.ScratchFields.{sized-in}
 use Rattle.scratch.proofs.Halves.{halves-none, halves-more}
 use Rattle.scratch.proofs.lists.same_results.Statement.{statement}
 use Rattle.scratch.proofs.lists.same_results.Tie as tie
@@ -31,14 +32,14 @@ loop-holds : tie.Need-loop-holds Inv-loop μ-loop
 loop-holds c =
     let a = c .before .before .before .args in
     let r = c .first-link in
-    (c .before .before .before .pre .1, walk-start-le (a .words .now) (a .c) (a .list) (r .result) (r .ensures), rw (walk-start (a .words .now) (a .c) (a .list) (r .result) (r .ensures)))
+    (c .before .before .before .pre .1, walk-start-le (sized-in (a .words .now) (a .c)) (a .list) (r .result) (r .ensures), rw (walk-start (sized-in (a .words .now) (a .c)) (a .list) (r .result) (r .ensures)))
 
 returns : tie.Need-returns Inv-loop μ-loop
 unfolding sameList
 returns c =
     let a = c .before .before .before .before .before .before .args in
     let l = c .before .before .loop in
-    rw (l .inv .2, walk-nil (a .words .now) (a .c) (l .i) (c .if1 .taken), halves-more true (a .stack .now) (l .at) (a .to) (c .before .loop-test .taken) (c .before .before .before .before .before .before .pre .2))
+    rw (l .inv .2, walk-nil (sized-in (a .words .now) (a .c)) (l .i) (c .if1 .taken), halves-more true (a .stack .now) (l .at) (a .to) (c .before .loop-test .taken) (c .before .before .before .before .before .before .pre .2))
 
 link-field-requires : tie.Need-link-field-requires Inv-loop μ-loop
 link-field-requires c κs = (c .before .before .before .before .before .before .pre .0, omega arith)
@@ -57,7 +58,7 @@ unfolding sameList
 returns-2 c =
     let a = c .before .before .before .before .before .before .before .before .before .before .args in
     let l = c .before .before .before .before .before .before .loop in
-    rw (l .inv .2, walk-some (a .words .now) (a .c) (l .i) (c .before .before .before .before .if1 .left) (l .inv .1), halves-more true (a .stack .now) (l .at) (a .to) (c .before .before .before .before .before .loop-test .taken) (c .before .before .before .before .before .before .before .before .before .before .pre .2))
+    rw (l .inv .2, walk-some (sized-in (a .words .now) (a .c)) (l .i) (c .before .before .before .before .if1 .left) (l .inv .1), halves-more true (a .stack .now) (l .at) (a .to) (c .before .before .before .before .before .loop-test .taken) (c .before .before .before .before .before .before .before .before .before .before .pre .2))
     (rw (← c .before .before .before .link-field .ensures .0, ← c .before .half .ensures .0, ne-eqb _ _ (c .if2 .taken)))
 
 next-link-requires : tie.Need-next-link-requires Inv-loop μ-loop
@@ -76,10 +77,10 @@ loop-again c =
     let l = c .before .before .before .before .before .before .before .loop in
     let n = c .next-link in (
       omega arith,
-      walk-le (a .words .now) (a .c) (l .i) (n .result) (n .ensures),
+      walk-le (sized-in (a .words .now) (a .c)) (l .i) (n .result) (n .ensures),
       rw (
         l .inv .2,
-        walk-cons (a .words .now) (a .c) (l .i) (c .before .before .before .before .link-field .result) (n .result) (c .before .before .before .before .before .if1 .left) (l .inv .1) (c .before .before .before .before .link-field .ensures .0) (n .ensures),
+        walk-cons (sized-in (a .words .now) (a .c)) (l .i) (c .before .before .before .before .link-field .result) (n .result) (c .before .before .before .before .before .if1 .left) (l .inv .1) (c .before .before .before .before .link-field .ensures .0) (n .ensures),
         halves-more true (a .stack .now) (l .at) (a .to) (c .before .before .before .before .before .before .loop-test .taken) (c .before .before .before .before .before .before .before .before .before .before .before .pre .2),
       )
           (rw (← c .before .before .half .ensures .0, eq-eqb _ _ (c .before .if2 .left))),
@@ -89,7 +90,7 @@ returns-3 : tie.Need-returns-3 Inv-loop μ-loop
 returns-3 c =
     let a = c .before .before .before .before .before .args in
     let l = c .before .loop in
-    rw (l .inv .2, halves-none true (a .stack .now) (l .at) (a .to) (c .loop-test .left)) (sym (same-nil (a .words .now) (a .c) (l .i) (l .inv .1)))
+    rw (l .inv .2, halves-none true (a .stack .now) (l .at) (a .to) (c .loop-test .left)) (sym (same-nil (sized-in (a .words .now) (a .c)) (l .i) (l .inv .1)))
 
 pub same-results-spec : {M : Type 1} → statement M
 same-results-spec =

@@ -1,5 +1,8 @@
 -- `records::context_field` meets its contract: `context-is`, with the section's start as `contexts_at` gives it.
-use Rattle.scratch.proofs.ScratchFields.{context-is, limits-within, contexts-fit}
+use Rattle.bundle.specs.Limits.{limits}
+use Rattle.scratch.specs.Scratch.{wordIn}
+use Rattle.bundle.proofs.Fields.{context-is}
+use Rattle.scratch.proofs.ScratchFields.{limits-within, contexts-fit}
 use borrow.Author.Needs.{needs}
 use Rattle.scratch.proofs.records.context_field.Statement.{statement}
 use Rattle.scratch.proofs.records.context_field.Tie as tie
@@ -18,7 +21,7 @@ field-requires c κs =
 returns : tie.Need-returns
 returns c =
     let a = c .before .before .before .before .args in
-    (rw (context-is (a .words .now) (a .c) (a .i) (a .k) (c .before .before .before .before .pre .1), c .field .ensures .0, c .before .contexts-at .ensures .0, c .before .before .largest .ensures), c .field .ensures .1)
+    (rw (context-is (wordIn (a .words .now)) limits (a .c) (a .i) (a .k) (c .before .before .before .before .pre .1), c .field .ensures .0, c .before .contexts-at .ensures .0, c .before .before .largest .ensures), c .field .ensures .1)
 
 pub context-field-spec : {M : Type 1} → statement M
 context-field-spec = tie.close (tie.spec largest-requires contexts-at-requires field-requires returns)

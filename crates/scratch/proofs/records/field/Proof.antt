@@ -3,6 +3,7 @@ use native.Mathlib.Omega.{arith}
 use mathlib.Core.Path.{sym, _∙_}
 use Rattle.bundle.proofs.Tab.{at-tab, tab-none}
 use Rattle.bundle.proofs.Fields.{record-within}
+use Rattle.bundle.specs.File.{recordBy}
 use Rattle.scratch.specs.Scratch.{wordIn}
 use borrow.Author.Needs.{needs}
 use Rattle.scratch.proofs.records.field.Statement.{statement}
@@ -14,7 +15,7 @@ returns c = search needs
 returns-2 : tie.Need-returns-2
 returns-2 c =
     let a = c .before .before .before .args in
-    (sym (tab-none 0 (λ j. wordIn (a .words .now) (a .start) (a .size) j (a .k)) (a .count) (a .i) (c .if2 .taken)), omega arith)
+    (sym (tab-none 0 (λ j. recordBy (wordIn (a .words .now)) (a .start) (a .size) j (a .k)) (a .count) (a .i) (c .if2 .taken)), omega arith)
 
 sub-wide : tie.Need-sub-wide
 sub-wide c = search needs
@@ -41,7 +42,7 @@ returns-3 : tie.Need-returns-3
 returns-3 c =
     let a = c .before .before .before .before .before .args in (
       c .wide .ensures .0
-          ∙ sym (at-tab (λ j. wordIn (a .words .now) (a .start) (a .size) j (a .k)) (a .count) (a .i) 0 (c .before .before .before .if1 .left) (c .before .before .if2 .left)),
+          ∙ sym (at-tab (λ j. recordBy (wordIn (a .words .now)) (a .start) (a .size) j (a .k)) (a .count) (a .i) 0 (c .before .before .before .if1 .left) (c .before .before .if2 .left)),
       c .wide .ensures .1,
     )
 

@@ -1,5 +1,8 @@
 -- `records::term_field` meets its contract: `term-is`, with the section's start as `terms_at` gives it.
-use Rattle.scratch.proofs.ScratchFields.{term-is, limits-within, terms-fit}
+use Rattle.bundle.specs.Limits.{limits}
+use Rattle.scratch.specs.Scratch.{wordIn}
+use Rattle.bundle.proofs.Fields.{term-is}
+use Rattle.scratch.proofs.ScratchFields.{limits-within, terms-fit}
 use borrow.Author.Needs.{needs}
 use Rattle.scratch.proofs.records.term_field.Statement.{statement}
 use Rattle.scratch.proofs.records.term_field.Tie as tie
@@ -18,7 +21,7 @@ field-requires c κs =
 returns : tie.Need-returns
 returns c =
     let a = c .before .before .before .before .args in
-    (rw (term-is (a .words .now) (a .c) (a .i) (a .k) (c .before .before .before .before .pre .1), c .field .ensures .0, c .before .terms-at .ensures .0, c .before .before .largest .ensures), c .field .ensures .1)
+    (rw (term-is (wordIn (a .words .now)) limits (a .c) (a .i) (a .k) (c .before .before .before .before .pre .1), c .field .ensures .0, c .before .terms-at .ensures .0, c .before .before .largest .ensures), c .field .ensures .1)
 
 pub term-field-spec : {M : Type 1} → statement M
 term-field-spec = tie.close (tie.spec largest-requires terms-at-requires field-requires returns)

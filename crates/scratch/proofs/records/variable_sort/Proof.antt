@@ -1,6 +1,9 @@
 -- `records::variable_sort` meets its contract: `variable-is`, with the section's start as `variables_at` gives it.
 use native.Mathlib.Omega.{arith}
-use Rattle.scratch.proofs.ScratchFields.{variable-is, limits-within, variables-fit}
+use Rattle.bundle.specs.Limits.{limits}
+use Rattle.scratch.specs.Scratch.{wordIn}
+use Rattle.bundle.proofs.Fields.{variable-is}
+use Rattle.scratch.proofs.ScratchFields.{limits-within, variables-fit}
 use borrow.Author.Needs.{needs}
 use Rattle.scratch.proofs.records.variable_sort.Statement.{statement}
 use Rattle.scratch.proofs.records.variable_sort.Tie as tie
@@ -19,7 +22,7 @@ field-requires c κs =
 returns : tie.Need-returns
 returns c =
     let a = c .before .before .before .before .args in
-    (rw (variable-is (a .words .now) (a .c) (a .i), c .field .ensures .0, c .before .variables-at .ensures .0, c .before .before .largest .ensures), c .field .ensures .1)
+    (rw (variable-is (wordIn (a .words .now)) limits (a .c) (a .i), c .field .ensures .0, c .before .variables-at .ensures .0, c .before .before .largest .ensures), c .field .ensures .1)
 
 pub variable-sort-spec : {M : Type 1} → statement M
 variable-sort-spec = tie.close (tie.spec largest-requires variables-at-requires field-requires returns)
