@@ -18,7 +18,7 @@ use Rattle.bundle.specs.declared.Bundle.{Bundle as Counts}
 use Rattle.bundle.specs.Bundle.{Bundle}
 use Rattle.bundle.specs.Words.{wordAt}
 use Rattle.bundle.specs.Limits.{bytesOf, Within, withinOf}
-use Rattle.bundle.specs.File.{bundleAt, bundleOf, countsOf}
+use Rattle.bundle.specs.File.{bundleBy, bundleAt, bundleOf, countsOf}
 use Rattle.bundle.proofs.Limits.{within-all, within-true}
 use Rattle.logic.specs.declared.Fault.{Fault}
 use Rattle.logic.specs.Lists.{Number}
