@@ -21,7 +21,7 @@ use sorting::notes::all_lower;
 use sorting::notes::note_sorts;
 use sorting::sorts::arguments_fit;
 use sorting::sorts::is_known;
-use sorting::sorts::let_agrees;
+use sorting::sorts::lists_agree;
 use sorting::sorts::signature_of;
 use sorting::sorts::sort_in;
 
@@ -77,7 +77,7 @@ pub fn term_sorted(file: &[u8], b: Bundle, sorts: &[usize], fitting: &mut [u16],
         return sort_in(sorts, second) == 0;
     }
     if kind == 5 {
-        return let_agrees(file, b, sorts, first, second);
+        return lists_agree(file, b, sorts, first, second);
     }
     true
 }
