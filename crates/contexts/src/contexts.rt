@@ -21,7 +21,6 @@ use bundle::records::context_field;
 use bundle::records::link_field;
 use logic::Fault;
 use logic::no_fault;
-use sorting::notes::note_sorts;
 use sorting::sorts::lists_agree;
 
 // 10: whether the kind of context i is one, its unused field is zero, its lists agree, and it refers to variables, terms and a lower context.
@@ -114,8 +113,8 @@ fn context_fault(
     0
 }
 
-// The first bad context, by the sorts that are noted. Where there is none, all that is to be known of contexts is written.
-fn noted_fault(
+// The first bad context. Where there is none, all that is to be known of contexts is written.
+pub fn contexts_fault(
     file: &[u8],
     b: Bundle,
     sorts: &[usize],
@@ -139,30 +138,4 @@ fn noted_fault(
         i += 1;
     }
     no_fault()
-}
-
-// The same with sorts of its own, which take time to clear and to note: few for a small file, and none for a file without contexts.
-pub fn contexts_fault(
-    file: &[u8],
-    b: Bundle,
-    area: &[u64],
-    n: usize,
-    images: &mut [u16],
-    moved: &mut [u64],
-) -> Fault
-    requires { ⌜ Whole (now file) b × FreeSets (now area) n (bundleAt (now file) b) × (b .variables ≤ 64 * n) × (limits .variables * (b .contexts + 1) ≤ length (now images)) × (n * (b .contexts + 1) ≤ length (now moved)) × Images (bundleAt (now file) b) (now images) 1 × MovedSets (bundleAt (now file) b) (now moved) n 1 ⌝ }
-    ensures { λ r. ⌜ r ≡ contextsFault (bundleAt (now (file .entry)) b) ⌝ }
-    ensures { λ r. ⌜ (r .number ≡ 0 → Images (bundleAt (now (file .entry)) b) (now (images .exit)) (b .contexts + 1) × MovedSets (bundleAt (now (file .entry)) b) (now (moved .exit)) n (b .contexts + 1)) ⌝ }
-{
-    if b.contexts == 0 {
-        return no_fault();
-    }
-    if b.terms < 256 {
-        let mut few = [0usize; 256];
-        note_sorts(file, b, &mut few);
-        return noted_fault(file, b, &few, area, n, images, moved);
-    }
-    let mut sorts = [0usize; Bundle::TERMS + 1];
-    note_sorts(file, b, &mut sorts);
-    noted_fault(file, b, &sorts, area, n, images, moved)
 }

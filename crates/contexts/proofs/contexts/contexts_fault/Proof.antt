@@ -1,88 +1,122 @@
--- `contexts::contexts_fault` meets its contract: with no contexts there is nothing to do; else the array of sorts is zero at first and large enough.
+-- `contexts::contexts_fault` meets its contract. The invariant: the first bad context of all is the first from context i on, and those below it
+-- are known. The measure is how many are left.
 use borrow.Author.Needs.{needs}
 use native.Mathlib.Omega.{arith}
-use Prim.Native.Nat.{_+_}
-use mathlib.Core.Path.{_≡_}
-use Rattle.bundle.proofs.Fields.{contexts-length}
-use Rattle.logic.specs.Contexts.{contextsFault}
-use Rattle.sorting.proofs.NoteLaws.{zeros}
+use Prim.Native.Nat.{_+_, _-_, _*_, _≤_}
+use mathlib.Core.Path.{_≡_, refl, sym, ap, _∙_}
+use lib.ListN.{length}
+use Rattle.bundle.specs.File.{bundleAt}
+use Rattle.bundle.proofs.Fields.{contexts-length, record-within}
+use Rattle.logic.specs.Contexts.{contextFault, contextsFault}
+use Rattle.logic.proofs.Firsts.{restFault, rest-start, rest-on, rest-here, rest-end}
+use Rattle.contexts.specs.ContextRows.{Images, MovedSets}
+use Rattle.contexts.proofs.EntryFacts.{refers-passed}
+use Prim.Native.Nat.{ℕ, suc}
 use Rattle.contexts.proofs.contexts.contexts_fault.Statement.{statement}
 use Rattle.contexts.proofs.contexts.contexts_fault.Tie as tie
 
-no-fault-requires : tie.Need-no-fault-requires
-no-fault-requires c κs = search needs
+-- the set of context k stands within the words for contexts up to c
+context-room : (n k c : ℕ) → k ≤ c → n * k + n ≤ n * (c + 1)
+context-room n k c few =
+    let p : suc k - 1 ≡ k = omega arith in
+    rw p at (record-within n (c + 1) (suc k) (λ z. omega arith) (omega arith))
 
-returns : tie.Need-returns
+abbrev Inv-loop : tie.InvT-loop
+Inv-loop file b sorts area n images₀ moved₀ contexts i₀ images moved i =
+    (i ≤ contexts + 1)
+    × (contextsFault (bundleAt file b) ≡ restFault (contextFault (bundleAt file b)) contexts i)
+    × (1 ≤ i)
+    × (length images ≡ length images₀)
+    × (length moved ≡ length moved₀)
+    × Images (bundleAt file b) images i
+    × MovedSets (bundleAt file b) moved n i
+
+abbrev μ-loop : tie.MeasureT-loop
+μ-loop file b sorts area n images₀ moved₀ contexts i₀ images moved i = contexts + 1 - i
+
+loop-holds : tie.Need-loop-holds Inv-loop μ-loop
 unfolding contextsFault
+loop-holds c =
+    let p = c .before .before .before .before .before .pre in
+    (omega arith, rw contexts-length (rest-start _ _), omega arith, refl, refl, p .6, p .7)
+
+context-fault-requires : tie.Need-context-fault-requires Inv-loop μ-loop
+context-fault-requires c κs =
+    let p = c .before .before .before .before .before .before .before .before .pre in
+    (p .0, p .1, p .2, c .before .before .loop .inv .6)
+
+same-length : tie.Need-same-length Inv-loop μ-loop
+same-length c = c .before .before .before .before .loop .inv .3
+
+same-length-2 : tie.Need-same-length-2 Inv-loop μ-loop
+same-length-2 c = c .before .before .before .before .loop .inv .4
+
+returns : tie.Need-returns Inv-loop μ-loop
 returns c =
-    let p = c .before .before .before .before .before .before .before .pre in
-    let none = c .before .if1 .taken in
-    let first : 1 ≡ c .before .before .before .before .before .before .before .args .b .contexts + 1 = omega (arith, none) in (
-      rw (contexts-length, none) (c .no-fault .ensures),
-      λ z. (rw (← first) (p .5), rw (← first) (p .6)),
+    let l = c .before .before .before .before .loop in
+    (sym (l .inv .1 ∙ rest-here _ _ _ (c .before .context-fault .ensures) (c .before .before .before .loop-test .taken) (c .if1 .taken)), λ z. absurd (c .if1 .taken z))
+
+enter-requires : tie.Need-enter-requires Inv-loop μ-loop
+enter-requires c κs =
+    let k = c .before .before .before .before .before .before .before .before .before .before .before .before in
+    let a = k .args in
+    let l = c .before .before .before .before .before .before .loop in
+    let p = k .pre in
+    let few : l .i ≤ a .b .contexts = omega arith in (
+      p .0,
+      l .inv .5,
+      l .inv .6,
+      record {
+        row = omega (arith, p .4, l .inv .3);
+        words = omega (arith, p .5, l .inv .4, context-room (a .n) (l .i) (a .b .contexts) few);
+      },
+      p .3,
+      refers-passed (bundleAt (a .file .now) (a .b)) (l .i) (sym (c .before .before .before .context-fault .ensures) ∙ c .before .before .if1 .left),
     )
 
-slice-aggregate-note-sorts : tie.Need-slice-aggregate-note-sorts
-slice-aggregate-note-sorts c = search needs
+add-i : tie.Need-add-i Inv-loop μ-loop
+add-i c = omega arith
 
-note-sorts-requires : tie.Need-note-sorts-requires
-note-sorts-requires c κs = (c .before .before .before .before .before .before .before .before .before .pre .0, c .before .if2 .taken, zeros 256)
+loop-less : tie.Need-loop-less Inv-loop μ-loop
+loop-less c = omega (arith, c .before .before .before .before .before .before .before .before .before .before .loop-test .taken)
 
-slice-aggregate-noted-fault : tie.Need-slice-aggregate-noted-fault
-slice-aggregate-noted-fault c = search needs
+loop-again : tie.Need-loop-again Inv-loop μ-loop
+loop-again c =
+    let l = c .before .before .before .before .before .before .before .before .before .before .before .loop in
+    (omega arith, l .inv .1 ∙ rest-on _ _ _ (c .before .before .before .before .before .before .before .before .context-fault .ensures) (c .before .before .before .before .before .before .before .before .before .before .loop-test .taken) (c .before .before .before .before .before .before .before .if1 .left), omega arith, c .before .before .before .before .enter .ensures .0 ∙ l .inv .3, c .before .before .before .before .enter .ensures .1 ∙ l .inv .4, c .before .before .before .before .enter .ensures .2, c .before .before .before .before .enter .ensures .3)
 
-noted-fault-requires : tie.Need-noted-fault-requires
-noted-fault-requires c κs = search needs
+no-fault-requires : tie.Need-no-fault-requires Inv-loop μ-loop
+no-fault-requires c κs = search needs
 
-same-length : tie.Need-same-length
-same-length c = search needs
+same-length-3 : tie.Need-same-length-3 Inv-loop μ-loop
+same-length-3 c = c .before .before .loop .inv .3
 
-same-length-2 : tie.Need-same-length-2
-same-length-2 c = search needs
+same-length-4 : tie.Need-same-length-4 Inv-loop μ-loop
+same-length-4 c = c .before .before .loop .inv .4
 
-returns-2 : tie.Need-returns-2
-returns-2 c = search needs
-
-slice-aggregate-note-sorts-2 : tie.Need-slice-aggregate-note-sorts-2
-slice-aggregate-note-sorts-2 c = search needs
-
-note-sorts-requires-2 : tie.Need-note-sorts-requires-2
-note-sorts-requires-2 c κs =
-    let w = c .before .before .before .before .before .before .before .before .before .pre .0 in
-    (w, omega (arith, w .within .terms), zeros 1025)
-
-slice-aggregate-noted-fault-2 : tie.Need-slice-aggregate-noted-fault-2
-slice-aggregate-noted-fault-2 c = search needs
-
-noted-fault-requires-2 : tie.Need-noted-fault-requires-2
-noted-fault-requires-2 c κs = search needs
-
-same-length-3 : tie.Need-same-length-3
-same-length-3 c = search needs
-
-same-length-4 : tie.Need-same-length-4
-same-length-4 c = search needs
-
-returns-3 : tie.Need-returns-3
-returns-3 c = search needs
+returns-2 : tie.Need-returns-2 Inv-loop μ-loop
+returns-2 c =
+    let a = c .before .before .before .before .before .before .before .before .args in
+    let l = c .before .before .loop in
+    let all : l .i ≡ a .b .contexts + 1 = omega (arith, l .inv .0) in
+    (c .no-fault .ensures ∙ sym (l .inv .1 ∙ rest-end _ _ _ (c .before .loop-test .left)), λ z. (rw (← all) (l .inv .5), rw (← all) (l .inv .6)))
 
 pub contexts-fault-spec : {M : Type 1} → statement M
 contexts-fault-spec =
     tie.close
     (tie.spec
-    no-fault-requires
-    returns
-    slice-aggregate-note-sorts
-    note-sorts-requires
-    slice-aggregate-noted-fault
-    noted-fault-requires
+    Inv-loop
+    μ-loop
+    loop-holds
+    context-fault-requires
     same-length
     same-length-2
-    returns-2
-    slice-aggregate-note-sorts-2
-    note-sorts-requires-2
-    slice-aggregate-noted-fault-2
-    noted-fault-requires-2
+    returns
+    enter-requires
+    add-i
+    loop-less
+    loop-again
+    no-fault-requires
     same-length-3
     same-length-4
-    returns-3)
+    returns-2)
