@@ -55,7 +55,9 @@ returns c =
     (header-refused _ _ (rw (← h .before .lent-for .ensures) (h .header-fault .ensures)) (c .if1 .taken), λ z. absurd (c .if1 .taken z))
 
 -- past the test of the header
-none : (c : tie.Else1) → let a = c .before .before .before .before .before .args in headerFault (now (a .file)) (length (now (a .free))) (lentFor (now (a .file))) ≡ 0
+none : (c : tie.Else1)
+    → let a = c .before .before .before .before .before .args in
+    headerFault (now (a .file)) (length (now (a .free))) (lentFor (now (a .file))) ≡ 0
 none c = let h = c .before in rw (← h .before .lent-for .ensures) (sym (h .header-fault .ensures) ∙ c .if1 .left)
 
 counts-requires : tie.Need-counts-requires
