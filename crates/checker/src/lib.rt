@@ -4,8 +4,10 @@ ghost use Prim.Native.Nat.{_+_, _*_, _≤_};
 ghost use lib.ListN.{length};
 ghost use Rattle.bundle.specs.Limits.{limits, setWords};
 ghost use Rattle.bundle.specs.File.{Whole, bundleAt, bundleOf};
-ghost use Rattle.logic.specs.Tests.{firstFailing};
+ghost use Rattle.logic.specs.Tests.{firstFailing, orNext};
+ghost use Rattle.logic.specs.Checks.{sectionsFault};
 ghost use Rattle.logic.specs.Free.{freeArea};
+ghost use Rattle.sorting.specs.Notes.{Sorted};
 ghost use Rattle.free_variables.specs.FreeSets.{FreeSets};
 ghost use Rattle.images.specs.ContextRows.{Images, MovedSets};
 ghost use Rattle.judgement.specs.Judge.{claimTests, lentFor, lateFault, faultOf, judge, areaAfter};
@@ -13,9 +15,11 @@ use bundle::Bundle;
 use bundle::records::step_field;
 use bundle::words::counts;
 use bundle::words::word_at;
+use declarations::header::header_fault;
 use judgement::Acceptance;
 use judgement::Answer;
 use logic::Fault;
+use sorting::notes::note_sorts;
 
 // The words that a file's terms ask for: nothing of a file that is too short to say.
 fn lent_for(file: &[u8]) -> usize
@@ -49,16 +53,18 @@ fn claim_fault(file: &[u8], b: Bundle) -> usize
 fn late_fault_in(
     file: &[u8],
     b: Bundle,
+    sorts: &[usize],
     free: &[u64],
     images: &mut [u16],
     moved: &mut [u64],
 ) -> Fault
-    requires { ⌜ Whole (now file) b × FreeSets (now free) setWords (bundleAt (now file) b) × (limits .variables * (b .contexts + 1) ≤ length (now images)) × (setWords * (b .contexts + 1) ≤ length (now moved)) × Images (bundleAt (now file) b) (now images) 1 × MovedSets (bundleAt (now file) b) (now moved) setWords 1 ⌝ }
+    requires { ⌜ Whole (now file) b × Sorted (now file) b (now sorts) × FreeSets (now free) setWords (bundleAt (now file) b) × (limits .variables * (b .contexts + 1) ≤ length (now images)) × (setWords * (b .contexts + 1) ≤ length (now moved)) × Images (bundleAt (now file) b) (now images) 1 × MovedSets (bundleAt (now file) b) (now moved) setWords 1 ⌝ }
     ensures { λ r. ⌜ r ≡ lateFault (bundleAt (now (file .entry)) b) ⌝ }
 {
     let in_contexts = contexts::contexts::contexts_fault(
         file,
         b,
+        sorts,
         free,
         Bundle::SET_WORDS,
         images,
@@ -78,18 +84,32 @@ fn late_fault_in(
 }
 
 // The same with room of its own. The room is cleared first, so a file with few contexts gets little.
-fn late_fault(file: &[u8], b: Bundle, free: &[u64]) -> Fault
-    requires { ⌜ Whole (now file) b × FreeSets (now free) setWords (bundleAt (now file) b) ⌝ }
+fn late_fault(file: &[u8], b: Bundle, sorts: &[usize], free: &[u64]) -> Fault
+    requires { ⌜ Whole (now file) b × Sorted (now file) b (now sorts) × FreeSets (now free) setWords (bundleAt (now file) b) ⌝ }
     ensures { λ r. ⌜ r ≡ lateFault (bundleAt (now (file .entry)) b) ⌝ }
 {
     if b.contexts <= 31 {
         let mut few_images = [0u16; Bundle::VARIABLES * 32];
         let mut few_moved = [0u64; Bundle::SET_WORDS * 32];
-        return late_fault_in(file, b, free, &mut few_images, &mut few_moved);
+        return late_fault_in(file, b, sorts, free, &mut few_images, &mut few_moved);
     }
     let mut images = [0u16; Bundle::VARIABLES * (Bundle::CONTEXTS + 1)];
     let mut moved = [0u64; Bundle::SET_WORDS * (Bundle::CONTEXTS + 1)];
-    late_fault_in(file, b, free, &mut images, &mut moved)
+    late_fault_in(file, b, sorts, free, &mut images, &mut moved)
+}
+
+// What is wrong past the header, where the sorts of all terms are noted; number 0 where nothing is: the area then holds the free sets.
+fn sorted_fault(file: &[u8], b: Bundle, sorts: &[usize], free: &mut [u64]) -> Fault
+    requires { ⌜ Whole (now file) b × Sorted (now file) b (now sorts) × (setWords * b .terms ≤ length (now free)) ⌝ }
+    ensures { λ r. ⌜ r ≡ orNext (sectionsFault (bundleAt (now (file .entry)) b)) (lateFault (bundleAt (now (file .entry)) b)) ⌝ }
+    ensures { λ r. ⌜ (r .number ≡ 0 → now (free .exit) ≡ freeArea (bundleAt (now (file .entry)) b) setWords (length (now (free .entry)))) ⌝ }
+{
+    let early = terms::sections_fault(file, b, sorts);
+    if early.number != 0 {
+        return early;
+    }
+    free_variables::free_sets(file, b, free, Bundle::SET_WORDS);
+    late_fault(file, b, sorts, free)
 }
 
 // The first check that fails, number 0 where none does; the area then holds the free sets.
@@ -99,13 +119,19 @@ fn fault_of(file: &[u8], free: &mut [u64]) -> Fault
 {
     let lent = free.len();
     let required = lent_for(file);
-    let early = terms::tables_fault(file, lent, required);
-    if early.number != 0 {
-        return early;
+    let number = header_fault(file, lent, required);
+    if number != 0 {
+        return Fault { number, record: 0 };
     }
     let b = counts(file);
-    free_variables::free_sets(file, b, free, Bundle::SET_WORDS);
-    late_fault(file, b, free)
+    if b.terms < 256 {
+        let mut few = [0usize; 256];
+        note_sorts(file, b, &mut few);
+        return sorted_fault(file, b, &few, free);
+    }
+    let mut sorts = [0usize; Bundle::TERMS + 1];
+    note_sorts(file, b, &mut sorts);
+    sorted_fault(file, b, &sorts, free)
 }
 
 // Checks a file. Where it is accepted, the lent area holds the free sets of its terms and zeros after them; where it is refused, zeros.

@@ -8,6 +8,7 @@ ghost use Rattle.bundle.specs.Links.{items};
 ghost use Rattle.bundle.specs.Lists.{each};
 ghost use Rattle.bundle.specs.File.{Whole, bundleAt};
 ghost use Rattle.logic.specs.Contexts.{settled, contextRefers, replacementsSettled, contextFault, contextsFault};
+ghost use Rattle.sorting.specs.Notes.{Sorted};
 ghost use Rattle.free_variables.specs.FreeSets.{FreeSets};
 ghost use Rattle.images.specs.ContextRows.{Images, MovedSets};
 use bundle::Bundle;
@@ -23,8 +24,8 @@ use logic::no_fault;
 use sorting::sorts::lists_agree;
 
 // 10: whether the kind of context i is one, its unused field is zero, its lists agree, and it refers to variables, terms and a lower context.
-fn context_refers(file: &[u8], b: Bundle, i: usize) -> bool
-    requires { ⌜ Whole (now file) b ⌝ }
+fn context_refers(file: &[u8], b: Bundle, sorts: &[usize], i: usize) -> bool
+    requires { ⌜ Whole (now file) b × Sorted (now file) b (now sorts) ⌝ }
     ensures { λ r. ⌜ r ≡ contextRefers (bundleAt (now (file .entry)) b) i ⌝ }
 {
     let kind = context_field(file, b, i, 0);
@@ -39,7 +40,7 @@ fn context_refers(file: &[u8], b: Bundle, i: usize) -> bool
     if kind == 2 {
         let replaced = all_numbers(file, b, first, variables);
         let terms = all_numbers(file, b, second, b.terms);
-        let agree = lists_agree(file, b, first, second);
+        let agree = lists_agree(file, b, sorts, first, second);
         return (first <= links) & replaced & (second <= links) & terms & agree & (parent < i);
     }
     false
@@ -91,11 +92,19 @@ fn replacements_settled(
 }
 
 // What is wrong with context i.
-fn context_fault(file: &[u8], b: Bundle, area: &[u64], n: usize, moved: &[u64], i: usize) -> usize
-    requires { ⌜ Whole (now file) b × FreeSets (now area) n (bundleAt (now file) b) × MovedSets (bundleAt (now file) b) (now moved) n i ⌝ }
+fn context_fault(
+    file: &[u8],
+    b: Bundle,
+    sorts: &[usize],
+    area: &[u64],
+    n: usize,
+    moved: &[u64],
+    i: usize,
+) -> usize
+    requires { ⌜ Whole (now file) b × Sorted (now file) b (now sorts) × FreeSets (now area) n (bundleAt (now file) b) × MovedSets (bundleAt (now file) b) (now moved) n i ⌝ }
     ensures { λ r. ⌜ r ≡ contextFault (bundleAt (now (file .entry)) b) i ⌝ }
 {
-    if !context_refers(file, b, i) {
+    if !context_refers(file, b, sorts, i) {
         return 10;
     }
     if !replacements_settled(file, b, area, n, moved, i) {
@@ -108,19 +117,20 @@ fn context_fault(file: &[u8], b: Bundle, area: &[u64], n: usize, moved: &[u64], 
 pub fn contexts_fault(
     file: &[u8],
     b: Bundle,
+    sorts: &[usize],
     area: &[u64],
     n: usize,
     images: &mut [u16],
     moved: &mut [u64],
 ) -> Fault
-    requires { ⌜ Whole (now file) b × FreeSets (now area) n (bundleAt (now file) b) × (b .variables ≤ 64 * n) × (limits .variables * (b .contexts + 1) ≤ length (now images)) × (n * (b .contexts + 1) ≤ length (now moved)) × Images (bundleAt (now file) b) (now images) 1 × MovedSets (bundleAt (now file) b) (now moved) n 1 ⌝ }
+    requires { ⌜ Whole (now file) b × Sorted (now file) b (now sorts) × FreeSets (now area) n (bundleAt (now file) b) × (b .variables ≤ 64 * n) × (limits .variables * (b .contexts + 1) ≤ length (now images)) × (n * (b .contexts + 1) ≤ length (now moved)) × Images (bundleAt (now file) b) (now images) 1 × MovedSets (bundleAt (now file) b) (now moved) n 1 ⌝ }
     ensures { λ r. ⌜ r ≡ contextsFault (bundleAt (now (file .entry)) b) ⌝ }
     ensures { λ r. ⌜ (r .number ≡ 0 → Images (bundleAt (now (file .entry)) b) (now (images .exit)) (b .contexts + 1) × MovedSets (bundleAt (now (file .entry)) b) (now (moved .exit)) n (b .contexts + 1)) ⌝ }
 {
     let contexts = b.contexts;
     let mut i = 1;
     while i <= contexts {
-        let number = context_fault(file, b, area, n, moved, i);
+        let number = context_fault(file, b, sorts, area, n, moved, i);
         if number != 0 {
             return Fault { number, record: i };
         }

@@ -1,6 +1,6 @@
 -- What the answer says of a file: nothing is wrong exactly with an acceptable file.
 --     claim-exactly       check 15 finds nothing exactly where the last step is the claim
---     early-fault, late-fault     what the checks 1 to 9 find is the fault; where they find nothing, what the later checks find
+--     early-fault         what the checks 1 to 9 find is the fault
 --     nothing-exactly     no check finds anything exactly with an acceptable file
 --     accepted-where      a file is accepted, with its claim, exactly where the fault's number is 0
 --     refused-where       it is refused with number n, not 0, and record i exactly where that is the fault
@@ -20,7 +20,7 @@ use Rattle.logic.specs.Contexts.{contextsFault}
 use Rattle.logic.specs.Rules.{stepsFault}
 use Rattle.logic.specs.WellFormed.{WellFormed}
 use Rattle.logic.proofs.Tests.{passed-each, all-passed, failing-none, none-failing}
-use Rattle.logic.proofs.Firsts.{orElse-on, orElse-here, next-both, both-next}
+use Rattle.logic.proofs.Firsts.{orElse-here, next-both, both-next}
 use Rattle.logic.proofs.Formed.{well-formed-exactly}
 use Rattle.logic.proofs.Instances.{steps-exactly}
 use Rattle.judgement.specs.declared.Acceptance.{Acceptance}
@@ -59,10 +59,6 @@ claim-exactly b = (
 pub early-fault : (f : List ℕ) (m : ℕ) → (tablesFault f m (required f) .number ≡ 0 → ⊥) → faultOf f m ≡ tablesFault f m (required f)
 unfolding faultOf
 early-fault f m ne = orElse-here _ _ _ ne
-
-pub late-fault : (f : List ℕ) (m : ℕ) → tablesFault f m (required f) .number ≡ 0 → faultOf f m ≡ lateFault (bundleOf f)
-unfolding faultOf
-late-fault f m e = orElse-on _ _ _ e
 
 pub nothing-exactly : (f : List ℕ) (m : ℕ) → (faultOf f m .number ≡ 0) ↔ Acceptable f m
 unfolding faultOf tablesFault lateFault

@@ -5,7 +5,7 @@ ghost use mathlib.Core.List.{map};
 ghost use lib.ListN.{replicate, getD};
 ghost use Prim.Native.Nat.{_≤_};
 ghost use Rattle.bundle.specs.Limits.{limits};
-ghost use Rattle.bundle.specs.Bundle.{sortOfVariable, termOf};
+ghost use Rattle.bundle.specs.Bundle.{sortOfVariable};
 ghost use Rattle.bundle.specs.Links.{items};
 ghost use Rattle.bundle.specs.Lists.{sameList};
 ghost use Rattle.bundle.specs.File.{Whole, bundleAt};
@@ -21,7 +21,6 @@ use bundle::lists::first_link;
 use bundle::lists::next_link;
 use bundle::records::link_field;
 use bundle::records::symbol_field;
-use bundle::records::term_field;
 use bundle::records::variable_sort;
 use logic::Signature;
 
@@ -94,40 +93,6 @@ pub fn result_sort(file: &[u8], b: Bundle, s: Signature) -> usize
         Signature::Declared(i) => symbol_field(file, b, i, 0),
         Signature::Unknown => 0,
     }
-}
-
-// The term that a let's sort is that of: its body, if that is lower, and so on down to a term that is no let. 0 where a body is not lower.
-fn let_body(file: &[u8], b: Bundle, term: usize) -> usize
-    requires { ⌜ Whole (now file) b ⌝ }
-    ensures { λ r. ⌜ sortAt (bundleAt (now (file .entry)) b) term ≡ sortAt (bundleAt (now (file .entry)) b) r ⌝ }
-    ensures { λ r. ⌜ (termOf (bundleAt (now (file .entry)) b) r .kind ≡ 5 → ⊥) ⌝ }
-{
-    let mut t = term;
-    while term_field(file, b, t, 0) == 5 {
-        let body = term_field(file, b, t, 3);
-        if body >= t {
-            return 0;
-        }
-        t = body;
-    }
-    t
-}
-
-// The sort of a term.
-pub fn term_sort(file: &[u8], b: Bundle, term: usize) -> usize
-    requires { ⌜ Whole (now file) b ⌝ }
-    ensures { λ r. ⌜ r ≡ sortAt (bundleAt (now (file .entry)) b) term ⌝ }
-{
-    let t = let_body(file, b, term);
-    let kind = term_field(file, b, t, 0);
-    let a = term_field(file, b, t, 1);
-    if kind == 1 {
-        return variable_sort(file, b, a);
-    }
-    if kind == 2 {
-        return result_sort(file, b, signature_of(b, a));
-    }
-    0
 }
 
 // The sort of a term from `sorts`, where those of all terms are noted; 0 for a number past them.
@@ -263,42 +228,7 @@ pub fn arguments_fit(
 }
 
 // Whether the terms of a list have the sorts of the variables of another, one each.
-fn variables_fit(file: &[u8], b: Bundle, variables: usize, terms: usize) -> bool
-    requires { ⌜ Whole (now file) b ⌝ }
-    ensures { λ r. ⌜ r ≡ sameList (map (sortOfVariable (bundleAt (now (file .entry)) b)) (items (bundleAt (now (file .entry)) b) variables)) (map (sortAt (bundleAt (now (file .entry)) b)) (items (bundleAt (now (file .entry)) b) terms)) ⌝ }
-{
-    let mut i = first_link(b, variables);
-    let mut j = first_link(b, terms);
-    while i != 0 {
-        if j == 0 {
-            return false;
-        }
-        let v = link_field(file, b, i, 0);
-        let sort = variable_sort(file, b, v);
-        let t = link_field(file, b, j, 0);
-        let s = term_sort(file, b, t);
-        if sort != s {
-            return false;
-        }
-        i = next_link(file, b, i);
-        j = next_link(file, b, j);
-    }
-    j == 0
-}
-
-// Whether the lists of a replacing context agree: at least one variable, all different, as many terms, of the same sorts.
-pub fn lists_agree(file: &[u8], b: Bundle, variables: usize, terms: usize) -> bool
-    requires { ⌜ Whole (now file) b ⌝ }
-    ensures { λ r. ⌜ r ≡ listsAgree (bundleAt (now (file .entry)) b) (items (bundleAt (now (file .entry)) b) variables) (items (bundleAt (now (file .entry)) b) terms) ⌝ }
-{
-    let some = first_link(b, variables) != 0;
-    let different = all_different(file, b, variables);
-    let fit = variables_fit(file, b, variables, terms);
-    some & different & fit
-}
-
-// The same, where the sorts of all terms are noted.
-fn variables_sorted(file: &[u8], b: Bundle, sorts: &[usize], variables: usize, terms: usize) -> bool
+fn variables_fit(file: &[u8], b: Bundle, sorts: &[usize], variables: usize, terms: usize) -> bool
     requires { ⌜ Whole (now file) b × Sorted (now file) b (now sorts) ⌝ }
     ensures { λ r. ⌜ r ≡ sameList (map (sortOfVariable (bundleAt (now (file .entry)) b)) (items (bundleAt (now (file .entry)) b) variables)) (map (sortAt (bundleAt (now (file .entry)) b)) (items (bundleAt (now (file .entry)) b) terms)) ⌝ }
 {
@@ -321,13 +251,13 @@ fn variables_sorted(file: &[u8], b: Bundle, sorts: &[usize], variables: usize, t
     j == 0
 }
 
-// Whether the lists of a let agree, as those of a replacing context.
-pub fn let_agrees(file: &[u8], b: Bundle, sorts: &[usize], variables: usize, terms: usize) -> bool
+// Whether the lists of a let or of a replacing context agree: at least one variable, all different, as many terms, of the same sorts.
+pub fn lists_agree(file: &[u8], b: Bundle, sorts: &[usize], variables: usize, terms: usize) -> bool
     requires { ⌜ Whole (now file) b × Sorted (now file) b (now sorts) ⌝ }
     ensures { λ r. ⌜ r ≡ listsAgree (bundleAt (now (file .entry)) b) (items (bundleAt (now (file .entry)) b) variables) (items (bundleAt (now (file .entry)) b) terms) ⌝ }
 {
     let some = first_link(b, variables) != 0;
-    let distinct = all_different(file, b, variables);
-    let fit = variables_sorted(file, b, sorts, variables, terms);
-    some & distinct & fit
+    let different = all_different(file, b, variables);
+    let fit = variables_fit(file, b, sorts, variables, terms);
+    some & different & fit
 }

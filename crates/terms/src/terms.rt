@@ -20,10 +20,9 @@ use bundle::notes::all_lower;
 use bundle::records::term_field;
 use logic::Fault;
 use logic::no_fault;
-use sorting::notes::note_sorts;
 use sorting::sorts::arguments_fit;
 use sorting::sorts::is_known;
-use sorting::sorts::let_agrees;
+use sorting::sorts::lists_agree;
 use sorting::sorts::signature_of;
 use sorting::sorts::sort_in;
 
@@ -79,7 +78,7 @@ pub fn term_sorted(file: &[u8], b: Bundle, sorts: &[usize], fitting: &mut [u16],
         return sort_in(sorts, second) == 0;
     }
     if kind == 5 {
-        return let_agrees(file, b, sorts, first, second);
+        return lists_agree(file, b, sorts, first, second);
     }
     true
 }
@@ -141,38 +140,34 @@ fn noted_fault(
 }
 
 // The first bad term of a small file: arrays for all that a file can have take longer to clear than such a file takes to check.
-fn small_fault(file: &[u8], b: Bundle) -> Fault
-    requires { ⌜ Whole (now file) b × (b .terms < 256) × (b .links < 512) ⌝ }
+fn small_fault(file: &[u8], b: Bundle, sorts: &[usize]) -> Fault
+    requires { ⌜ Whole (now file) b × Sorted (now file) b (now sorts) × (b .terms < 256) × (b .links < 512) ⌝ }
     ensures { λ r. ⌜ r ≡ termsFault (bundleAt (now (file .entry)) b) ⌝ }
 {
-    let mut sorts = [0usize; 256];
     let mut lower = [0u8; 512];
     let mut fitting = [0u16; 512];
     let mut next = [0u16; 256];
-    note_sorts(file, b, &mut sorts);
-    noted_fault(file, b, &sorts, &mut lower, &mut fitting, &mut next)
+    noted_fault(file, b, sorts, &mut lower, &mut fitting, &mut next)
 }
 
 // The first bad term of any file.
-fn large_fault(file: &[u8], b: Bundle) -> Fault
-    requires { ⌜ Whole (now file) b ⌝ }
+fn large_fault(file: &[u8], b: Bundle, sorts: &[usize]) -> Fault
+    requires { ⌜ Whole (now file) b × Sorted (now file) b (now sorts) ⌝ }
     ensures { λ r. ⌜ r ≡ termsFault (bundleAt (now (file .entry)) b) ⌝ }
 {
-    let mut sorts = [0usize; Bundle::TERMS + 1];
     let mut lower = [0u8; Bundle::LINKS + 1];
     let mut fitting = [0u16; Bundle::LINKS + 1];
     let mut next = [0u16; Bundle::TERMS + 1];
-    note_sorts(file, b, &mut sorts);
-    noted_fault(file, b, &sorts, &mut lower, &mut fitting, &mut next)
+    noted_fault(file, b, sorts, &mut lower, &mut fitting, &mut next)
 }
 
 // The first bad term.
-pub fn terms_fault(file: &[u8], b: Bundle) -> Fault
-    requires { ⌜ Whole (now file) b ⌝ }
+pub fn terms_fault(file: &[u8], b: Bundle, sorts: &[usize]) -> Fault
+    requires { ⌜ Whole (now file) b × Sorted (now file) b (now sorts) ⌝ }
     ensures { λ r. ⌜ r ≡ termsFault (bundleAt (now (file .entry)) b) ⌝ }
 {
     if (b.terms < 256) & (b.links < 512) {
-        return small_fault(file, b);
+        return small_fault(file, b, sorts);
     }
-    large_fault(file, b)
+    large_fault(file, b, sorts)
 }

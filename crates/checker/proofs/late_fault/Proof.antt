@@ -16,9 +16,11 @@ slice-aggregate-late-fault-in-2 c = search needs
 
 late-fault-in-requires : tie.Need-late-fault-in-requires
 late-fault-in-requires c κs =
-    let a = c .before .before .before .before .before .before .args in
+    let a = c .before .before .before .before .before .before .before .args in
+    let p = c .before .before .before .before .before .before .before .pre in
     let b = bundleAt (a .file .now) (a .b) in
-    (c .before .before .before .before .before .before .pre .0, c .before .before .before .before .before .before .pre .1, omega (arith, c .before .before .if1 .taken, length-replicate {A = ℕ} 2048 0), omega (arith, c .before .before .if1 .taken, length-replicate {A = ℕ} 32 0), images-none b 2048 (omega arith), moved-none b 1 32 (omega arith))
+    let few = c .before .before .if1 .taken in
+    (p .0, p .1, p .2, omega (arith, few, length-replicate {A = ℕ} 2048 0), omega (arith, few, length-replicate {A = ℕ} 32 0), images-none b 2048 (omega arith), moved-none b 1 32 (omega arith))
 
 returns : tie.Need-returns
 returns c = c .before .before .late-fault-in .ensures
@@ -31,9 +33,11 @@ slice-aggregate-late-fault-in-4 c = search needs
 
 late-fault-in-requires-2 : tie.Need-late-fault-in-requires-2
 late-fault-in-requires-2 c κs =
-    let a = c .before .before .before .before .before .before .args in
+    let a = c .before .before .before .before .before .before .before .args in
+    let p = c .before .before .before .before .before .before .before .pre in
     let b = bundleAt (a .file .now) (a .b) in
-    (c .before .before .before .before .before .before .pre .0, c .before .before .before .before .before .before .pre .1, omega (arith, c .before .before .before .before .before .before .pre .0 .within .contexts, length-replicate {A = ℕ} 16448 0), omega (arith, c .before .before .before .before .before .before .pre .0 .within .contexts, length-replicate {A = ℕ} 257 0), images-none b 16448 (omega arith), moved-none b 1 257 (omega arith))
+    let few = p .0 .within .contexts in
+    (p .0, p .1, p .2, omega (arith, few, length-replicate {A = ℕ} 16448 0), omega (arith, few, length-replicate {A = ℕ} 257 0), images-none b 16448 (omega arith), moved-none b 1 257 (omega arith))
 
 returns-2 : tie.Need-returns-2
 returns-2 c = c .before .before .late-fault-in2 .ensures

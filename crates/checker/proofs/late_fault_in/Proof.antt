@@ -17,8 +17,8 @@ orElse-last (suc n) = refl
 
 contexts-fault-requires : tie.Need-contexts-fault-requires
 contexts-fault-requires c κs =
-    let p = c .before .before .before .before .before .before .pre in
-    (p .0, p .1, omega (arith, p .0 .within .variables), p .2, p .3, p .4, p .5)
+    let p = c .before .before .before .before .before .before .before .pre in
+    (p .0, p .1, p .2, omega (arith, p .0 .within .variables), p .3, p .4, p .5, p .6)
 
 same-length : tie.Need-same-length
 same-length c = search needs
@@ -33,7 +33,8 @@ returns c = rw (← c .before .before .before .before .before .before .contexts-
 steps-fault-requires : tie.Need-steps-fault-requires
 steps-fault-requires c κs =
     let k = c .before .before .before .before .before .before .before .before .contexts-fault .ensures .1 (c .before .before .if1 .left) in
-    (c .before .before .before .before .before .before .before .before .before .before .before .before .before .before .before .pre .0, c .before .before .before .before .before .before .before .before .before .before .before .before .before .before .before .pre .1, k .0, k .1)
+    let p = c .before .before .before .before .before .before .before .before .before .before .before .before .before .before .before .before .pre in
+    (p .0, p .2, k .0, k .1)
 
 same-length-3 : tie.Need-same-length-3
 same-length-3 c = search needs

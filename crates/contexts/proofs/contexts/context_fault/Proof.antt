@@ -14,7 +14,10 @@ unfolding contextFault
 returns c = rw (← c .before .context-refers .ensures, not-true (c .before .context-refers .result) (c .if1 .taken))
 
 replacements-settled-requires : tie.Need-replacements-settled-requires
-replacements-settled-requires c κs = (c .before .before .before .before .before .pre .0, c .before .before .before .before .before .pre .1, c .before .before .before .before .before .pre .2, sym (c .before .context-refers .ensures) ∙ not-false (c .before .context-refers .result) (c .if1 .left))
+replacements-settled-requires c κs =
+    let p = c .before .before .before .before .before .before .pre in
+    let r = c .before .context-refers in
+    (p .0, p .2, p .3, sym (r .ensures) ∙ not-false (r .result) (c .if1 .left))
 
 returns-2 : tie.Need-returns-2
 unfolding contextFault

@@ -3,7 +3,7 @@
 use borrow.Author.Needs.{needs}
 use native.Mathlib.Omega.{arith}
 use Prim.Native.Nat.{_+_, _-_, _*_, _≤_}
-use mathlib.Core.Path.{_≡_, refl, sym, ap, _∙_}
+use mathlib.Core.Path.{_≡_, refl, sym, _∙_}
 use lib.ListN.{length}
 use Rattle.bundle.specs.File.{bundleAt}
 use Rattle.bundle.proofs.Fields.{contexts-length, record-within}
@@ -22,7 +22,7 @@ context-room n k c few =
     rw p at (record-within n (c + 1) (suc k) (λ z. omega arith) (omega arith))
 
 abbrev Inv-loop : tie.InvT-loop
-Inv-loop file b area n images₀ moved₀ contexts i₀ images moved i =
+Inv-loop file b sorts area n images₀ moved₀ contexts i₀ images moved i =
     (i ≤ contexts + 1)
     × (contextsFault (bundleAt file b) ≡ restFault (contextFault (bundleAt file b)) contexts i)
     × (1 ≤ i)
@@ -32,14 +32,18 @@ Inv-loop file b area n images₀ moved₀ contexts i₀ images moved i =
     × MovedSets (bundleAt file b) moved n i
 
 abbrev μ-loop : tie.MeasureT-loop
-μ-loop file b area n images₀ moved₀ contexts i₀ images moved i = contexts + 1 - i
+μ-loop file b sorts area n images₀ moved₀ contexts i₀ images moved i = contexts + 1 - i
 
 loop-holds : tie.Need-loop-holds Inv-loop μ-loop
 unfolding contextsFault
-loop-holds c = (omega arith, rw contexts-length (rest-start _ _), omega arith, refl, refl, c .before .before .before .before .pre .5, c .before .before .before .before .pre .6)
+loop-holds c =
+    let p = c .before .before .before .before .before .pre in
+    (omega arith, rw contexts-length (rest-start _ _), omega arith, refl, refl, p .6, p .7)
 
 context-fault-requires : tie.Need-context-fault-requires Inv-loop μ-loop
-context-fault-requires c κs = (c .before .before .before .before .before .before .before .pre .0, c .before .before .before .before .before .before .before .pre .1, c .before .before .loop .inv .6)
+context-fault-requires c κs =
+    let p = c .before .before .before .before .before .before .before .before .pre in
+    (p .0, p .1, p .2, c .before .before .loop .inv .6)
 
 same-length : tie.Need-same-length Inv-loop μ-loop
 same-length c = c .before .before .before .before .loop .inv .3
@@ -54,18 +58,19 @@ returns c =
 
 enter-requires : tie.Need-enter-requires Inv-loop μ-loop
 enter-requires c κs =
-    let a = c .before .before .before .before .before .before .before .before .before .before .before .args in
+    let k = c .before .before .before .before .before .before .before .before .before .before .before .before in
+    let a = k .args in
     let l = c .before .before .before .before .before .before .loop in
-    let p = c .before .before .before .before .before .before .before .before .before .before .before .pre in
+    let p = k .pre in
     let few : l .i ≤ a .b .contexts = omega arith in (
       p .0,
       l .inv .5,
       l .inv .6,
       record {
-        row = omega (arith, p .3, l .inv .3);
-        words = omega (arith, p .4, l .inv .4, context-room (a .n) (l .i) (a .b .contexts) few);
+        row = omega (arith, p .4, l .inv .3);
+        words = omega (arith, p .5, l .inv .4, context-room (a .n) (l .i) (a .b .contexts) few);
       },
-      p .2,
+      p .3,
       refers-passed (bundleAt (a .file .now) (a .b)) (l .i) (sym (c .before .before .before .context-fault .ensures) ∙ c .before .before .if1 .left),
     )
 
@@ -91,7 +96,7 @@ same-length-4 c = c .before .before .loop .inv .4
 
 returns-2 : tie.Need-returns-2 Inv-loop μ-loop
 returns-2 c =
-    let a = c .before .before .before .before .before .before .before .args in
+    let a = c .before .before .before .before .before .before .before .before .args in
     let l = c .before .before .loop in
     let all : l .i ≡ a .b .contexts + 1 = omega (arith, l .inv .0) in
     (c .no-fault .ensures ∙ sym (l .inv .1 ∙ rest-end _ _ _ (c .before .loop-test .left)), λ z. (rw (← all) (l .inv .5), rw (← all) (l .inv .6)))

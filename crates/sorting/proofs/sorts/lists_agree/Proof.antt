@@ -18,7 +18,7 @@ variables-fit-requires c κs = search needs
 returns : tie.Need-returns
 unfolding listsAgree passed
 returns c =
-    let a = c .before .before .before .before .args in
+    let a = c .before .before .before .before .before .args in
     let r = c .before .before .first-link in
     rw (some-start (a .file .now) (a .b) (a .variables) (r .result) (r .ensures), c .before .all-different .ensures, c .variables-fit .ensures)
 

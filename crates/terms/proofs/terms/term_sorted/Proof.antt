@@ -59,8 +59,8 @@ returns-2 c =
     let q = kind-binder (c .before .before .before .before .before .term-field .result) (c .before .if2 .taken) in
     (rw (← c .before .before .before .before .before .term-field .ensures, q .1, ← c .before .before .before .term-field3 .ensures, ← c .before .before .before .before .before .before .before .before .before .pre .1 .noted (c .before .before .before .term-field3 .result), ← c .sort-in .ensures), λ e. c .before .before .before .before .before .before .before .before .before .pre .2)
 
-let-agrees-requires : tie.Need-let-agrees-requires
-let-agrees-requires c κs = search needs
+lists-agree-requires : tie.Need-lists-agree-requires
+lists-agree-requires c κs = search needs
 
 returns-3 : tie.Need-returns-3
 unfolding sorted
@@ -70,7 +70,7 @@ returns-3 c = (
     c .before .if3 .taken,
     ← c .before .before .before .before .before .term-field2 .ensures,
     ← c .before .before .before .before .term-field3 .ensures,
-    ← c .let-agrees .ensures,
+    ← c .lists-agree .ensures,
   ),
   λ e. c .before .before .before .before .before .before .before .before .before .before .pre .2,
 )
@@ -94,6 +94,6 @@ term-sorted-spec =
     returns
     sort-in-requires
     returns-2
-    let-agrees-requires
+    lists-agree-requires
     returns-3
     returns-4)

@@ -8,9 +8,12 @@ use Rattle.terms.proofs.terms.terms_fault.Tie as tie
 
 small-fault-requires : tie.Need-small-fault-requires
 small-fault-requires c κs =
-    let k = c .before .before .before .before in
+    let k = c .before .before .before .before .before in
     let b = k .args .b in
-    (k .pre, ltb-true (b .terms) 256 (and-left (ltb (b .terms) 256) (ltb (b .links) 512) (c .if1 .taken)), ltb-true (b .links) 512 (and-right (ltb (b .terms) 256) (ltb (b .links) 512) (c .if1 .taken)))
+    let few = ltb (b .terms) 256 in
+    let short = ltb (b .links) 512 in
+    let t = c .if1 .taken in
+    (k .pre .0, k .pre .1, ltb-true (b .terms) 256 (and-left few short t), ltb-true (b .links) 512 (and-right few short t))
 
 returns : tie.Need-returns
 returns c = search needs
