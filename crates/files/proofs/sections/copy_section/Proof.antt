@@ -3,7 +3,8 @@ use mathlib.Core.Path.{_≡_, refl}
 use Prim.Native.Nat.{_-_, _≤_}
 use native.Mathlib.Omega.{arith}
 use lib.ListN.{length, length-set}
-use Rattle.files.proofs.Copied.{copied, copied-none, copied-more}
+use Rattle.files.specs.Copies.{copied}
+use Rattle.files.proofs.Copied.{copied-none, copied-more}
 use Rattle.files.proofs.sections.copy_section.Statement.{statement}
 use Rattle.files.proofs.sections.copy_section.Tie as tie
 
