@@ -12,7 +12,8 @@ use native.Mathlib.Omega.{arith}
 use lib.ListN.{length, getD}
 use Rattle.bundle.specs.declared.Bundle.{Bundle as Counts}
 use Rattle.bundle.specs.Words.{wordAt}
-use Rattle.bundle.specs.Limits.{limits, headerLength, headerWords, symbolsAt, variablesAt, termsAt, linksAt, contextsAt, stepsAt, sections, extentOf, placeOf, Within}
+use Rattle.bundle.specs.Limits.{limits, headerLength, headerWords, symbolsAt, variablesAt, termsAt, linksAt, contextsAt, stepsAt, Within}
+use Rattle.bundle.specs.Limits.{sections, extentOf, placeOf}
 use Rattle.bundle.specs.File.{tab, recordWord, symbolFrom, linkFrom, termFrom, contextFrom, stepFrom, bundleAt}
 use Rattle.bundle.proofs.Limits.{header-ends, section-ends, extent-within}
 use Rattle.bundle.proofs.Fields.{record-within}
@@ -40,9 +41,11 @@ pub holds-on : (f : List ℕ) (c : Counts) → Within c → (s : ℕ) (w : List 
     → Holds f c (suc s) (copied w (placeOf limits s) f (placeOf c s) (extentOf c s))
 unfolding headerWords
 holds-on f c within s w room h =
-    let v = copied w (placeOf limits s) f (placeOf c s) (extentOf c s) in
-    let below : (j : ℕ) → j < placeOf limits s → getD v j 0 ≡ getD w j 0 = λ j. getD-copied-below w (placeOf limits s) f (placeOf c s) (extentOf c s) j room in
-    let here : InPlace f v (placeOf limits s) (placeOf c s) (extentOf c s) = λ j. getD-copied w (placeOf limits s) f (placeOf c s) (extentOf c s) j room in
+    let q = placeOf limits s in
+    let p = placeOf c s in
+    let n = extentOf c s in
+    let below : (j : ℕ) → j < q → getD (copied w q f p n) j 0 ≡ getD w j 0 = λ j. getD-copied-below w q f p n j room in
+    let here : InPlace f (copied w q f p n) q p n = λ j. getD-copied w q f p n j room in
     record {
       header = λ j l. below (0 + j) (omega (arith, header-ends limits s)) ∙ h .header j l;
       section = λ r l. ⊎-elim (λ e. rw e here)

@@ -11,7 +11,7 @@ use super::sections::store_section;
 use bundle::Bundle;
 
 // The words of the header: version, counts, claim.
-fn header(c: Bundle, left: usize, right: usize) -> [u32; 9]
+fn header(c: Bundle, left: usize, right: usize) -> [u32; Bundle::HEADER]
     requires { ⌜ Within c × (c .version ≤ 4294967295) × (left ≤ 4294967295) × (right ≤ 4294967295) ⌝ }
     ensures { λ r. ⌜ r ≡ c .version ∷ c .symbols ∷ c .variables ∷ c .terms ∷ c .links ∷ c .contexts ∷ c .steps ∷ left ∷ right ∷ [] ⌝ }
 {

@@ -21,9 +21,12 @@ Inv-loop job b words₀ room from₀ to₀ s₀ words from to s =
 abbrev μ-loop : tie.MeasureT-loop
 μ-loop job b words₀ room from₀ to₀ s₀ words from to s = sections - s
 
+room-is : (c : tie.In-loop Inv-loop μ-loop) → c .before .before .before .before .before .before .before .before .largest .result ≡ limits
+room-is c = c .before .before .before .before .before .before .before .before .largest .ensures
+
 -- the words that the limits give to the section
 most : (c : tie.After-extent2 Inv-loop μ-loop) → c .extent2 .result ≡ extentOf limits (c .before .before .before .loop .s)
-most c = c .extent2 .ensures ∙ ap (λ (k : Counts). extentOf k (c .before .before .before .loop .s)) (c .before .before .before .before .before .before .before .before .before .before .largest .ensures)
+most c = c .extent2 .ensures ∙ ap (λ (k : Counts). extentOf k (c .before .before .before .loop .s)) (room-is (c .before .before))
 
 largest-requires : tie.Need-largest-requires Inv-loop μ-loop
 largest-requires c κs = search needs
@@ -53,7 +56,7 @@ extent-requires : tie.Need-extent-requires Inv-loop μ-loop
 extent-requires c κs = (c .before .before .before .before .before .before .before .before .before .before .before .pre .0 .within, omega arith)
 
 extent-requires-2 : tie.Need-extent-requires-2 Inv-loop μ-loop
-extent-requires-2 c κs = (rw (c .before .before .before .before .before .before .before .before .before .largest .ensures) limits-within, omega arith)
+extent-requires-2 c κs = (rw (room-is (c .before)) limits-within, omega arith)
 
 copy-section-requires-2 : tie.Need-copy-section-requires-2 Inv-loop μ-loop
 copy-section-requires-2 c κs =
@@ -68,16 +71,18 @@ copy-section-requires-2 c κs =
 add-from : tie.Need-add-from Inv-loop μ-loop
 unfolding headerWords
 add-from c =
-    let a = c .before .before .before .before .before .before .before .before .before .before .before .before .before .before .before .before .before in
-    let l = c .before .before .before .before .before .before .before .loop in
+    let t = c .before .before .before .before .before .before in
+    let a = t .before .before .before .before .before .before .before .before .before .before .before in
+    let l = t .before .loop in
     rw (l .inv .1, c .before .before .before .before .before .extent .ensures)
     (omega (arith, section-fits (a .args .b) (a .pre .0 .within) (l .s) (omega arith) .0, within-words (a .args .b) (a .pre .0 .within)))
 
 add-to : tie.Need-add-to Inv-loop μ-loop
 unfolding headerWords
 add-to c =
-    let a = c .before .before .before .before .before .before .before .before .before .before .before .before .before .before .before .before .before in
-    let l = c .before .before .before .before .before .before .before .loop in
+    let t = c .before .before .before .before .before .before in
+    let a = t .before .before .before .before .before .before .before .before .before .before .before in
+    let l = t .before .loop in
     rw (l .inv .2, most (c .before .before .before .before)) (omega (arith, section-fits (a .args .b) (a .pre .0 .within) (l .s) (omega arith) .2))
 
 add-s : tie.Need-add-s Inv-loop μ-loop
@@ -89,11 +94,12 @@ loop-less c = omega arith
 loop-again : tie.Need-loop-again Inv-loop μ-loop
 unfolding placeOf
 loop-again c =
-    let a = c .before .before .before .before .before .before .before .before .before .before .before .before .before .before .before .before .before in
-    let l = c .before .before .before .before .before .before .before .loop in
+    let t = c .before .before .before .before .before .before in
+    let a = t .before .before .before .before .before .before .before .before .before .before .before in
+    let l = t .before .loop in
     let n = c .before .before .before .before .before .extent .ensures in
     let fits = section-fits (a .args .b) (a .pre .0 .within) (l .s) (omega arith) in
-    let room : placeOf limits (l .s) ≤ length (l .words) = omega (arith, fits .2, a .pre .1, c .before .before .before .before .before .before .before .before .before .words .given, l .inv .3) in (
+    let room : placeOf limits (l .s) ≤ length (l .words) = omega (arith, fits .2, a .pre .1, t .before .before .before .words .given, l .inv .3) in (
       omega arith,
       rw (l .inv .1, n, add-one (l .s)),
       rw (l .inv .2, most (c .before .before .before .before), add-one (l .s)),

@@ -46,8 +46,9 @@ loop-again c =
     let a = c .before .before .before .before .before .before .before .before .before .args in
     let l = c .before .before .before .before .before .before .loop in
     let e : a .place + (l .i + 1) ≡ a .place + l .i + 1 = omega arith in
-    let more : l .i < length (drop (a .from) (a .words .now)) = simp length-drop (omega arith) in
-    (omega arith, rw (e, add-one (l .i), take-suc (drop (a .from) (a .words .now)) (l .i) 0 more, getD-drop) (stored-on (l .inv .1) (c .before .before .put-word .ensures)))
+    let ws = drop (a .from) (a .words .now) in
+    let more : l .i < length ws = simp length-drop (omega arith) in
+    (omega arith, rw (e, add-one (l .i), take-suc ws (l .i) 0 more, getD-drop) (stored-on (l .inv .1) (c .before .before .put-word .ensures)))
 
 same-length : tie.Need-same-length Inv-loop μ-loop
 same-length c = c .before .loop .inv .1 .long

@@ -24,9 +24,12 @@ Inv-loop words c left right out₀ room from₀ place₀ s₀ out from place s =
 abbrev μ-loop : tie.MeasureT-loop
 μ-loop words c left right out₀ room from₀ place₀ s₀ out from place s = sections - s
 
+room-is : (c : tie.In-loop Inv-loop μ-loop) → c .before .before .before .before .before .before .before .before .before .before .largest .result ≡ limits
+room-is c = c .before .before .before .before .before .before .before .before .before .before .largest .ensures
+
 -- the words that the limits give to the section
 most : (c : tie.After-extent2 Inv-loop μ-loop) → c .extent2 .result ≡ extentOf limits (c .before .before .before .loop .s)
-most c = c .extent2 .ensures ∙ ap (λ (k : Counts). extentOf k (c .before .before .before .loop .s)) (c .before .before .before .before .before .before .before .before .before .before .before .before .largest .ensures)
+most c = c .extent2 .ensures ∙ ap (λ (k : Counts). extentOf k (c .before .before .before .loop .s)) (room-is (c .before .before))
 
 largest-requires : tie.Need-largest-requires Inv-loop μ-loop
 largest-requires c κs = search needs
@@ -45,47 +48,55 @@ slice-aggregate-store-section c = search needs
 
 store-section-requires : tie.Need-store-section-requires Inv-loop μ-loop
 unfolding headerWords
-store-section-requires c κs = (rw (c .before .before .header .ensures) (omega arith), omega (arith, c .before .before .before .before .before .before .before .before .pre .3))
+store-section-requires c κs =
+    let a = c .before .before .before .before .before .before .before .before in
+    (rw (c .before .before .header .ensures) (omega arith), omega (arith, a .pre .3))
 
 loop-holds : tie.Need-loop-holds Inv-loop μ-loop
 unfolding placeOf
 loop-holds c =
-    let a = c .before .before .before .before .before .before .before .before .before .before .before in (
+    let at-header = c .before .before .before .before .before in
+    let at-symbols-at = at-header .before .before in
+    let a = at-symbols-at .before .before .before .before in (
       omega arith,
-      c .before .before .before .before .before .before .before .symbols-at .ensures .0 ∙ ap symbolsAt (c .before .before .before .before .before .before .before .before .largest .ensures),
-      c .before .before .before .before .before .before .symbols-at2 .ensures .0,
-      header-stored (a .args .words .now) (a .args .c) (a .args .left) (a .args .right) (a .pre .0 .version) (c .before .before .before .before .before .header .ensures) (c .before .before .store-section .ensures),
+      at-symbols-at .symbols-at .ensures .0 ∙ ap symbolsAt (at-symbols-at .before .largest .ensures),
+      at-header .before .symbols-at2 .ensures .0,
+      header-stored (a .args .words .now) (a .args .c) (a .args .left) (a .args .right) (a .pre .0 .version)
+          (at-header .header .ensures) (c .before .before .store-section .ensures),
     )
 
 extent-requires : tie.Need-extent-requires Inv-loop μ-loop
 extent-requires c κs = (c .before .before .before .before .before .before .before .before .before .before .before .before .before .pre .0 .room .within, omega arith)
 
 extent-requires-2 : tie.Need-extent-requires-2 Inv-loop μ-loop
-extent-requires-2 c κs = (rw (c .before .before .before .before .before .before .before .before .before .before .before .largest .ensures) limits-within, omega arith)
+extent-requires-2 c κs = (rw (room-is (c .before)) limits-within, omega arith)
 
 store-section-requires-2 : tie.Need-store-section-requires-2 Inv-loop μ-loop
 store-section-requires-2 c κs =
     let a = c .before .before .before .before .before .before .before .before .before .before .before .before .before .before .before .before in
     let l = c .before .before .before .before .loop in
     let n = c .before .before .extent .ensures in
+    let long = l .inv .3 .long ∙ c .before .before .before .before .before .before .out .given in
     let fits = section-fits (a .args .c) (a .pre .0 .room .within) (l .s) (omega arith) in (
       rw (l .inv .1, n) (omega (arith, fits .1, fits .2, a .pre .0 .room .long)),
       rw (l .inv .2, n)
-          (omega (arith, fits .0, within-words (a .args .c) (a .pre .0 .room .within), a .pre .3, c .before .before .before .before .before .before .out .given, l .inv .3 .long)),
+          (omega (arith, fits .0, within-words (a .args .c) (a .pre .0 .room .within), a .pre .3, long)),
     )
 
 add-from : tie.Need-add-from Inv-loop μ-loop
 unfolding headerWords
 add-from c =
-    let a = c .before .before .before .before .before .before .before .before .before .before .before .before .before .before .before .before .before .before .before in
-    let l = c .before .before .before .before .before .before .before .loop in
+    let t = c .before .before .before .before .before .before in
+    let a = t .before .before .before .before .before .before .before .before .before .before .before .before .before in
+    let l = t .before .loop in
     rw (l .inv .1, most (c .before .before .before .before)) (omega (arith, section-fits (a .args .c) (a .pre .0 .room .within) (l .s) (omega arith) .2))
 
 add-place : tie.Need-add-place Inv-loop μ-loop
 unfolding headerWords
 add-place c =
-    let a = c .before .before .before .before .before .before .before .before .before .before .before .before .before .before .before .before .before .before .before in
-    let l = c .before .before .before .before .before .before .before .loop in
+    let t = c .before .before .before .before .before .before in
+    let a = t .before .before .before .before .before .before .before .before .before .before .before .before .before in
+    let l = t .before .loop in
     rw (l .inv .2, c .before .before .before .before .before .extent .ensures)
     (omega (arith, section-fits (a .args .c) (a .pre .0 .room .within) (l .s) (omega arith) .0, within-words (a .args .c) (a .pre .0 .room .within)))
 
@@ -98,8 +109,9 @@ loop-less c = omega arith
 loop-again : tie.Need-loop-again Inv-loop μ-loop
 unfolding placeOf
 loop-again c =
-    let a = c .before .before .before .before .before .before .before .before .before .before .before .before .before .before .before .before .before .before .before in
-    let l = c .before .before .before .before .before .before .before .loop in
+    let t = c .before .before .before .before .before .before in
+    let a = t .before .before .before .before .before .before .before .before .before .before .before .before .before in
+    let l = t .before .loop in
     let n = c .before .before .before .before .before .extent .ensures in (
       omega arith,
       rw (l .inv .1, most (c .before .before .before .before), add-one (l .s)),
