@@ -1,7 +1,9 @@
 -- The limits of the counts, the places of the sections, and the length that the counts give. `Counts` are those of the code's `Bundle`.
-use Prim.Native.Nat.{ℕ, _+_, _*_, _≤_}
+use Prim.Native.Nat.{ℕ, zero, suc, _+_, _*_, _≤_}
 use mathlib.Core.Bool.{Bool, _&&_}
+use mathlib.Core.List.{List, [], _∷_}
 use lib.Dec.{leb}
+use lib.ListN.{getD}
 use Rattle.bundle.specs.declared.Bundle.{Bundle as Counts}
 
 -- S 64, V 64, T 1,024, L 2,048, C 256, P 1,024
@@ -56,6 +58,18 @@ wordsOf c = stepsAt c + 5 * c .steps
 
 abbrev pub bytesOf : Counts → ℕ
 bytesOf c = 4 * wordsOf c
+
+-- Sections by their number: 0 symbols, 1 variables, 2 terms, 3 links, 4 contexts, 5 steps. The words of section s, and the word at which it
+-- starts: each starts where the one before it ends, and the file ends with the last one.
+abbrev pub sections : ℕ
+sections = 6
+
+abbrev pub extentOf : Counts → ℕ → ℕ
+extentOf c s = getD (2 * c .symbols ∷ c .variables ∷ 4 * c .terms ∷ 2 * c .links ∷ 4 * c .contexts ∷ 5 * c .steps ∷ []) s 0
+
+unfoldable pub placeOf : Counts → ℕ → ℕ
+placeOf c zero = symbolsAt c
+placeOf c (suc s) = placeOf c s + extentOf c s
 
 -- each count is within its limit
 pub record Within (c : Counts) : Type 0 where

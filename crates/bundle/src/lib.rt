@@ -2,8 +2,8 @@
 // Every reader is total: the number 0, or one past its section's last, reads zeros. All that a reader asks for is `Whole`: counts within
 // limits, length exact. What it gives is said of the bundle that the file stands for, `bundleAt`.
 ghost use mathlib.Core.Path.{_≡_};
-ghost use Prim.Native.Nat.{_≤_};
-ghost use Rattle.bundle.specs.Limits.{limits, setWords, leastBytes, headerWords, symbolsAt, variablesAt, termsAt, linksAt, contextsAt, stepsAt, bytesOf, withinOf, Within};
+ghost use Prim.Native.Nat.{_≤_, _<_};
+ghost use Rattle.bundle.specs.Limits.{limits, setWords, leastBytes, headerWords, symbolsAt, variablesAt, termsAt, linksAt, contextsAt, stepsAt, sections, extentOf, bytesOf, withinOf, Within};
 
 pub mod words; // words.rt: words of bytes, and the header
 pub mod halves; // halves.rt: words of 16 bits as numbers
@@ -42,6 +42,9 @@ impl Bundle {
     pub const HEADER: usize = 9;
 
     pub const LEAST: usize = 4 * Bundle::HEADER;
+
+    // The sections after the header: 0 symbols, 1 variables, 2 terms, 3 links, 4 contexts, 5 steps.
+    pub const SECTIONS: usize = 6;
 
     // The length of the longest file, in words and in bytes.
     pub const WORDS: usize = Bundle::HEADER
@@ -143,6 +146,22 @@ impl Bundle {
         ensures { λ r. ⌜ (r ≡ stepsAt self) × (r ≤ 32768) ⌝ }
     {
         self.contexts_at() + 4 * self.contexts
+    }
+
+    // The words of section s.
+    pub fn extent(self, s: usize) -> usize
+        requires { ⌜ Within self × (s < sections) ⌝ }
+        ensures { λ r. ⌜ r ≡ extentOf self s ⌝ }
+    {
+        let extents = [
+            2 * self.symbols,
+            self.variables,
+            4 * self.terms,
+            2 * self.links,
+            4 * self.contexts,
+            5 * self.steps,
+        ];
+        extents[s]
     }
 
     // The length of the file in bytes, from the counts.

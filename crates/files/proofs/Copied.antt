@@ -12,7 +12,7 @@ use native.Mathlib.Omega.{arith}
 use lib.ListN.{length, getD, set, take, drop, length-append, length-drop, take-append-drop, List·getD-append}
 use lib.Seq.{length-take-le, drop-cons, set-at, getD-append-add, getD-take, getD-drop}
 use Rattle.bundle.specs.Words.{wordAt}
-use Rattle.files.specs.Copies.{wordsFrom}
+use Rattle.files.specs.Copies.{wordsFrom, copied}
 
 pub length-wordsFrom : (f : List ℕ) (k n : ℕ) → length (wordsFrom f k n) ≡ n
 unfolding wordsFrom
@@ -34,10 +34,6 @@ wordsFrom-more f k zero = rw add-zero
 wordsFrom-more f k (suc n) =
     let e : suc k + n ≡ k + suc n = omega arith in
     ap (λ (l : List ℕ). wordAt f k ∷ l) (wordsFrom-more f (suc k) n ∙ rw e)
-
--- the words w with n words of the file f, from word k on, copied to place `to`
-abbrev pub copied : List ℕ → ℕ → List ℕ → ℕ → ℕ → List ℕ
-copied w to f k n = take to w ++ (wordsFrom f k n ++ drop (to + n) w)
 
 pub copied-none : (w : List ℕ) (to : ℕ) (f : List ℕ) (k : ℕ) → w ≡ copied w to f k 0
 unfolding wordsFrom

@@ -1,5 +1,5 @@
 -- What the contracts cite.
---     Copies          words of a file, one after another
---     HeaderWritten   the header written into the scratch
+--     Copies   words of a file, one after another, and their copy
+--     Stores   words stored as bytes
 pub mod Copies
-pub mod HeaderWritten
+pub mod Stores

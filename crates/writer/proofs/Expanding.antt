@@ -19,7 +19,7 @@ use Rattle.bundle.specs.Bundle.{Bundle}
 use Rattle.bundle.specs.Words.{wordAt}
 use Rattle.bundle.specs.Limits.{bytesOf, Within, withinOf}
 use Rattle.bundle.specs.File.{bundleBy, bundleAt, bundleOf, countsOf}
-use Rattle.bundle.proofs.Limits.{within-all, within-true}
+use Rattle.bundle.proofs.Limits.{within-all, within-true, within-words}
 use Rattle.logic.specs.declared.Fault.{Fault}
 use Rattle.logic.specs.Lists.{Number}
 use Rattle.logic.specs.WellFormed.{HeaderFormed, TablesFormed}
@@ -44,7 +44,6 @@ use Rattle.placing.specs.Outcomes.{StandsFor, TooMuch, VisitOutcome, done, full
 use Rattle.expansion.specs.AreasAfter.{Left, Stored}
 use Rattle.expansion.proofs.Files.{file-length}
 use Rattle.expansion.proofs.SmallWords.{file-small, expanded-small}
-use Rattle.files.proofs.SectionPlaces.{within-words}
 use Rattle.writer.proofs.Rooted.{stands-at}
 use Rattle.expansion.proofs.JobChecks.{long-exactly}
 

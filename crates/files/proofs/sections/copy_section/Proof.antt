@@ -3,7 +3,8 @@ use mathlib.Core.Path.{_≡_, refl}
 use Prim.Native.Nat.{_-_, _≤_}
 use native.Mathlib.Omega.{arith}
 use lib.ListN.{length, length-set}
-use Rattle.files.proofs.Copied.{copied, copied-none, copied-more}
+use Rattle.files.specs.Copies.{copied}
+use Rattle.files.proofs.Copied.{copied-none, copied-more}
 use Rattle.files.proofs.sections.copy_section.Statement.{statement}
 use Rattle.files.proofs.sections.copy_section.Tie as tie
 
@@ -47,7 +48,8 @@ loop-again : tie.Need-loop-again Inv-loop μ-loop
 loop-again c =
     let a = c .before .before .before .before .before .before .args in
     let l = c .before .before .before .loop in
-    (omega arith, simp length-set (l .inv .1), rw (l .inv .2, c .as-word .ensures, c .before .word-at .ensures .0) (copied-more (a .words .now) (a .to) (a .file .now) (a .from) (l .i) (omega arith)))
+    let more = copied-more (a .words .now) (a .to) (a .file .now) (a .from) (l .i) (omega arith) in
+    (omega arith, simp length-set (l .inv .1), rw (l .inv .2, c .as-word .ensures, c .before .word-at .ensures .0) more)
 
 same-length : tie.Need-same-length Inv-loop μ-loop
 same-length c = c .before .loop .inv .1
