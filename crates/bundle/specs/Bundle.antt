@@ -44,6 +44,7 @@ pub record Step : Type 0 where
 
 -- A variable's record is its sort. `left` and `right` are the claim.
 pub record Bundle : Type 0 where
+  pub version : ℕ
   pub symbols : List Symbol
   pub variables : List ℕ
   pub terms : List TermRecord

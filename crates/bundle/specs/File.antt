@@ -42,6 +42,7 @@ stepFrom w = record { rule = w 0; context = w 1; left = w 2; right = w 3; premis
 unfoldable pub bundleBy : (ℕ → ℕ) → Counts → Counts → Bundle
 unfolding tab headerWords
 bundleBy word places c = record {
+  version = c .version;
   symbols = tab (λ j. symbolFrom (recordBy word (symbolsAt places) 2 j)) (c .symbols);
   variables = tab (λ j. recordBy word (variablesAt places) 1 j 0) (c .variables);
   terms = tab (λ j. termFrom (recordBy word (termsAt places) 4 j)) (c .terms);

@@ -13,7 +13,7 @@ use native.Mathlib.Omega.{arith}
 use lib.ListN.{length, getD}
 use Rattle.bundle.specs.Bundle.{Bundle}
 use Rattle.bundle.specs.Limits.{headerWords, setWords, Within}
-use Rattle.bundle.specs.File.{countsOf, bundleOf}
+use Rattle.bundle.specs.File.{countsOf, bundleBy, bundleOf}
 use Rattle.judgement.specs.declared.Answer.the-variants.{Accepted}
 use Rattle.judgement.specs.Judge.{acceptance, judge}
 use Rattle.judgement.specs.Demands.{Acceptable}
@@ -22,7 +22,7 @@ use Rattle.judgement.proofs.Demands.{accepted-exactly, accepted-sound}
 use Rattle.expansion.specs.Visit.{expanded}
 use Rattle.expansion.specs.File.{countsIn, fileOf}
 use Rattle.expansion.specs.JobOrder.{allJobChecks}
-use Rattle.expansion.specs.Demands.{Bytes, BytesExactly, RefusedJobExactly, WrittenExactly, AreasLeft, WrittenWell, ExpansionRight}
+use Rattle.expansion.specs.Demands.{Bytes, BytesExactly, JobFormed, RefusedJobExactly, WrittenExactly, AreasLeft, WrittenWell, ExpansionRight}
 use Rattle.expansion.proofs.SmallNumbers.{SmallBundle}
 use Rattle.expansion.proofs.Files.{file-length, file-counts, file-bundle, file-whole}
 use Rattle.expansion.proofs.SmallWords.{file-small, expanded-small}
@@ -57,7 +57,8 @@ pub areas-left : AreasLeft
 areas-left = zeros-left
 
 -- f is the job, B the bundle that is written
-module _ (f : List ℕ) (B : Bundle) (fit : Within (countsIn B)) (small : SmallBundle B) (theorem : Derived (bundleOf f) B) where
+module _ (f : List ℕ) (B : Bundle) (fit : Within (countsIn B)) (small : SmallBundle B) (theorem : Derived (bundleOf f) B)
+    (one : bundleOf f .version ≡ 1) where
   same : B ≡ bundleOf (fileOf B)
   same = sym (file-bundle B fit small)
 
@@ -67,7 +68,7 @@ module _ (f : List ℕ) (B : Bundle) (fit : Within (countsIn B)) (small : SmallB
   acceptable : (m : ℕ) → setWords * countsOf (fileOf B) .terms ≤ m → Acceptable (fileOf B) m
   unfolding headerWords
   acceptable m long = record {
-    header = record { long = omega (arith, file-length B); version = rw (file-counts B fit small); whole = file-whole B fit small };
+    header = record { long = omega (arith, file-length B); version = rw (file-counts B fit small) (theorem .longer .version ∙ one); whole = file-whole B fit small };
     area = long;
     formed = here .formed;
     steps = here .steps;
@@ -89,6 +90,10 @@ module _ (f : List ℕ) (B : Bundle) (fit : Within (countsIn B)) (small : SmallB
         accepted-sound (fileOf B) m _ (file-accepted m (omega arith));
   }
 
+job-version : {f : List ℕ} → JobFormed f → bundleOf f .version ≡ 1
+unfolding bundleOf bundleBy
+job-version formed = formed .header .version
+
 pub expansion-right : ExpansionRight
 unfolding expanded
 expansion-right f out words sets bytes formed closed fits long =
@@ -98,5 +103,5 @@ expansion-right f out words sets bytes formed closed fits long =
       job-answer f out words sets passes,
       rw (job-file f out words sets passes)
           (written-well f (expanded b) fits (expanded-small b (file-small f bytes) fits)
-          (derived b (formed .tables) (formed .contexts) (formed .steps) (formed .left) closed)),
+          (derived b (formed .tables) (formed .contexts) (formed .steps) (formed .left) closed) (job-version formed)),
     )

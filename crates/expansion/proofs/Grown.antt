@@ -86,6 +86,7 @@ pub claiming-longer : (b : Bundle) (l r : ℕ) → Longer b (claiming b l r)
 claiming-longer b l r =
     let same = longer-refl b in
     record {
+      version = same .version;
       symbols = same .symbols;
       variables = same .variables;
       terms = same .terms;

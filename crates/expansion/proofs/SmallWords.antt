@@ -45,9 +45,10 @@ word-small f h k =
     let byte : (i : ℕ) → getD f i 0 < 256 = all-getD (λ x. x < 256) f 0 h (omega arith) in
     omega (arith, byte (4 * k), byte (4 * k + 1), byte (4 * k + 2), byte (4 * k + 3))
 
-pub memory-small : (word : ℕ → ℕ) (places c : Counts) → ((k : ℕ) → Word (word k)) → SmallBundle (bundleBy word places c)
+pub memory-small : (word : ℕ → ℕ) (places c : Counts) → Word (c .version) → ((k : ℕ) → Word (word k)) → SmallBundle (bundleBy word places c)
 unfolding bundleBy
-memory-small word places c h = record {
+memory-small word places c v h = record {
+  version = v;
   symbols = all-tab (λ r. All Word (symbolWords r)) _ (λ j. (h _, (h _, tt))) (c .symbols);
   variables = all-tab (λ s. All Word (variableWords s)) _ (λ j. (h _, tt)) (c .variables);
   terms = all-tab (λ r. All Word (termWords r)) _ (λ j. (h _, (h _, (h _, (h _, tt))))) (c .terms);
@@ -59,14 +60,15 @@ memory-small word places c h = record {
 }
 
 pub file-small : (f : List ℕ) → Bytes f → SmallBundle (bundleOf f)
-unfolding bundleOf
-file-small f h = memory-small (wordAt f) (countsOf f) (countsOf f) (word-small f h)
+unfolding bundleOf countsOf
+file-small f h = memory-small (wordAt f) (countsOf f) (countsOf f) (word-small f h 0) (word-small f h)
 
 -- ---- records appended to one section
 
 module _ {b : Bundle} (small : SmallBundle b) where
   pub small-variables : (s : ℕ) → Word s → SmallBundle (withVariables b (s ∷ []))
   small-variables s h = record {
+    version = small .version;
     symbols = small .symbols;
     variables = all-snoc (λ s. All Word (variableWords s)) (b .variables) s (small .variables) (h, tt);
     terms = small .terms;
@@ -79,6 +81,7 @@ module _ {b : Bundle} (small : SmallBundle b) where
 
   pub small-terms : (r : TermRecord) → All Word (termWords r) → SmallBundle (withTerms b (r ∷ []))
   small-terms r h = record {
+    version = small .version;
     symbols = small .symbols;
     variables = small .variables;
     terms = all-snoc (λ r. All Word (termWords r)) (b .terms) r (small .terms) h;
@@ -91,6 +94,7 @@ module _ {b : Bundle} (small : SmallBundle b) where
 
   pub small-links : (rs : List Link) → All (λ r. All Word (linkWords r)) rs → SmallBundle (withLinks b rs)
   small-links rs h = record {
+    version = small .version;
     symbols = small .symbols;
     variables = small .variables;
     terms = small .terms;
@@ -103,6 +107,7 @@ module _ {b : Bundle} (small : SmallBundle b) where
 
   pub small-contexts : (r : Context) → All Word (contextWords r) → SmallBundle (withContexts b (r ∷ []))
   small-contexts r h = record {
+    version = small .version;
     symbols = small .symbols;
     variables = small .variables;
     terms = small .terms;
@@ -115,6 +120,7 @@ module _ {b : Bundle} (small : SmallBundle b) where
 
   pub small-steps : (r : Step) → All Word (stepWords r) → SmallBundle (withSteps b (r ∷ []))
   small-steps r h = record {
+    version = small .version;
     symbols = small .symbols;
     variables = small .variables;
     terms = small .terms;
@@ -454,6 +460,7 @@ expanded-small b small fit =
     let v : SmallVisit (visited b) =
     visit-small fit (nodeAt b (b .left)) 0 b (node-small b small begins (b .left)) (omega arith) small (longer-refl (visited b .bundle)) in
     record {
+      version = v .bundle .version;
       symbols = v .bundle .symbols;
       variables = v .bundle .variables;
       terms = v .bundle .terms;

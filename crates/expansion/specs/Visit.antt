@@ -140,6 +140,7 @@ visited b = visit (nodeAt b (b .left)) 0 b
 -- a bundle with a claim
 abbrev pub claiming : Bundle → (left right : ℕ) → Bundle
 claiming b l r = record {
+  version = b .version;
   symbols = b .symbols;
   variables = b .variables;
   terms = b .terms;

@@ -59,6 +59,7 @@ bundle-same f w c h =
     let one : 1 * c .variables ≡ c .variables = omega arith in
     let variables : InPlace f w (variablesAt limits) (variablesAt c) (1 * c .variables) = rw one (h .section 1 (omega arith)) in
     λ i. record {
+      version = c .version;
       symbols = section-same symbolFrom 2 symbol-same (wordIn w) (wordAt f) (symbolsAt limits) (symbolsAt c) (c .symbols) (h .section 0 (omega arith)) i;
       variables = section-same (λ u. u 0) 1 variable-same (wordIn w) (wordAt f) (variablesAt limits) (variablesAt c) (c .variables) variables i;
       terms = section-same termFrom 4 term-same (wordIn w) (wordAt f) (termsAt limits) (termsAt c) (c .terms) (h .section 2 (omega arith)) i;

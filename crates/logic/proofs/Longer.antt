@@ -46,6 +46,7 @@ prefix-new d xs ys x p =
 
 pub longer-refl : (b : Bundle) → Longer b b
 longer-refl b = record {
+  version = refl;
   symbols = prefix-refl (b .symbols);
   variables = prefix-refl (b .variables);
   terms = prefix-refl (b .terms);
@@ -56,6 +57,7 @@ longer-refl b = record {
 
 pub longer-trans : {a b c : Bundle} → Longer a b → Longer b c → Longer a c
 longer-trans {a} {b} {c} p q = record {
+  version = q .version ∙ p .version;
   symbols = prefix-trans (a .symbols) (b .symbols) (c .symbols) (p .symbols) (q .symbols);
   variables = prefix-trans (a .variables) (b .variables) (c .variables) (p .variables) (q .variables);
   terms = prefix-trans (a .terms) (b .terms) (c .terms) (p .terms) (q .terms);
@@ -89,32 +91,32 @@ module _ (b : Bundle) where
   pub symbols-longer : (xs : List Symbol) → Longer b (withSymbols b xs)
   symbols-longer xs =
       let same = longer-refl b in
-      record { symbols = (xs, refl); variables = same .variables; terms = same .terms; links = same .links; contexts = same .contexts; steps = same .steps }
+      record { version = refl; symbols = (xs, refl); variables = same .variables; terms = same .terms; links = same .links; contexts = same .contexts; steps = same .steps }
 
   pub variables-longer : (xs : List ℕ) → Longer b (withVariables b xs)
   variables-longer xs =
       let same = longer-refl b in
-      record { symbols = same .symbols; variables = (xs, refl); terms = same .terms; links = same .links; contexts = same .contexts; steps = same .steps }
+      record { version = refl; symbols = same .symbols; variables = (xs, refl); terms = same .terms; links = same .links; contexts = same .contexts; steps = same .steps }
 
   pub terms-longer : (xs : List TermRecord) → Longer b (withTerms b xs)
   terms-longer xs =
       let same = longer-refl b in
-      record { symbols = same .symbols; variables = same .variables; terms = (xs, refl); links = same .links; contexts = same .contexts; steps = same .steps }
+      record { version = refl; symbols = same .symbols; variables = same .variables; terms = (xs, refl); links = same .links; contexts = same .contexts; steps = same .steps }
 
   pub links-longer : (xs : List Link) → Longer b (withLinks b xs)
   links-longer xs =
       let same = longer-refl b in
-      record { symbols = same .symbols; variables = same .variables; terms = same .terms; links = (xs, refl); contexts = same .contexts; steps = same .steps }
+      record { version = refl; symbols = same .symbols; variables = same .variables; terms = same .terms; links = (xs, refl); contexts = same .contexts; steps = same .steps }
 
   pub contexts-longer : (xs : List Context) → Longer b (withContexts b xs)
   contexts-longer xs =
       let same = longer-refl b in
-      record { symbols = same .symbols; variables = same .variables; terms = same .terms; links = same .links; contexts = (xs, refl); steps = same .steps }
+      record { version = refl; symbols = same .symbols; variables = same .variables; terms = same .terms; links = same .links; contexts = (xs, refl); steps = same .steps }
 
   pub steps-longer : (xs : List Step) → Longer b (withSteps b xs)
   steps-longer xs =
       let same = longer-refl b in
-      record { symbols = same .symbols; variables = same .variables; terms = same .terms; links = same .links; contexts = same .contexts; steps = (xs, refl) }
+      record { version = refl; symbols = same .symbols; variables = same .variables; terms = same .terms; links = same .links; contexts = same .contexts; steps = (xs, refl) }
 
   -- the record just appended, as every longer bundle B has it
   module _ {B : Bundle} where

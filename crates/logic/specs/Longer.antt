@@ -10,6 +10,7 @@ abbrev pub Prefix : {A : Type 0} → List A → List A → Type 0
 Prefix {A} xs ys = (more : List A) × (ys ≡ xs ++ more)
 
 pub record Longer (b b′ : Bundle) : Type 0 where
+  pub version : b′ .version ≡ b .version
   pub symbols : Prefix (b .symbols) (b′ .symbols)
   pub variables : Prefix (b .variables) (b′ .variables)
   pub terms : Prefix (b .terms) (b′ .terms)
@@ -19,10 +20,10 @@ pub record Longer (b b′ : Bundle) : Type 0 where
 
 -- ---- records appended to one section
 
--- the sections as they are given, the claim of b
+-- the sections as they are given, the version and the claim of b
 abbrev sections : Bundle → List Symbol → List ℕ → List TermRecord → List Link → List Context → List Step → Bundle
 sections b ss vs ts ls cs ps =
-    record { symbols = ss; variables = vs; terms = ts; links = ls; contexts = cs; steps = ps; left = b .left; right = b .right }
+    record { version = b .version; symbols = ss; variables = vs; terms = ts; links = ls; contexts = cs; steps = ps; left = b .left; right = b .right }
 
 module _ (b : Bundle) where
   abbrev pub withSymbols : List Symbol → Bundle

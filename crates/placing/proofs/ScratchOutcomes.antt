@@ -14,6 +14,7 @@ use native.Mathlib.Omega.{arith}
 use lib.ListN.{length, getD, length-append}
 use Rattle.bundle.specs.declared.Bundle.{Bundle as Counts}
 use Rattle.bundle.specs.Bundle.{Bundle, TermRecord, Context, Step}
+use Rattle.bundle.specs.File.{bundleBy}
 use Rattle.bundle.specs.Limits.{limits, Within}
 use Rattle.logic.specs.declared.Image.{Image}
 use Rattle.logic.specs.declared.Image.the-variants.{Gives}
@@ -37,11 +38,12 @@ pub record Known (w : List ℕ) (c : Counts) (b : Bundle) : Type 0 where
   pub ready : Ready w c
   pub bundle : bundleIn w c ≡ b
 
-pub counts-are : (w : List ℕ) (c : Counts) {b : Bundle} → c .version ≡ 1 → bundleIn w c ≡ b → c ≡ countsIn b
-counts-are w c v e =
+pub counts-are : (w : List ℕ) (c : Counts) {b : Bundle} → bundleIn w c ≡ b → c ≡ countsIn b
+unfolding bundleBy
+counts-are w c e =
     let z = sized-as w c e in
     λ i. record {
-      version = v i;
+      version = e i .version;
       symbols = sym (z .symbols) i;
       variables = sym (z .variables) i;
       terms = sym (z .terms) i;
@@ -52,10 +54,10 @@ counts-are w c v e =
 
 pub holds : (w : List ℕ) (c : Counts) {b : Bundle} → Roomy w c → c .version ≡ 1 → bundleIn w c ≡ b → StandsFor w b
 holds w c {b} r v e =
-    let k : c ≡ countsIn b = counts-are w c v e in
+    let k : c ≡ countsIn b = counts-are w c e in
     record {
       within = subst Within k (r .within);
-      ready = record { room = subst (Roomy w) k r; version = refl };
+      ready = record { room = subst (Roomy w) k r; version = sym (ap (λ (x : Counts). x .version) k) ∙ v };
       bundle = ap (bundleIn w) (sym k) ∙ e;
     }
 
@@ -66,16 +68,16 @@ known-of w c b h k = record { ready = subst (Ready w) (sym k) (h .ready); bundle
 
 module _ (w : List ℕ) (c : Counts) (r : Roomy w c) (v : c .version ≡ 1) where
   pub add-is : (b : Bundle) (vs : List ℕ) (n : ℕ) → bundleIn w c ≡ addList b vs → n ≡ listStart b vs → AddOutcome b vs w (Recorded.Done c n)
-  add-is b vs n e k = AddOutcome.done (holds w c r v e) (ap₂ Recorded.Done (counts-are w c v e) k)
+  add-is b vs n e k = AddOutcome.done (holds w c r v e) (ap₂ Recorded.Done (counts-are w c e) k)
 
   pub place-is : (p : unlimited.PlacedTerm) (n : ℕ) → bundleIn w c ≡ p .bundle → n ≡ p .term → PlaceOutcome p w (Recorded.Done c n)
-  place-is p n e k = PlaceOutcome.done (holds w c r v e) (ap₂ Recorded.Done (counts-are w c v e) k)
+  place-is p n e k = PlaceOutcome.done (holds w c r v e) (ap₂ Recorded.Done (counts-are w c e) k)
 
   pub open-is : (o : unlimited.OpenedContext) (n : ℕ) → bundleIn w c ≡ o .bundle → n ≡ o .context → OpenOutcome o w (Recorded.Done c n)
-  open-is o n e k = OpenOutcome.done (holds w c r v e) (ap₂ Recorded.Done (counts-are w c v e) k)
+  open-is o n e k = OpenOutcome.done (holds w c r v e) (ap₂ Recorded.Done (counts-are w c e) k)
 
   pub visit-is : (u : Visit) (n : ℕ) → bundleIn w c ≡ u .bundle → n ≡ u .step → VisitOutcome u w (Visited.Done c (u .result) n)
-  visit-is u n e k = VisitOutcome.done (holds w c r v e) (ap₂ (λ (d : Counts) (m : ℕ). Visited.Done d (u .result) m) (counts-are w c v e) k)
+  visit-is u n e k = VisitOutcome.done (holds w c r v e) (ap₂ (λ (d : Counts) (m : ℕ). Visited.Done d (u .result) m) (counts-are w c e) k)
 
 -- ---- what a call was: done or full
 
@@ -153,7 +155,7 @@ placed-word w c b vs r zero l k =
 placed-word w c b vs r (suc n) l k = omega (arith, k .ready .room .within .terms, sized-as w c (k .bundle) .terms)
 
 -- the term that an image gives
-pub given-word : (w : List ℕ) (c : Counts) → ((i : ℕ) → Word (getD w i 0)) → (x y t : ℕ) → image (bundleIn w c) x y ≡ Gives t → t ≤ 4294967295
-given-word w c h x y t e =
-    let k : Word (imageTerm (image (bundleIn w c) x y) 0) = image-small (memory-small (wordIn w) limits c h) x y 0 (omega arith) in
+pub given-word : (w : List ℕ) (c : Counts) → c .version ≡ 1 → ((i : ℕ) → Word (getD w i 0)) → (x y t : ℕ) → image (bundleIn w c) x y ≡ Gives t → t ≤ 4294967295
+given-word w c v h x y t e =
+    let k : Word (imageTerm (image (bundleIn w c) x y) 0) = image-small (memory-small (wordIn w) limits c (omega (arith, v)) h) x y 0 (omega arith) in
     omega (arith, k, ap (λ (i : Image). imageTerm i 0) e)

@@ -101,13 +101,13 @@ module _ (w v : List ℕ) (c : Counts) where
   steps-kept = rows-kept stepFrom 5 step-same w v (stepsAt limits) (c .steps)
 
 -- a bundle of its parts, part by part
-abbrev bundle : List Symbol → List ℕ → List TermRecord → List Link → List Context → List Step → ℕ → ℕ → Bundle
-bundle ss vs ts ls cs ps l r = record { symbols = ss; variables = vs; terms = ts; links = ls; contexts = cs; steps = ps; left = l; right = r }
+abbrev bundle : ℕ → List Symbol → List ℕ → List TermRecord → List Link → List Context → List Step → ℕ → ℕ → Bundle
+bundle n ss vs ts ls cs ps l r = record { version = n; symbols = ss; variables = vs; terms = ts; links = ls; contexts = cs; steps = ps; left = l; right = r }
 
-pub bundle-path : {ss ss′ : List Symbol} {vs vs′ : List ℕ} {ts ts′ : List TermRecord} {ls ls′ : List Link} {cs cs′ : List Context} {ps ps′ : List Step} {l l′ r r′ : ℕ}
+pub bundle-path : {n : ℕ} {ss ss′ : List Symbol} {vs vs′ : List ℕ} {ts ts′ : List TermRecord} {ls ls′ : List Link} {cs cs′ : List Context} {ps ps′ : List Step} {l l′ r r′ : ℕ}
     → ss ≡ ss′ → vs ≡ vs′ → ts ≡ ts′ → ls ≡ ls′ → cs ≡ cs′ → ps ≡ ps′ → l ≡ l′ → r ≡ r′
-    → bundle ss vs ts ls cs ps l r ≡ bundle ss′ vs′ ts′ ls′ cs′ ps′ l′ r′
-bundle-path s v t k c p l r = λ i. record { symbols = s i; variables = v i; terms = t i; links = k i; contexts = c i; steps = p i; left = l i; right = r i }
+    → bundle n ss vs ts ls cs ps l r ≡ bundle n ss′ vs′ ts′ ls′ cs′ ps′ l′ r′
+bundle-path {n} s v t k c p l r = λ i. record { version = n; symbols = s i; variables = v i; terms = t i; links = k i; contexts = c i; steps = p i; left = l i; right = r i }
 
 -- the counts with those of the sections that can be appended to as they are given
 abbrev pub counted : Counts → ℕ → ℕ → ℕ → ℕ → ℕ → Counts

@@ -20,7 +20,7 @@ use Rattle.scratch.proofs.Halves.{halves-none, halves-more}
 
 pub add-none : (b : Bundle) → addList b [] ≡ b
 unfolding consecutive
-add-none b = ap (λ (ls : List Link). record { symbols = b .symbols; variables = b .variables; terms = b .terms; links = ls; contexts = b .contexts; steps = b .steps; left = b .left; right = b .right }) (append-nil (b .links))
+add-none b = ap (λ (ls : List Link). record { version = b .version; symbols = b .symbols; variables = b .variables; terms = b .terms; links = ls; contexts = b .contexts; steps = b .steps; left = b .left; right = b .right }) (append-nil (b .links))
 
 pub add-more : (b : Bundle) (v next : ℕ) (vs : List ℕ) → next ≡ startOf (suc (suc (length (b .links)))) vs
     → addList (withLinks b (record { value = v; next = next } ∷ [])) vs ≡ addList b (v ∷ vs)

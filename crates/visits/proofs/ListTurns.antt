@@ -54,7 +54,7 @@ list-none {w} {s} {n} {Γ} {h} {o} {l} asks z = record { long = refl; kept = bel
   where
     go : (ns : Nodes) → StandAll (bundleIn w n) o l ns → ListOutcome (visitAll ns Γ (bundleIn w n)) h w s (Listed.Done n h)
     go nil k =
-        let e : n ≡ countsIn (bundleIn w n) = counts-are w n (asks .ready .version) refl in
+        let e : n ≡ countsIn (bundleIn w n) = counts-are w n refl in
         let m : h ≡ h + 0 = omega arith in
         ListOutcome.done (holds w n (asks .ready .room) (asks .ready .version) refl) (λ i. Listed.Done (e i) (m i)) (halves-none true s h (h + 0) (omega arith)) (halves-none false s h (h + 0) (omega arith))
     go (cons τ ns) k = absurd (omega (arith, k .0 .0, z))

@@ -30,7 +30,7 @@ conclude-alone-requires-2 c κs =
       omega arith,
       s .pre .1,
       s .pre .2,
-      given-word (a .words .now) (a .c) (λ j. omega (arith, c .before .before .before .before .before .before .slice-known .given j)) (a .context) (a .x) _ (sym (i .ensures) ∙ g .1),
+      given-word (a .words .now) (a .c) (s .pre .0 .version) (λ j. omega (arith, c .before .before .before .before .before .before .slice-known .given j)) (a .context) (a .x) _ (sym (i .ensures) ∙ g .1),
     )
 
 same-length : tie.Need-same-length
