@@ -22,7 +22,6 @@ use Rattle.bundle.specs.Limits.{bytesOf, Within, withinOf}
 use Rattle.bundle.specs.File.{bundleAt, bundleOf, countsOf}
 use Rattle.bundle.proofs.Limits.{within-all, within-true, within-words}
 use Rattle.logic.specs.declared.Fault.{Fault}
-use Rattle.logic.specs.Lists.{Number}
 use Rattle.logic.specs.WellFormed.{TablesFormed}
 use Rattle.logic.specs.Tests.{Test, test, firstFailing, fault, orElse}
 use Rattle.logic.specs.Checks.{headerFault, sectionsFault, tablesFault}
