@@ -1,7 +1,7 @@
 -- The limits of the counts, the places of the sections, and the length that the counts give. `Counts` are those of the code's `Bundle`.
 use Prim.Native.Nat.{ℕ, zero, suc, _+_, _*_, _≤_}
 use mathlib.Core.Bool.{Bool, _&&_}
-use mathlib.Core.List.{List, [], _∷_}
+use mathlib.Core.List.{[], _∷_}
 use lib.Dec.{leb}
 use lib.ListN.{getD}
 use Rattle.bundle.specs.declared.Bundle.{Bundle as Counts}

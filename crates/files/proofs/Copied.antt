@@ -1,25 +1,23 @@
 -- Words of a file copied to a place of the scratch: the words before it, the n words of the file from word k on, the words after them.
---     length-wordsFrom, getD-wordsFrom     words of a file, one after another
---     copied-none, copied-more             a copy of none, and of one word more
---     length-copied                        a copy keeps the length
---     getD-copied, getD-copied-below, getD-copied-above     a word that was copied, one before those, one after them
+--     copied-none, copied-more          a copy of none, and of one word more
+--     getD-copied, getD-copied-below    a word that was copied, and one before those
 use mathlib.Core.Path.{_≡_, refl, sym, ap, _∙_}
 use mathlib.Core.List.{List, [], _∷_, _++_, append-assoc}
 use Prim.Native.Nat.{ℕ, zero, suc, _+_, _<_, _≤_}
 use native.Mathlib.Nat.{add-zero, add-suc, not-suc-le-zero, le-of-suc-le-suc}
 use native.Mathlib.Numerals.{add-one}
 use native.Mathlib.Omega.{arith}
-use lib.ListN.{length, getD, set, take, drop, length-append, length-drop, take-append-drop, List·getD-append}
-use lib.Seq.{length-take-le, drop-cons, set-at, getD-append-add, getD-take, getD-drop}
+use lib.ListN.{length, getD, set, take, drop, length-append, take-append-drop, List·getD-append}
+use lib.Seq.{length-take-le, drop-cons, set-at, getD-append-add, getD-take}
 use Rattle.bundle.specs.Words.{wordAt}
 use Rattle.files.specs.Copies.{wordsFrom, copied}
 
-pub length-wordsFrom : (f : List ℕ) (k n : ℕ) → length (wordsFrom f k n) ≡ n
+length-wordsFrom : (f : List ℕ) (k n : ℕ) → length (wordsFrom f k n) ≡ n
 unfolding wordsFrom
 length-wordsFrom f k zero = refl
 length-wordsFrom f k (suc n) = ap suc (length-wordsFrom f (suc k) n)
 
-pub getD-wordsFrom : (f : List ℕ) (k n j : ℕ) → j < n → getD (wordsFrom f k n) j 0 ≡ wordAt f (k + j)
+getD-wordsFrom : (f : List ℕ) (k n j : ℕ) → j < n → getD (wordsFrom f k n) j 0 ≡ wordAt f (k + j)
 unfolding wordsFrom
 getD-wordsFrom f k zero j l = absurd (not-suc-le-zero l)
 getD-wordsFrom f k (suc n) zero l = rw add-zero
@@ -54,11 +52,6 @@ module _ (w : List ℕ) (to : ℕ) (f : List ℕ) (k n : ℕ) where
       rw (← append-assoc, drop-cons w (to + n) 0, add-one n, wordsFrom-more)
       (set-at (take to w ++ wordsFrom f k n) (getD w (to + n) 0) (drop (suc (to + n)) w) (wordAt f (k + n)) (to + n) (head-length h) ∙ simp (append-assoc, add-suc))
 
-  pub length-copied : to + n ≤ length w → length (copied w to f k n) ≡ length w
-  length-copied room =
-      let h : to ≤ length w = omega arith in
-      rw (← append-assoc, length-append, head-length h, length-drop) (omega arith)
-
   pub getD-copied : (j : ℕ) → to ≤ length w → j < n → getD (copied w to f k n) (to + j) 0 ≡ wordAt f (k + j)
   getD-copied j h l =
       let in-words : j < length (wordsFrom f k n) = omega (arith, length-wordsFrom f k n) in
@@ -71,8 +64,3 @@ module _ (w : List ℕ) (to : ℕ) (f : List ℕ) (k n : ℕ) where
       let in-take : j < length (take to w) = omega (arith, length-take-le to w h) in
       List·getD-append (take to w) (wordsFrom f k n ++ drop (to + n) w) 0 j in-take
       ∙ getD-take to w j 0 l
-
-  pub getD-copied-above : (j : ℕ) → to ≤ length w → getD (copied w to f k n) (to + n + j) 0 ≡ getD w (to + n + j) 0
-  getD-copied-above j h =
-      rw (← append-assoc) (seam (take to w ++ wordsFrom f k n) (drop (to + n) w) (to + n) j (head-length h))
-      ∙ getD-drop (to + n) w j 0

@@ -1,7 +1,6 @@
 -- Words stored as bytes, one list of words after another.
---     encode-append                the bytes of words, one list after another
 --     stored-none, stored-on     no word stored, and words after words
---     word-stored                 four stores of a byte store a word
+--     word-stored                four stores of a byte store a word
 use mathlib.Core.Path.{_≡_, refl, ap, _∙_}
 use mathlib.Core.List.{List, [], _∷_, _++_, append-assoc, append-nil}
 use Prim.Native.Nat.{ℕ, suc, _+_, _*_, _/_, _%_, _≤_}
@@ -12,7 +11,7 @@ use lib.Seq.{length-take-le, take-at, sets-eq, length-sets}
 use Rattle.bundle.specs.Words.{encode}
 use Rattle.files.specs.Stores.{WordsStored}
 
-pub encode-append : (xs ys : List ℕ) → encode (xs ++ ys) ≡ encode xs ++ encode ys
+encode-append : (xs ys : List ℕ) → encode (xs ++ ys) ≡ encode xs ++ encode ys
 unfolding encode
 encode-append [] ys = refl
 encode-append (x ∷ xs) ys = rw (encode-append xs ys)

@@ -1,6 +1,6 @@
 // The job's way into the scratch.
 ghost use mathlib.Core.Path.{_≡_};
-ghost use Prim.Native.Nat.{_*_, _≤_};
+ghost use Prim.Native.Nat.{_≤_};
 ghost use lib.ListN.{length};
 ghost use Rattle.bundle.specs.Limits.{limits, wordsOf};
 ghost use Rattle.bundle.specs.File.{Whole, bundleAt};

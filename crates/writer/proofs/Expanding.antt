@@ -1,6 +1,7 @@
 -- The answer of the expansion, as the code comes to it.
 --     refused-early, refused-late             a check of 1 to 9 fails; 18, 15 or 17 does
---     job-formed, visit-asks, visit-is        what the visit to the rule asks for, and what it gives, where none of those fails
+--     Begun                                   none of those does, and the job is in the scratch
+--     job-formed, visit-asks, visit-is        what the visit to the rule asks for then, and what it gives
 --     Told, told-done, told-full              what the visit's answer says
 --     refused-full, written                   16 fails; no check does
 --     bytes-of, right-small                   the result's term is a word of 32 bits
@@ -21,7 +22,6 @@ use Rattle.bundle.specs.Limits.{bytesOf, Within, withinOf}
 use Rattle.bundle.specs.File.{bundleBy, bundleAt, bundleOf, countsOf}
 use Rattle.bundle.proofs.Limits.{within-all, within-true, within-words}
 use Rattle.logic.specs.declared.Fault.{Fault}
-use Rattle.logic.specs.Lists.{Number}
 use Rattle.logic.specs.WellFormed.{HeaderFormed, TablesFormed}
 use Rattle.logic.specs.Tests.{Test, test, firstFailing, fault, orElse}
 use Rattle.logic.specs.Checks.{headerFault, sectionsFault, tablesFault}
@@ -107,6 +107,14 @@ right-small f bytes t =
 
 -- ---- the job f, and areas of these lengths
 
+-- no check of 1 to 9 fails, nor do 18, 15, 17; the scratch w holds the job; c and left are what the code has read
+pub record Begun (f : List ℕ) (out words sets : ℕ) (w : List ℕ) (c : Counts) (left : ℕ) : Type 0 where
+  pub none : tablesFault f (longEnough out words sets) 3 .number ≡ 0
+  pub early : firstFailing (earlyTests (bundleOf f)) ≡ 0
+  pub counted : c ≡ countsOf f
+  pub read : left ≡ wordAt f 7
+  pub copied : bundleIn w c ≡ bundleAt f c
+
 module _ (f : List ℕ) (out words sets : ℕ) where
   refused : (m i : ℕ) → (m ≡ 0 → ⊥) → jobFault f out words sets ≡ fault m i → Refused m i ≡ expansion f out words sets .answer
   unfolding expansion outcomeOf
@@ -144,59 +152,59 @@ module _ (f : List ℕ) (out words sets : ℕ) where
     refused-late m e ne =
         refused-number m ne (failing-early (test 16 (withinOf (countsIn (visited (bundleOf f) .bundle))) ∷ []) (earlyTests (bundleOf f)) (λ z. ne (e ∙ z)) ∙ sym e)
 
-    -- nor do 18, 15, 17
-    module _ (early : firstFailing (earlyTests (bundleOf f)) ≡ 0) where
-      left-known : Number (length (bundleOf f .terms)) (bundleOf f .left)
-      left-known = numbers-of (length (bundleOf f .terms)) (bundleOf f .left) (failing-none (earlyTests (bundleOf f)) refl early .1 .0)
+module _ {f : List ℕ} {out words sets : ℕ} {w : List ℕ} {c : Counts} {left : ℕ} (b : Begun f out words sets w c left) where
+  last-is : firstFailing (jobTests (bundleOf f)) ≡ cond (withinOf (countsIn (visited (bundleOf f) .bundle))) 0 16
+  unfolding firstFailing
+  last-is = failing-late (test 16 (withinOf (countsIn (visited (bundleOf f) .bundle))) ∷ []) (earlyTests (bundleOf f)) refl (b .early)
 
-      last-is : firstFailing (jobTests (bundleOf f)) ≡ cond (withinOf (countsIn (visited (bundleOf f) .bundle))) 0 16
-      unfolding firstFailing
-      last-is = failing-late (test 16 (withinOf (countsIn (visited (bundleOf f) .bundle))) ∷ []) (earlyTests (bundleOf f)) refl early
+  pub refused-full : TooMuch (visited (bundleOf f) .bundle) → Refused 16 0 ≡ expansion f out words sets .answer
+  refused-full h =
+      refused-number f out words sets (b .none) 16 (λ z. omega arith)
+      (last-is ∙ rw (off (withinOf (countsIn (visited (bundleOf f) .bundle))) (λ e. h (within-all (countsIn (visited (bundleOf f) .bundle)) e))))
 
-      pub refused-full : TooMuch (visited (bundleOf f) .bundle) → Refused 16 0 ≡ expansion f out words sets .answer
-      refused-full h =
-          refused-number 16 (λ z. omega arith)
-          (last-is ∙ rw (off (withinOf (countsIn (visited (bundleOf f) .bundle))) (λ e. h (within-all (countsIn (visited (bundleOf f) .bundle)) e))))
+  written : Within (countsIn (visited (bundleOf f) .bundle)) → Written (length (fileOf (expanded (bundleOf f)))) ≡ expansion f out words sets .answer
+  unfolding expansion outcomeOf
+  written h =
+      let e : jobFault f out words sets ≡ fault 0 0 = late-is f out words sets (b .none)
+      ∙ orElse-on (firstFailing (jobTests (bundleOf f))) 0 (fault 0 0) (last-is ∙ rw (within-true (countsIn (visited (bundleOf f) .bundle)) h)) in
+      sym (ap (λ (r : Fault). outcomeOf (bundleOf f) r (r .number) out words sets .answer) e)
 
-      pub written : Within (countsIn (visited (bundleOf f) .bundle)) → Written (length (fileOf (expanded (bundleOf f)))) ≡ expansion f out words sets .answer
-      unfolding expansion outcomeOf
-      written h =
-          let e : jobFault f out words sets ≡ fault 0 0 = late-is
-          ∙ orElse-on (firstFailing (jobTests (bundleOf f))) 0 (fault 0 0) (last-is ∙ rw (within-true (countsIn (visited (bundleOf f) .bundle)) h)) in
-          sym (ap (λ (r : Fault). outcomeOf (bundleOf f) r (r .number) out words sets .answer) e)
+  bundle-is : bundleIn w c ≡ bundleOf f
+  unfolding bundleOf
+  bundle-is = b .copied ∙ ap (bundleAt f) (b .counted)
 
-      -- The scratch w holds the job; c and left are what the code has read. The stack is s.
-      module _ (w s : List ℕ) (c : Counts) (left : ℕ) (counted : c ≡ countsOf f) (read : left ≡ wordAt f 7) (copied : bundleIn w c ≡ bundleAt f c) where
-        bundle-is : bundleIn w c ≡ bundleOf f
-        unfolding bundleOf
-        bundle-is = copied ∙ ap (bundleAt f) counted
+  left-is : left ≡ bundleOf f .left
+  unfolding bundleOf bundleBy
+  left-is = b .read
 
-        left-is : left ≡ bundleOf f .left
-        unfolding bundleOf bundleBy
-        left-is = read
+  visit-stands : Stands (bundleIn w c) left (nodeAt (bundleIn w c) left)
+  visit-stands =
+      let known = numbers-of (length (bundleOf f .terms)) (bundleOf f .left) (failing-none (earlyTests (bundleOf f)) refl (b .early) .1 .0) in
+      rw (bundle-is, left-is) (stands-at (bundleOf f) (tables-formed f out words sets (b .none)) (bundleOf f .left) known)
 
-        visit-stands : Stands (bundleIn w c) left (nodeAt (bundleIn w c) left)
-        visit-stands = rw (bundle-is, left-is) (stands-at (bundleOf f) tables-formed (bundleOf f .left) left-known)
+  pub job-formed : TablesFormed (bundleIn w c)
+  job-formed = rw bundle-is (tables-formed f out words sets (b .none))
 
-        pub job-formed : TablesFormed (bundleIn w c)
-        job-formed = rw bundle-is tables-formed
+  -- the stack is s
+  pub visit-asks : {s : List ℕ} → length w ≡ words → length s ≡ sets → TermAsks w s c 0 0 left
+  visit-asks scratch stack =
+      let header = header-formed f out words sets (b .none) in
+      let long = areas-long f out words sets (b .none) in
+      record {
+        ready = record {
+          room = record { within = rw (b .counted) (header .whole .within); long = omega (arith, long .scratch, scratch) };
+          version = rw (b .counted) (header .version);
+        };
+        pending = record { places = omega (arith, long .stack, stack); height = omega arith };
+        context = omega arith;
+        standing = nodeAt (bundleIn w c) left;
+        stands = visit-stands;
+      }
 
-        pub visit-asks : length w ≡ words → length s ≡ sets → TermAsks w s c 0 0 left
-        visit-asks scratch stack = record {
-          ready = record {
-            room = record { within = rw counted (header-formed .whole .within); long = omega (arith, areas-long .scratch, scratch) };
-            version = rw counted (header-formed .version);
-          };
-          pending = record { places = omega (arith, areas-long .stack, stack); height = omega arith };
-          context = omega arith;
-          standing = nodeAt (bundleIn w c) left;
-          stands = visit-stands;
-        }
-
-        pub visit-is : (w′ : List ℕ) (r : Visited) → ((τ : Node) → Stands (bundleIn w c) left τ → VisitOutcome (visit τ 0 (bundleIn w c)) w′ r)
-            → VisitOutcome (visited (bundleOf f)) w′ r
-        unfolding visited
-        visit-is w′ r o = rw (bundle-is, left-is) at (o (nodeAt (bundleIn w c) left) visit-stands)
+  pub visit-is : (w′ : List ℕ) (r : Visited) → ((τ : Node) → Stands (bundleIn w c) left τ → VisitOutcome (visit τ 0 (bundleIn w c)) w′ r)
+      → VisitOutcome (visited (bundleOf f)) w′ r
+  unfolding visited
+  visit-is w′ r o = rw (bundle-is, left-is) at (o (nodeAt (bundleIn w c) left) visit-stands)
 
 -- ---- what is left before the zeros are written
 
@@ -212,20 +220,14 @@ module _ (f out words sets out′ words′ sets′ : List ℕ) (o : length out�
   }
 
   -- the visit was done, with the counts d and the result x, and the scratch v; the file was stored, n bytes long
-  module _ (none : tablesFault f (longEnough (length out) (length words) (length sets)) 3 .number ≡ 0) (early : firstFailing (earlyTests (bundleOf f)) ≡ 0)
-      (v : List ℕ) (d : Counts) (left x n : ℕ) (read : left ≡ wordAt f 7) (t : Told (visited (bundleOf f)) v d x) (size : n ≡ bytesOf d)
-      (stored : take (bytesOf d) out′ ≡ fileOf (claiming (bundleIn v d) left x)) where
+  module _ {u : List ℕ} {c : Counts} {left : ℕ} (b : Begun f (length out) (length words) (length sets) u c left) (v : List ℕ) (d : Counts) (x n : ℕ)
+      (t : Told (visited (bundleOf f)) v d x) (size : n ≡ bytesOf d) (stored : take (bytesOf d) out′ ≡ fileOf (claiming (bundleIn v d) left x)) where
     holds-bundle : bundleIn v d ≡ visited (bundleOf f) .bundle
     holds-bundle = rw (t .counts) (t .holds .bundle)
 
-    -- the claim's left is the job's
-    left-of : left ≡ bundleOf f .left
-    unfolding bundleOf bundleBy
-    left-of = read
-
     file-is : fileOf (claiming (bundleIn v d) left x) ≡ fileOf (expanded (bundleOf f))
     unfolding expanded
-    file-is = λ i. fileOf (claiming (holds-bundle i) (left-of i) (t .result i))
+    file-is = λ i. fileOf (claiming (holds-bundle i) (left-is b i) (t .result i))
 
     size-is : n ≡ length (fileOf (expanded (bundleOf f)))
     unfolding expanded
@@ -234,11 +236,11 @@ module _ (f out words sets out′ words′ sets′ : List ℕ) (o : length out�
     fits : n ≤ length out
     fits =
         let within : Within d = rw (t .counts) (t .holds .within) in
-        omega (arith, size, within-words d within, areas-long f (length out) (length words) (length sets) none .output)
+        omega (arith, size, within-words d within, areas-long f (length out) (length words) (length sets) (b .none) .output)
 
     pub stored-written : Stored f out words sets out′ words′ sets′ (Written n)
     stored-written = record {
-      answer = ap Written size-is ∙ written f (length out) (length words) (length sets) none early (t .holds .within);
+      answer = ap Written size-is ∙ written b (t .holds .within);
       output = o;
       scratch = w;
       stack = s;

@@ -66,7 +66,9 @@ loop-holds c =
     )
 
 extent-requires : tie.Need-extent-requires Inv-loop μ-loop
-extent-requires c κs = (c .before .before .before .before .before .before .before .before .before .before .before .before .before .pre .0 .room .within, omega arith)
+extent-requires c κs =
+    let a = c .before .before .before .before .before .before .before .before .before .before .before .before .before in
+    (a .pre .0 .room .within, omega arith)
 
 extent-requires-2 : tie.Need-extent-requires-2 Inv-loop μ-loop
 extent-requires-2 c κs = (rw (room-is (c .before)) limits-within, omega arith)
