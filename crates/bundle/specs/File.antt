@@ -6,7 +6,7 @@ use lib.ListN.{length}
 use Rattle.bundle.specs.declared.Bundle.{Bundle as Counts}
 use Rattle.bundle.specs.Words.{wordAt}
 use Rattle.bundle.specs.Bundle.{Symbol, Link, TermRecord, Context, Step, Bundle}
-use Rattle.bundle.specs.Limits.{headerWords, symbolsAt, variablesAt, termsAt, linksAt, contextsAt, stepsAt, bytesOf, Within}
+use Rattle.bundle.specs.Limits.{headerWords, leftWord, rightWord, symbolsAt, variablesAt, termsAt, linksAt, contextsAt, stepsAt, bytesOf, Within}
 
 -- each count is within its limit, and the file is as long as the counts say: all that a reader of records asks for
 pub record Whole (f : List ℕ) (c : Counts) : Type 0 where
@@ -49,8 +49,8 @@ bundleBy word places c = record {
   links = tab (λ j. linkFrom (recordBy word (linksAt places) 2 j)) (c .links);
   contexts = tab (λ j. contextFrom (recordBy word (contextsAt places) 4 j)) (c .contexts);
   steps = tab (λ j. stepFrom (recordBy word (stepsAt places) 5 j)) (c .steps);
-  left = word 7;
-  right = word 8;
+  left = word leftWord;
+  right = word rightWord;
 }
 
 -- THE TIE: the bundle that a file of these counts stands for. Its sections stand one right after another.

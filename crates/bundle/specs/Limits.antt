@@ -29,6 +29,13 @@ headerLength = 9
 abbrev pub leastBytes : ℕ
 leastBytes = 4 * headerLength
 
+-- the words of the header that are the claim, its left term and its right term
+abbrev pub leftWord : ℕ
+leftWord = 7
+
+abbrev pub rightWord : ℕ
+rightWord = 8
+
 -- words of the header of a file of a version
 unfoldable pub headerWords : ℕ → ℕ
 headerWords version = headerLength

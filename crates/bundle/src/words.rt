@@ -3,7 +3,7 @@ ghost use mathlib.Core.Path.{_≡_};
 ghost use Prim.Native.Nat.{_+_, _*_, _≤_};
 ghost use lib.ListN.{length};
 ghost use Rattle.bundle.specs.Words.{joinedOf, wordAt};
-ghost use Rattle.bundle.specs.Limits.{leastBytes, headerWords};
+ghost use Rattle.bundle.specs.Limits.{leastBytes, headerWords, leftWord, rightWord};
 ghost use Rattle.bundle.specs.File.{countsOf};
 use super::Bundle;
 
@@ -36,6 +36,21 @@ pub fn word_at(file: &[u8], k: usize) -> usize
 {
     let a = 4 * k;
     wide(joined(file[a], file[a + 1], file[a + 2], file[a + 3]))
+}
+
+// The claim's left term, and its right term, as the header has them.
+pub fn claim_left(file: &[u8]) -> usize
+    requires { ⌜ leastBytes ≤ length (now file) ⌝ }
+    ensures { λ r. ⌜ (r ≡ wordAt (now (file .entry)) leftWord) × (r ≤ 4294967295) ⌝ }
+{
+    word_at(file, 7)
+}
+
+pub fn claim_right(file: &[u8]) -> usize
+    requires { ⌜ leastBytes ≤ length (now file) ⌝ }
+    ensures { λ r. ⌜ (r ≡ wordAt (now (file .entry)) rightWord) × (r ≤ 4294967295) ⌝ }
+{
+    word_at(file, 8)
 }
 
 // The words of the header of a file of a version. Every place is computed from it.

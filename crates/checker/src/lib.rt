@@ -13,6 +13,8 @@ ghost use Rattle.images.specs.ContextRows.{Images, MovedSets};
 ghost use Rattle.judgement.specs.Judge.{claimTests, lentFor, lateFault, faultOf, judge, areaAfter};
 use bundle::Bundle;
 use bundle::records::step_field;
+use bundle::words::claim_left;
+use bundle::words::claim_right;
 use bundle::words::counts;
 use bundle::words::word_at;
 use declarations::header::header_fault;
@@ -40,8 +42,8 @@ fn claim_fault(file: &[u8], b: Bundle) -> usize
     let context = step_field(file, b, steps, 1);
     let left = step_field(file, b, steps, 2);
     let right = step_field(file, b, steps, 3);
-    let claimed_left = word_at(file, 7);
-    let claimed_right = word_at(file, 8);
+    let claimed_left = claim_left(file);
+    let claimed_right = claim_right(file);
     if (0 < steps) & (context == 0) & (left == claimed_left) & (right == claimed_right) {
         0
     } else {
@@ -148,7 +150,7 @@ pub fn check(file: &[u8], free: &mut [u64]) -> Answer
         };
     }
     Answer::Accepted(Acceptance {
-        left: word_at(file, 7),
-        right: word_at(file, 8),
+        left: claim_left(file),
+        right: claim_right(file),
     })
 }

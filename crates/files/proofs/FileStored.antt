@@ -76,11 +76,10 @@ module _ (w : List ℕ) (c : Counts) (left right : ℕ) where
   abbrev claimed : Bundle
   claimed = claiming (bundleIn w c) left right
 
-  header-words : c .version ≡ 1
-      → c .version ∷ c .symbols ∷ c .variables ∷ c .terms ∷ c .links ∷ c .contexts ∷ c .steps ∷ left ∷ right ∷ [] ≡ wordsTo claimed 0
-  unfolding wordsTo
-  header-words one =
-      sym (λ i. sym one i
+  header-words : c .version ∷ c .symbols ∷ c .variables ∷ c .terms ∷ c .links ∷ c .contexts ∷ c .steps ∷ left ∷ right ∷ [] ≡ wordsTo claimed 0
+  unfolding wordsTo bundleBy
+  header-words =
+      sym (λ i. c .version
       ∷ sized-in w c .symbols i
       ∷ sized-in w c .variables i
       ∷ sized-in w c .terms i
@@ -106,12 +105,12 @@ module _ (w : List ℕ) (c : Counts) (left right : ℕ) where
   section-words room (suc (suc (suc (suc (suc (suc s)))))) = refl
 
   -- the code gives the header as h
-  pub header-stored : {o o′ h : List ℕ} → c .version ≡ 1
+  pub header-stored : {o o′ h : List ℕ}
       → h ≡ c .version ∷ c .symbols ∷ c .variables ∷ c .terms ∷ c .links ∷ c .contexts ∷ c .steps ∷ left ∷ right ∷ []
       → WordsStored o 0 headerLength (take headerLength h) o′ → WordsStored o′ 0 (placeOf c 0) (wordsTo claimed 0) o′
   unfolding headerWords placeOf
-  header-stored one is e =
-      record { long = refl; bytes = e .bytes ∙ ap (λ (h : List ℕ). encode (take headerLength h)) is ∙ ap encode (header-words one) }
+  header-stored is e =
+      record { long = refl; bytes = e .bytes ∙ ap (λ (h : List ℕ). encode (take headerLength h)) is ∙ ap encode header-words }
 
   pub section-stored : {o o′ o″ : List ℕ} → Roomy w c → (s : ℕ) → WordsStored o 0 (placeOf c s) (wordsTo claimed s) o′
       → WordsStored o′ (placeOf c s) (placeOf c s + extentOf c s) (take (extentOf c s) (drop (placeOf limits s) w)) o″

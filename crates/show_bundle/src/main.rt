@@ -2,8 +2,9 @@
 // With the argument --dot it prints its steps as a graph, for Graphviz; the rest is comments there.
 ghost use Rattle.bundle.specs.File.{Whole};
 use bundle::Bundle;
+use bundle::words::claim_left;
+use bundle::words::claim_right;
 use bundle::words::counts;
-use bundle::words::word_at;
 use judgement::Answer;
 use show_text::out;
 
@@ -102,8 +103,8 @@ fn show_file(file: &[u8], answer: Answer, is_dot: bool) {
         return;
     }
     let b = counts(file);
-    let left = word_at(file, 7);
-    let right = word_at(file, 8);
+    let left = claim_left(file);
+    let right = claim_right(file);
     header_line(b, left, right, is_dot);
     if b.version != 1 {
         show_foreign(b.version, answer, is_dot);

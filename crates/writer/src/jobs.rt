@@ -8,7 +8,8 @@ ghost use Rattle.sets.specs.Sets.{member};
 ghost use Rattle.logic.specs.Tests.{upTo, firstFailing};
 ghost use Rattle.expansion.specs.Expansion.{earlyTests};
 use bundle::Bundle;
-use bundle::words::word_at;
+use bundle::words::claim_left;
+use bundle::words::claim_right;
 
 // Whether no variable up to v is in the set at word `at`.
 fn is_closed(sets: &[u64], at: usize, n: usize, variables: usize) -> bool
@@ -30,8 +31,8 @@ pub fn job_fault(job: &[u8], b: Bundle, sets: &mut [u64]) -> usize
     requires { ⌜ Whole (now job) b × (b .terms ≤ length (now sets)) ⌝ }
     ensures { λ r. ⌜ (length (now (sets .exit)) ≡ length (now (sets .entry))) × (r ≡ firstFailing (earlyTests (bundleAt (now (job .entry)) b))) ⌝ }
 {
-    let left = word_at(job, 7);
-    let right = word_at(job, 8);
+    let left = claim_left(job);
+    let right = claim_right(job);
     let contexts = b.contexts;
     let steps = b.steps;
     let terms = b.terms;

@@ -25,7 +25,7 @@ fn store_job(job: &[u8], out: &mut [u8], words: &mut [u32], sets: &mut [u64]) ->
         return Answer::Refused { number, record: 0 };
     }
     files::copies::copy_job(job, b, words);
-    let left = bundle::words::word_at(job, 7);
+    let left = bundle::words::claim_left(job);
     let visited = visits::visits::visit_job(words, sets, b, left);
     match visited {
         Visited::Full => Answer::Refused {

@@ -24,11 +24,11 @@ returns c =
       area-zeros _ _ _ (f .fault-of .ensures .0) _ _ (t .if1 .taken) (search needs) (w .clear .ensures),
     )
 
-word-at-requires : tie.Need-word-at-requires
-word-at-requires c κs = omega (arith, header-there _ _ _ (c .before .before .before .before .fault-of .ensures .0) (c .if1 .left))
+claim-left-requires : tie.Need-claim-left-requires
+claim-left-requires c κs = omega (arith, header-there _ _ _ (c .before .before .before .before .fault-of .ensures .0) (c .if1 .left))
 
-word-at-requires-2 : tie.Need-word-at-requires-2
-word-at-requires-2 c κs =
+claim-right-requires : tie.Need-claim-right-requires
+claim-right-requires c κs =
     let e = c .before in
     header-there _ _ _ (e .before .before .before .before .fault-of .ensures .0) (e .if1 .left)
 
@@ -40,7 +40,7 @@ unfolding bundleOf
 returns-2 c =
     let e = c .before .before in
     let f = e .before .before .before .before in (
-      answer-accepted _ _ _ (f .fault-of .ensures .0) (e .if1 .left) _ _ (c .before .word-at .ensures .0) (c .word-at2 .ensures .0),
+      answer-accepted _ _ _ (f .fault-of .ensures .0) (e .if1 .left) _ _ (c .before .claim-left .ensures .0) (c .claim-right .ensures .0),
       area-free _ _ _ (f .fault-of .ensures .0) (e .if1 .left) _ (f .fault-of .ensures .1 (e .if1 .left)),
     )
 
@@ -52,7 +52,7 @@ check-spec =
     clear-requires
     same-length
     returns
-    word-at-requires
-    word-at-requires-2
+    claim-left-requires
+    claim-right-requires
     same-length-2
     returns-2)

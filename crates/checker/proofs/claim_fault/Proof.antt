@@ -16,25 +16,25 @@ step-field-requires-2 c κs = search needs
 step-field-requires-3 : tie.Need-step-field-requires-3
 step-field-requires-3 c κs = search needs
 
-word-at-requires : tie.Need-word-at-requires
-word-at-requires c κs = omega (arith, whole-long _ _ (c .before .before .before .before .pre))
+claim-left-requires : tie.Need-claim-left-requires
+claim-left-requires c κs = omega (arith, whole-long _ _ (c .before .before .before .before .pre))
 
-word-at-requires-2 : tie.Need-word-at-requires-2
-word-at-requires-2 c κs = whole-long _ _ (c .before .before .before .before .before .pre)
+claim-right-requires : tie.Need-claim-right-requires
+claim-right-requires c κs = whole-long _ _ (c .before .before .before .before .before .pre)
 
 returns : tie.Need-returns
 unfolding firstFailing passed
 returns c =
     let w = c .before in
     let s = w .before .before in
-    rw (steps-length, left-is, right-is, ← s .before .before .step-field .ensures, ← s .before .step-field2 .ensures, ← s .step-field3 .ensures, ← w .before .word-at .ensures .0, ← w .word-at2 .ensures .0, c .if1 .taken)
+    rw (steps-length, left-is, right-is, ← s .before .before .step-field .ensures, ← s .before .step-field2 .ensures, ← s .step-field3 .ensures, ← w .before .claim-left .ensures .0, ← w .claim-right .ensures .0, c .if1 .taken)
 
 returns-2 : tie.Need-returns-2
 unfolding firstFailing passed
 returns-2 c =
     let w = c .before in
     let s = w .before .before in
-    rw (steps-length, left-is, right-is, ← s .before .before .step-field .ensures, ← s .before .step-field2 .ensures, ← s .step-field3 .ensures, ← w .before .word-at .ensures .0, ← w .word-at2 .ensures .0, c .if1 .left)
+    rw (steps-length, left-is, right-is, ← s .before .before .step-field .ensures, ← s .before .step-field2 .ensures, ← s .step-field3 .ensures, ← w .before .claim-left .ensures .0, ← w .claim-right .ensures .0, c .if1 .left)
 
 pub claim-fault-spec : {M : Type 1} → statement M
 claim-fault-spec =
@@ -43,7 +43,7 @@ claim-fault-spec =
     step-field-requires
     step-field-requires-2
     step-field-requires-3
-    word-at-requires
-    word-at-requires-2
+    claim-left-requires
+    claim-right-requires
     returns
     returns-2)

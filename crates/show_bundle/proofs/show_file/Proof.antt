@@ -15,11 +15,11 @@ returns c = search needs
 counts-requires : tie.Need-counts-requires
 counts-requires c κs = search needs
 
-word-at-requires : tie.Need-word-at-requires
-word-at-requires c κs = search needs
+claim-left-requires : tie.Need-claim-left-requires
+claim-left-requires c κs = search needs
 
-word-at-requires-2 : tie.Need-word-at-requires-2
-word-at-requires-2 c κs = search needs
+claim-right-requires : tie.Need-claim-right-requires
+claim-right-requires c κs = search needs
 
 header-line-requires : tie.Need-header-line-requires
 header-line-requires c κs = search needs
@@ -66,8 +66,8 @@ show-file-spec =
     show-short-requires
     returns
     counts-requires
-    word-at-requires
-    word-at-requires-2
+    claim-left-requires
+    claim-right-requires
     header-line-requires
     show-foreign-requires
     returns-2

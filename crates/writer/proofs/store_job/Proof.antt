@@ -21,10 +21,10 @@ use Rattle.writer.proofs.store_job.Statement.{statement}
 use Rattle.writer.proofs.store_job.Tie as tie
 
 -- places: back from the visit to where the rule's number is read, to where 18, 15, 17 find nothing, to where 1 to 9 do, to the start
-abbrev read : tie.After-visit-job → tie.After-word-at
+abbrev read : tie.After-visit-job → tie.After-claim-left
 read c = c .before .before .before
 
-abbrev else2 : tie.After-word-at → tie.Else2
+abbrev else2 : tie.After-claim-left → tie.Else2
 else2 c = c .before .before .before .before .before
 
 abbrev else1 : tie.Else2 → tie.Else1
@@ -70,14 +70,14 @@ early : (c : tie.Else2) → firstFailing (earlyTests (bundleOf (job (start (else
 early c = sym (late (c .before .before .before)) ∙ c .if2 .left
 
 -- the job is in the scratch, and the rule's number is read
-begun : (c : tie.After-word-at) → let a = start (else1 (else2 c)) .args in let at-counts = else2 c .before .before .before .before .before in
+begun : (c : tie.After-claim-left) → let a = start (else1 (else2 c)) .args in let at-counts = else2 c .before .before .before .before .before in
     Begun (a .job .now) (length (a .out .now)) (length (a .words .now)) (length (a .sets .now))
-    (c .before .before .before .copy-job .last .1 .1 .0) (at-counts .counts .result) (c .word-at .result)
+    (c .before .before .before .copy-job .last .1 .1 .0) (at-counts .counts .result) (c .claim-left .result)
 begun c = record {
   none = none (else1 (else2 c));
   early = early (else2 c);
   counted = else2 c .before .before .before .before .before .counts .ensures;
-  read = c .word-at .ensures .0;
+  read = c .claim-left .ensures .0;
   copied = c .before .before .before .copy-job .ensures .1;
 }
 
@@ -133,8 +133,8 @@ copy-job-requires c κs =
     let at-counts = c .before .before .before .before .before .before in
     (whole at-counts, omega (arith, areas (at-counts .before) .scratch))
 
-word-at-requires : tie.Need-word-at-requires
-word-at-requires c κs = omega (arith, good (c .before .before .before .before .before .before .before .before .before .before) .long)
+claim-left-requires : tie.Need-claim-left-requires
+claim-left-requires c κs = omega (arith, good (c .before .before .before .before .before .before .before .before .before .before) .long)
 
 visit-job-requires : tie.Need-visit-job-requires
 visit-job-requires c κs =
@@ -155,7 +155,7 @@ store-file-requires c κs =
     let at-else1 = else1 (else2 at-read) in
     let at-known = at-else1 .before .before .before .before .before .before .before in (
       rw (t .counts) (t .holds .ready),
-      at-read .word-at .ensures .1,
+      at-read .claim-left .ensures .1,
       right-small (at-known .before .args .job .now)
           (bytes-of (at-known .before .args .job .now) (λ i. omega (arith, at-known .shared-slice-known .given i))) t,
       areas at-else1 .output,
@@ -212,7 +212,7 @@ store-job-spec =
     same-length
     returns-2
     copy-job-requires
-    word-at-requires
+    claim-left-requires
     visit-job-requires
     enum-told
     enum-known-visited

@@ -61,7 +61,7 @@ loop-holds c =
       omega arith,
       at-symbols-at .symbols-at .ensures .0 ∙ ap symbolsAt (at-symbols-at .before .largest .ensures),
       at-header .before .symbols-at2 .ensures .0,
-      header-stored (a .args .words .now) (a .args .c) (a .args .left) (a .args .right) (a .pre .0 .version)
+      header-stored (a .args .words .now) (a .args .c) (a .args .left) (a .args .right)
           (at-header .header .ensures) (c .before .before .store-section .ensures),
     )
 
