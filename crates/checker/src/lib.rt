@@ -85,15 +85,20 @@ fn late_fault_in(
     }
 }
 
-// The same with room of its own. The room is cleared first, so a file with few contexts gets little.
+// The same with room of its own, of one of three sizes. The room is cleared first, so a file with few contexts gets little.
 fn late_fault(file: &[u8], b: Bundle, sorts: &[usize], free: &[u64]) -> Fault
     requires { ⌜ Whole (now file) b × Sorted (now file) b (now sorts) × FreeSets (now free) setWords (bundleAt (now file) b) ⌝ }
     ensures { λ r. ⌜ r ≡ lateFault (bundleAt (now (file .entry)) b) ⌝ }
 {
-    if b.contexts <= 31 {
-        let mut few_images = [0u16; Bundle::VARIABLES * 32];
-        let mut few_moved = [0u64; Bundle::SET_WORDS * 32];
+    if b.contexts < 8 {
+        let mut few_images = [0u16; Bundle::VARIABLES * 8];
+        let mut few_moved = [0u64; Bundle::SET_WORDS * 8];
         return late_fault_in(file, b, sorts, free, &mut few_images, &mut few_moved);
+    }
+    if b.contexts < 64 {
+        let mut some_images = [0u16; Bundle::VARIABLES * 64];
+        let mut some_moved = [0u64; Bundle::SET_WORDS * 64];
+        return late_fault_in(file, b, sorts, free, &mut some_images, &mut some_moved);
     }
     let mut images = [0u16; Bundle::VARIABLES * (Bundle::CONTEXTS + 1)];
     let mut moved = [0u64; Bundle::SET_WORDS * (Bundle::CONTEXTS + 1)];

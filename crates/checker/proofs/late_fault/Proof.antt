@@ -1,12 +1,29 @@
 -- `late_fault` meets its contract: zeros are what is known of the empty context.
-use Prim.Native.Nat.{ℕ}
+use Prim.Native.Nat.{ℕ, _+_, _*_, _≤_, _<_}
 use native.Mathlib.Omega.{arith}
-use lib.ListN.{length-replicate}
-use Rattle.bundle.specs.File.{bundleAt}
+use mathlib.Core.List.{List}
+use lib.ListN.{length, replicate, length-replicate}
+use Rattle.bundle.specs.declared.Bundle.{Bundle as Counts}
+use Rattle.bundle.specs.File.{Whole, bundleAt}
+use Rattle.images.specs.ContextRows.{Images, MovedSets}
 use Rattle.images.proofs.ContextRows.{images-none, moved-none}
 use borrow.Author.Needs.{needs}
 use Rattle.checker.proofs.late_fault.Statement.{statement}
 use Rattle.checker.proofs.late_fault.Tie as tie
+
+-- a room of `rows` rows holds what is known of the empty context, and has a row for each context
+module _ (f : List ℕ) (c : Counts) (rows : ℕ) {A B : Type 0} (whole : Whole f c) (sorts : A) (free : B) (few : c .contexts < rows) where
+  asks : Whole f c × A × B × (64 * (c .contexts + 1) ≤ length {A = ℕ} (replicate (64 * rows) 0)) × (1 * (c .contexts + 1) ≤ length {A = ℕ} (replicate rows 0))
+      × Images (bundleAt f c) (replicate (64 * rows) 0) 1 × MovedSets (bundleAt f c) (replicate rows 0) 1 1
+  asks = (
+    whole,
+    sorts,
+    free,
+    omega (arith, length-replicate {A = ℕ} (64 * rows) 0),
+    omega (arith, length-replicate {A = ℕ} rows 0),
+    images-none (bundleAt f c) (64 * rows) (omega arith),
+    moved-none (bundleAt f c) 1 rows (omega arith),
+  )
 
 slice-aggregate-late-fault-in : tie.Need-slice-aggregate-late-fault-in
 slice-aggregate-late-fault-in c = search needs
@@ -16,11 +33,8 @@ slice-aggregate-late-fault-in-2 c = search needs
 
 late-fault-in-requires : tie.Need-late-fault-in-requires
 late-fault-in-requires c κs =
-    let a = c .before .before .before .before .before .before .before .args in
-    let p = c .before .before .before .before .before .before .before .pre in
-    let b = bundleAt (a .file .now) (a .b) in
-    let few = c .before .before .if1 .taken in
-    (p .0, p .1, p .2, omega (arith, few, length-replicate {A = ℕ} 2048 0), omega (arith, few, length-replicate {A = ℕ} 32 0), images-none b 2048 (omega arith), moved-none b 1 32 (omega arith))
+    let s = c .before .before .before .before .before .before .before in
+    asks (s .args .file .now) (s .args .b) 8 (s .pre .0) (s .pre .1) (s .pre .2) (c .before .before .if1 .taken)
 
 returns : tie.Need-returns
 returns c = c .before .before .late-fault-in .ensures
@@ -33,14 +47,25 @@ slice-aggregate-late-fault-in-4 c = search needs
 
 late-fault-in-requires-2 : tie.Need-late-fault-in-requires-2
 late-fault-in-requires-2 c κs =
-    let a = c .before .before .before .before .before .before .before .args in
-    let p = c .before .before .before .before .before .before .before .pre in
-    let b = bundleAt (a .file .now) (a .b) in
-    let few = p .0 .within .contexts in
-    (p .0, p .1, p .2, omega (arith, few, length-replicate {A = ℕ} 16448 0), omega (arith, few, length-replicate {A = ℕ} 257 0), images-none b 16448 (omega arith), moved-none b 1 257 (omega arith))
+    let s = c .before .before .before .before .before .before .before .before .before in
+    asks (s .args .file .now) (s .args .b) 64 (s .pre .0) (s .pre .1) (s .pre .2) (c .before .before .if2 .taken)
 
 returns-2 : tie.Need-returns-2
 returns-2 c = c .before .before .late-fault-in2 .ensures
+
+slice-aggregate-late-fault-in-5 : tie.Need-slice-aggregate-late-fault-in-5
+slice-aggregate-late-fault-in-5 c = search needs
+
+slice-aggregate-late-fault-in-6 : tie.Need-slice-aggregate-late-fault-in-6
+slice-aggregate-late-fault-in-6 c = search needs
+
+late-fault-in-requires-3 : tie.Need-late-fault-in-requires-3
+late-fault-in-requires-3 c κs =
+    let s = c .before .before .before .before .before .before .before .before .before in
+    asks (s .args .file .now) (s .args .b) 257 (s .pre .0) (s .pre .1) (s .pre .2) (omega (arith, s .pre .0 .within .contexts))
+
+returns-3 : tie.Need-returns-3
+returns-3 c = c .before .before .late-fault-in3 .ensures
 
 pub late-fault-spec : {M : Type 1} → statement M
 late-fault-spec =
@@ -53,4 +78,8 @@ late-fault-spec =
     slice-aggregate-late-fault-in-3
     slice-aggregate-late-fault-in-4
     late-fault-in-requires-2
-    returns-2)
+    returns-2
+    slice-aggregate-late-fault-in-5
+    slice-aggregate-late-fault-in-6
+    late-fault-in-requires-3
+    returns-3)
