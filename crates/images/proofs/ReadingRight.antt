@@ -20,11 +20,12 @@ use Rattle.bundle.proofs.Tab.{at-none}
 use Rattle.bundle.proofs.Fields.{variables-length, terms-length, contexts-length}
 use Rattle.logic.specs.Table.{table, below}
 use Rattle.logic.specs.Free.{freeBy, freeAt, nothingFree}
-use Rattle.logic.specs.Contexts.{imageBy, ownImage, image, movedBy, moved, settledFor, settled}
+use Rattle.logic.specs.Contexts.{imageBy, ownImage, image, asImage, movedBy, moved, settledFor, settled}
 use Rattle.logic.specs.Rules.{stepFaultBy, stepFault}
 use Rattle.logic.specs.Readings.{Reading, readingOf}
 use Rattle.logic.proofs.Tables.{table-below}
 use Rattle.logic.proofs.Tests.{up-to-all}
+use Rattle.logic.proofs.Found.{image-found}
 use Rattle.free_variables.specs.FreeSets.{FreeSets}
 use Rattle.images.specs.ContextRows.{imageAt, Images, MovedSets}
 use Rattle.images.specs.LentReading.{freeIn, settledIn, stepIn, imagesIn, allSettledIn, readingIn, Lent}
@@ -106,7 +107,7 @@ module _ (f : List ℕ) (c : Counts) (w : List ℕ) (n : ℕ) (sets : FreeSets w
         where
           go : Dec (k ≤ c .contexts) → imagesIn c images k x ≡ image (bundleAt f c) k x
           go (yes l) =
-              rw (le-leb k (c .contexts) l) (ap (λ (v : ℕ). imageAt v images k x) (sym (variables-length f c)) ∙ rows .same k x (omega arith))
+              rw (le-leb k (c .contexts) l) (ap (λ (v : ℕ). imageAt v images k x) (sym (variables-length f c)) ∙ ap asImage (rows .same k x (omega arith)) ∙ sym (image-found (bundleAt f c) k x))
           go (no l) = rw (lt-leb k (c .contexts) (omega arith), own-image (bundleAt f c) k (no-context k l))
 
       pub all-settleds : (k t : ℕ) → allSettledIn c w m n k t ≡ settled (bundleAt f c) k t
