@@ -38,7 +38,7 @@ use Rattle.logic.specs.Contexts.{lookup, orAbove, found, asImage, movedBy, move
 use Rattle.logic.proofs.Found.{image-found, found-empty}
 use Rattle.logic.proofs.Tests.{numbers-in, numbers-of, and-left, and-right, both-ways, up-to, up-to-all}
 use Rattle.images.proofs.FreeWords.{numbers-past}
-use Rattle.images.specs.ContextRows.{asMention, mentionAt, mentionIn, Images, MovedSets, RowRoom, Untouched, Agrees, Entered}
+use Rattle.images.specs.ContextRows.{fixedPlace, asMention, mentionAt, mentionIn, Images, MovedSets, RowRoom, Untouched, Agrees, Entered}
 
 pub moved-few : (b : Bundle) (m : List ℕ) (n c d : ℕ) → d ≤ c → n * d ≤ n * c → MovedSets b m n c → MovedSets b m n d
 moved-few b m n c d h g i = record { long = omega (arith, i .long); same = λ k x l. i .same k x (omega arith); few = λ k x l. i .few k x (omega arith) }
@@ -63,13 +63,13 @@ module _ (t : ℕ) where
   unfolding asMention
   as-absent e = rw e
 
-  pub as-fixed : t ≡ 65535 → asMention t ≡ Fixed
+  pub as-fixed : t ≡ fixedPlace → asMention t ≡ Fixed
   unfolding asMention
   as-fixed e = rw e
 
-  pub as-replaced : (t ≡ 0 → ⊥) → (t ≡ 65535 → ⊥) → asMention t ≡ Replaced t
+  pub as-replaced : (t ≡ 0 → ⊥) → (t ≡ fixedPlace → ⊥) → asMention t ≡ Replaced t
   unfolding asMention
-  as-replaced some ne = rw (ne-eqb t 0 some, ne-eqb t 65535 ne)
+  as-replaced some ne = rw (ne-eqb t 0 some, ne-eqb t fixedPlace ne)
 
 -- whether a variable is moved, from what is found of it
 moved-found : (b : Bundle) (k x : ℕ) → moved b k x ≡ movedBy b (asImage (found b k x)) x

@@ -1,6 +1,6 @@
 // Mentions and images of variables in contexts, free variables, settled terms: as the lent memory has them, whatever it holds.
 ghost use mathlib.Core.Path.{_≡_};
-ghost use Prim.Native.Nat.{ℕ, _+_, _*_, _≤_};
+ghost use Prim.Native.Nat.{_+_, _*_, _≤_};
 ghost use lib.ListN.{length};
 ghost use Rattle.bundle.specs.Limits.{limits};
 ghost use Rattle.bundle.specs.File.{Whole, bundleAt};

@@ -1,7 +1,7 @@
 // What is known of each context, written once: what its entries say of all variables, and the set of those that are moved. The row and the set of a
 // context start as its parent's; then its entry is written over them.
 ghost use mathlib.Core.Path.{_≡_};
-ghost use mathlib.Core.Bool.{Bool, true, cond};
+ghost use mathlib.Core.Bool.{true, cond};
 ghost use Prim.Native.Nat.{ℕ, _+_, _*_, _≤_, _<_};
 ghost use lib.ListN.{length, getD};
 ghost use lib.Dec.{eqb};

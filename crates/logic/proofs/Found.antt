@@ -4,13 +4,12 @@
 --     found-fixes, found-replaces        in a context of kind 1 or 2 whose parent is lower: by its entry, and what is found in the parent
 --     mentioned-found, found-mentioned   in a well-formed bundle something is found of the variables that an entry mentions, and of no others
 --     absent-exactly                     THE LAW: none mentions a variable exactly where it is found absent
-use mathlib.Core.Path.{_≡_, refl, sym, ap, ap₂, _∙_, fun-ext}
+use mathlib.Core.Path.{_≡_, refl, sym, ap, _∙_, fun-ext}
 use Prim.Native.Nat.{ℕ, zero, suc, _<_}
 use native.Mathlib.Omega.{arith}
 use mathlib.Core.Bool.{Bool, true, false, cond, false≢true}
 use mathlib.Core.Logic.{_⊎_, inl, inr, _↔_}
 use mathlib.Core.List.{List, [], _∷_, map}
-use lib.ListN.{length}
 use lib.Dec.{eqb}
 use borrow.Author.Tests.{eqb-true, eq-eqb}
 use Rattle.bundle.specs.Bundle.{Bundle, Context, noContext, contextOf, sortOfVariable}

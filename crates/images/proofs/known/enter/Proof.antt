@@ -1,11 +1,10 @@
 -- `known::enter` meets its contract: what is found in the parent, with what the entry says over it, is what is found in the context.
 use native.Mathlib.Omega.{arith}
-use mathlib.Core.Path.{_≡_, refl, sym, ap, _∙_}
-use Prim.Native.Nat.{_+_, _*_, _≤_, _<_}
+use mathlib.Core.Path.{_≡_, refl, sym, _∙_}
+use Prim.Native.Nat.{_≤_, _<_}
 use lib.ListN.{length}
 use Rattle.bundle.specs.File.{bundleAt}
 use mathlib.Core.Bool.{true}
-use Rattle.bundle.specs.Bundle.{contextOf}
 use Rattle.bundle.specs.Links.{items}
 use Rattle.bundle.specs.Lists.{numbers, each, different}
 use Rattle.bundle.proofs.Fields.{variables-length, terms-length}

@@ -3,19 +3,17 @@
 use borrow.Author.Needs.{needs}
 use native.Mathlib.Omega.{arith}
 use mathlib.Core.Path.{_≡_, refl, sym, ap, _∙_}
-use mathlib.Core.Bool.{true, false, not}
-use mathlib.Core.List.{List, [], _∷_}
-use Prim.Native.Nat.{ℕ, _+_, _*_, _≤_, _<_}
+use mathlib.Core.Bool.{true, not}
+use mathlib.Core.List.{List, _∷_}
+use Prim.Native.Nat.{ℕ, _≤_}
 use lib.ListN.{length}
 use Rattle.bundle.specs.Links.{items}
 use Rattle.bundle.specs.Lists.{numbers, each, different}
 use Rattle.bundle.specs.File.{bundleAt}
 use Rattle.bundle.proofs.Walks.{walk-start, walk-start-le, walk-le, walk-nil, walk-cons, walk-some, walk-length}
-use Rattle.bundle.specs.declared.Bundle.{Bundle as Counts}
-use Rattle.bundle.specs.Bundle.{Bundle}
 use Rattle.logic.specs.Contexts.{lookup, orAbove, asImage, movedBy}
 use Rattle.logic.proofs.Tests.{numbers-of, and-left, and-right}
-use Rattle.images.specs.ContextRows.{asMention, mentionIn, Untouched, Agrees}
+use Rattle.images.specs.ContextRows.{mentionIn, Untouched, Agrees}
 use Rattle.images.proofs.ContextRows.{untouched-refl, untouched-trans, room-on, replacing-on, different-rest, as-replaced}
 use Rattle.images.proofs.known.replace.Statement.{statement}
 use Rattle.images.proofs.known.replace.Tie as tie
