@@ -1,10 +1,11 @@
 -- Laws of the table of images and of the sets of moved variables.
 --     moved-few                              what holds for contexts below c holds for fewer
---     image-zero, image-past, image-some     a place of a row, and numbers that have none
+--     mention-zero, mention-past, mention-some     a place of a row, and numbers that have none
+--     as-absent, as-fixed, as-replaced       what a place says
 --     images-none, moved-none                zeros are what is known of the empty context
 --     untouched-refl, untouched-trans        what stays while one context is written
 --     row-kept, set-kept                     so the rows and sets of lower contexts do
---     image-set, agrees-set                  one image set
+--     mention-set, entered-set               one place written
 --     Replacing, replacing-on                a list of variables replaced, side by side with a list of terms
 --     moved-inside                           only variables that there are can be moved
 --     inherited, set-copied, agrees-copied   the row and the set of the parent
@@ -31,14 +32,13 @@ use Rattle.sets.proofs.Members.{holds-small, member-inserted, member-removed, m
 use Rattle.logic.specs.declared.Mention.{Mention}
 use Rattle.logic.specs.declared.Mention.the-variants.{Fixed, Replaced, Absent}
 use Rattle.logic.specs.declared.Image.{Image}
-use Rattle.logic.specs.declared.Image.the-variants.{Own, Gives}
 use Rattle.logic.specs.Tests.{upTo}
 use Rattle.logic.specs.Free.{freeAt}
-use Rattle.logic.specs.Contexts.{lookup, first, image, movedBy, moved, settledFor, settled}
-use Rattle.logic.proofs.Images.{image-empty}
+use Rattle.logic.specs.Contexts.{lookup, orAbove, found, asImage, movedBy, moved, settledFor, settled}
+use Rattle.logic.proofs.Found.{image-found, found-empty}
 use Rattle.logic.proofs.Tests.{numbers-in, numbers-of, and-left, and-right, both-ways, up-to, up-to-all}
 use Rattle.images.proofs.FreeWords.{numbers-past}
-use Rattle.images.specs.ContextRows.{asImage, imageAt, imageIn, Images, MovedSets, RowRoom, Untouched, Agrees, Entered}
+use Rattle.images.specs.ContextRows.{fixedPlace, asMention, mentionAt, mentionIn, Images, MovedSets, RowRoom, Untouched, Agrees, Entered}
 
 pub moved-few : (b : Bundle) (m : List ℕ) (n c d : ℕ) → d ≤ c → n * d ≤ n * c → MovedSets b m n c → MovedSets b m n d
 moved-few b m n c d h g i = record { long = omega (arith, i .long); same = λ k x l. i .same k x (omega arith); few = λ k x l. i .few k x (omega arith) }
@@ -46,56 +46,65 @@ moved-few b m n c d h g i = record { long = omega (arith, i .long); same = λ k 
 -- ---- a place of a row
 
 module _ (variables : ℕ) (w : List ℕ) (k x : ℕ) where
-  pub image-zero : x ≡ 0 → imageAt variables w k x ≡ Own
-  unfolding imageAt
-  image-zero e = rw e
+  pub mention-zero : x ≡ 0 → mentionAt variables w k x ≡ Absent
+  unfolding mentionAt
+  mention-zero e = rw e
 
-  pub image-past : variables < x → imageAt variables w k x ≡ Own
-  unfolding imageAt
-  image-past h = rw (numbers-past variables x h)
+  pub mention-past : variables < x → mentionAt variables w k x ≡ Absent
+  unfolding mentionAt
+  mention-past h = rw (numbers-past variables x h)
 
-  pub image-some : 1 ≤ x → x ≤ variables → imageAt variables w k x ≡ asImage (getD w (64 * k + (x - 1)) 0)
-  unfolding imageAt
-  image-some one few = rw (numbers-in variables x one few)
+  pub mention-some : 1 ≤ x → x ≤ variables → mentionAt variables w k x ≡ asMention (getD w (64 * k + (x - 1)) 0)
+  unfolding mentionAt
+  mention-some one few = rw (numbers-in variables x one few)
 
-pub as-own : (t : ℕ) → t ≡ 0 → asImage t ≡ Own
-unfolding asImage
-as-own t e = rw e
+module _ (t : ℕ) where
+  pub as-absent : t ≡ 0 → asMention t ≡ Absent
+  unfolding asMention
+  as-absent e = rw e
 
-pub as-gives : (t : ℕ) → (t ≡ 0 → ⊥) → asImage t ≡ Gives t
-unfolding asImage
-as-gives zero ne = absurd (ne refl)
-as-gives (suc t) ne = refl
+  pub as-fixed : t ≡ fixedPlace → asMention t ≡ Fixed
+  unfolding asMention
+  as-fixed e = rw e
+
+  pub as-replaced : (t ≡ 0 → ⊥) → (t ≡ fixedPlace → ⊥) → asMention t ≡ Replaced t
+  unfolding asMention
+  as-replaced some ne = rw (ne-eqb t 0 some, ne-eqb t fixedPlace ne)
+
+-- whether a variable is moved, from what is found of it
+moved-found : (b : Bundle) (k x : ℕ) → moved b k x ≡ movedBy b (asImage (found b k x)) x
+unfolding moved
+moved-found b k x = ap (λ (i : Image). movedBy b i x) (image-found b k x)
 
 -- two tables that have the same place for x
 same-place : (b : Bundle) (w v : List ℕ) (k j x : ℕ) → (1 ≤ x → x ≤ length (b .variables) → getD w (64 * k + (x - 1)) 0 ≡ getD v (64 * j + (x - 1)) 0)
-    → imageIn b w k x ≡ imageIn b v j x
-unfolding imageAt
+    → mentionIn b w k x ≡ mentionIn b v j x
+unfolding mentionAt
 same-place b w v k j x same = go (numbers (length (b .variables)) x) refl
   where
-    go : (p : Bool) → numbers (length (b .variables)) x ≡ p → cond p (asImage (getD w (64 * k + (x - 1)) 0)) Own ≡ cond p (asImage (getD v (64 * j + (x - 1)) 0)) Own
-    go true e = let h = numbers-of (length (b .variables)) x e in ap asImage (same (h .0) (h .1))
+    go : (p : Bool) → numbers (length (b .variables)) x ≡ p → cond p (asMention (getD w (64 * k + (x - 1)) 0)) Absent ≡ cond p (asMention (getD v (64 * j + (x - 1)) 0)) Absent
+    go true e = let h = numbers-of (length (b .variables)) x e in ap asMention (same (h .0) (h .1))
     go false e = refl
 
--- zeros: nothing is replaced in the empty context, and nothing is moved
+-- zeros: nothing is mentioned in the empty context, and nothing is moved
 zero-at : (n j : ℕ) → _≡_ {A = ℕ} (getD (replicate n 0) j 0) 0
 zero-at zero j = refl
 zero-at (suc n) zero = refl
 zero-at (suc n) (suc j) = zero-at n j
 
 pub images-none : (b : Bundle) (m : ℕ) → 64 ≤ m → Images b (replicate m 0) 1
-unfolding imageAt
+unfolding mentionAt
 images-none b m h = record {
   long = omega (arith, length-replicate {A = ℕ} m 0);
-  same = λ k x l. let z : k ≡ 0 = omega arith in rw z (go x (numbers (length (b .variables)) x) ∙ sym (image-empty b x));
+  same = λ k x l. let z : k ≡ 0 = omega arith in rw z (go x (numbers (length (b .variables)) x) ∙ sym (found-empty b x));
 }
   where
-    go : (x : ℕ) (p : Bool) → cond p (asImage (getD (replicate m 0) (64 * 0 + (x - 1)) 0)) Own ≡ Own
-    go x true = as-own (getD (replicate m 0) (64 * 0 + (x - 1)) 0) (zero-at m (64 * 0 + (x - 1)))
+    go : (x : ℕ) (p : Bool) → cond p (asMention (getD (replicate m 0) (64 * 0 + (x - 1)) 0)) Absent ≡ Absent
+    go x true = as-absent (getD (replicate m 0) (64 * 0 + (x - 1)) 0) (zero-at m (64 * 0 + (x - 1)))
     go x false = refl
 
 pub moved-none : (b : Bundle) (n m : ℕ) → n ≤ m → MovedSets b (replicate m 0) n 1
-unfolding member moved movedBy
+unfolding member movedBy asImage
 moved-none b n m h = record {
   long = omega (arith, length-replicate {A = ℕ} m 0);
   same = λ k x l. let z : k ≡ 0 = omega arith in rw z (go x (holds n x) ∙ sym (still x));
@@ -103,7 +112,7 @@ moved-none b n m h = record {
 }
   where
     still : (x : ℕ) → moved b 0 x ≡ false
-    still x = ap (λ (i : Image). movedBy b i x) (image-empty b x)
+    still x = moved-found b 0 x ∙ ap (λ (m : Mention). movedBy b (asImage m) x) (found-empty b x)
 
     go : (x : ℕ) (p : Bool) → cond p (bitAt (getD (replicate m 0) (n * 0 + (x - 1) / 64) 0) ((x - 1) % 64)) false ≡ false
     go x true = ap (λ (y : ℕ). bitAt y ((x - 1) % 64)) (zero-at m (n * 0 + (x - 1) / 64)) ∙ bit-none ((x - 1) % 64)
@@ -111,7 +120,7 @@ moved-none b n m h = record {
 
 -- the row of k copied from that of j
 pub row-copied : (b : Bundle) (w v : List ℕ) (k j count : ℕ) → length (b .variables) ≡ count
-    → ((y : ℕ) → y < count → getD w (64 * k + y) 0 ≡ getD v (64 * j + y) 0) → (x : ℕ) → imageIn b w k x ≡ imageIn b v j x
+    → ((y : ℕ) → y < count → getD w (64 * k + y) 0 ≡ getD v (64 * j + y) 0) → (x : ℕ) → mentionIn b w k x ≡ mentionIn b v j x
 row-copied b w v k j count e same x = same-place b w v k j x (λ one few. same (x - 1) (omega (arith, e)))
 
 -- ---- what stays
@@ -131,7 +140,7 @@ module _ (b : Bundle) (w m w′ m′ : List ℕ) (n k : ℕ) (kept : Untouched w
   pub room-on : RowRoom w m n k → RowRoom w′ m′ n k
   room-on r = record { row = omega (arith, r .row, kept .long-row); words = omega (arith, r .words, kept .long-set) }
 
-  pub row-kept : (j x : ℕ) → j < k → length (b .variables) ≤ 64 → imageIn b w′ j x ≡ imageIn b w j x
+  pub row-kept : (j x : ℕ) → j < k → length (b .variables) ≤ 64 → mentionIn b w′ j x ≡ mentionIn b w j x
   row-kept j x h few = same-place b w′ w j j x (λ one low. kept .row (64 * j + (x - 1)) (omega arith))
 
   pub set-kept : (j x : ℕ) → j < k → member m′ (n * j) n x ≡ member m (n * j) n x
@@ -141,25 +150,25 @@ module _ (b : Bundle) (w m w′ m′ : List ℕ) (n k : ℕ) (kept : Untouched w
       let fits′ : n * j + n ≤ n * k = rw p at fits in
       member-same m′ m (n * j) n (λ i l. kept .words (n * j + i) (omega arith)) x
 
--- ---- one image set
+-- ---- one place written
 
 cond-eqb : (x y : ℕ) (p : Bool) → eqb x y ≡ p → Dec (x ≡ y)
 cond-eqb x y true e = yes (eqb-true x y e)
 cond-eqb x y false e = no (λ q. false≢true (sym e ∙ eq-eqb x y q))
 
 module _ (b : Bundle) (w : List ℕ) (k x t : ℕ) (one : 1 ≤ x) (few : x ≤ length (b .variables)) (small : length (b .variables) ≤ 64) (room : 64 * (k + 1) ≤ length w) where
-  pub image-set : (y : ℕ) → imageIn b (set w (64 * k + (x - 1)) t) k y ≡ cond (eqb x y) (asImage t) (imageIn b w k y)
-  image-set y = go (ℕ-discrete x y)
+  pub mention-set : (y : ℕ) → mentionIn b (set w (64 * k + (x - 1)) t) k y ≡ cond (eqb x y) (asMention t) (mentionIn b w k y)
+  mention-set y = go (ℕ-discrete x y)
     where
-      go : Dec (x ≡ y) → imageIn b (set w (64 * k + (x - 1)) t) k y ≡ cond (eqb x y) (asImage t) (imageIn b w k y)
+      go : Dec (x ≡ y) → mentionIn b (set w (64 * k + (x - 1)) t) k y ≡ cond (eqb x y) (asMention t) (mentionIn b w k y)
       go (yes q) =
           rw (eq-eqb x y q, ← q)
-          (image-some (length (b .variables)) (set w (64 * k + (x - 1)) t) k x one few ∙ ap asImage (getD-set-same w (64 * k + (x - 1)) t 0 (omega arith)))
+          (mention-some (length (b .variables)) (set w (64 * k + (x - 1)) t) k x one few ∙ ap asMention (getD-set-same w (64 * k + (x - 1)) t 0 (omega arith)))
       go (no q) =
           rw (ne-eqb x y q)
           (same-place b (set w (64 * k + (x - 1)) t) w k k y (λ first low. getD-set-other w (64 * k + (x - 1)) (64 * k + (y - 1)) t 0 (λ z. q (omega arith))))
 
-  module _ (m m′ : List ℕ) (n : ℕ) (words : n * k + n ≤ length m) (bits : length (b .variables) ≤ 64 * n) (agrees : Agrees b w m n k) (moves : Bool) (same : moves ≡ movedBy b (asImage t) x) where
+  module _ (m m′ : List ℕ) (n : ℕ) (words : n * k + n ≤ length m) (bits : length (b .variables) ≤ 64 * n) (agrees : Agrees b w m n k) (moves : Bool) (same : moves ≡ movedBy b (asImage (asMention t)) x) where
     held : holds n x ≡ true
     held = holds-small n x one (omega arith)
 
@@ -187,7 +196,7 @@ module _ (b : Bundle) (w : List ℕ) (k x t : ℕ) (one : 1 ≤ x) (few : x ≤ 
     set-long true = changed-length withBit m (n * k) n x
     set-long false = changed-length withoutBit m (n * k) n x
 
-    pub entered-set : m′ ≡ left-set moves → Entered b w m (set w (64 * k + (x - 1)) t) m′ n k (λ y i. cond (eqb x y) (asImage t) i)
+    pub entered-set : m′ ≡ left-set moves → Entered b w m (set w (64 * k + (x - 1)) t) m′ n k (λ y m. cond (eqb x y) (asMention t) m)
     entered-set e = rw e (record {
       lower = record {
         long-row = length-set w (64 * k + (x - 1)) t;
@@ -195,13 +204,13 @@ module _ (b : Bundle) (w : List ℕ) (k x t : ℕ) (one : 1 ≤ x) (few : x ≤ 
         row = λ j h. getD-set-other w (64 * k + (x - 1)) j t 0 (λ z. omega arith);
         words = set-out moves;
       };
-      images = image-set;
+      mentions = mention-set;
       agrees = λ y. in-set moves y ∙ agree y (ℕ-discrete x y);
     })
       where
-        agree : (y : ℕ) → Dec (x ≡ y) → cond (eqb y x) moves (member m (n * k) n y) ≡ movedBy b (imageIn b (set w (64 * k + (x - 1)) t) k y) y
-        agree y (yes q) = rw (image-set y, eq-eqb x y q, eq-eqb y x (sym q)) (same ∙ ap (movedBy b (asImage t)) q)
-        agree y (no q) = rw (image-set y, ne-eqb x y q, ne-eqb y x (λ r. q (sym r))) (agrees y)
+        agree : (y : ℕ) → Dec (x ≡ y) → cond (eqb y x) moves (member m (n * k) n y) ≡ movedBy b (asImage (mentionIn b (set w (64 * k + (x - 1)) t) k y)) y
+        agree y (yes q) = rw (mention-set y, eq-eqb x y q, eq-eqb y x (sym q)) (same ∙ ap (movedBy b (asImage (asMention t))) q)
+        agree y (no q) = rw (mention-set y, ne-eqb x y q, ne-eqb y x (λ r. q (sym r))) (agrees y)
 
 -- ---- a list of variables replaced
 
@@ -236,31 +245,31 @@ pub different-rest : (x : ℕ) (vs : List ℕ) → different (x ∷ vs) ≡ true
 unfolding different
 different-rest x vs e = and-right (not (has x vs)) (different vs) e
 
--- what is left to replace, over the images so far, makes up the whole: one turn
-pub replacing-on : (x t : ℕ) (vs ts : List ℕ) (old new : ℕ → Image) → different (x ∷ vs) ≡ true → (t ≡ 0 → ⊥)
-    → ((y : ℕ) → new y ≡ cond (eqb x y) (asImage t) (old y)) → (y : ℕ) → first (lookup vs ts y) (new y) ≡ first (lookup (x ∷ vs) (t ∷ ts) y) (old y)
-unfolding lookup first
+-- what is left to replace, over the row so far, makes up the whole: one turn
+pub replacing-on : (x t : ℕ) (vs ts : List ℕ) (old new : ℕ → Mention) → different (x ∷ vs) ≡ true → asMention t ≡ Replaced t
+    → ((y : ℕ) → new y ≡ cond (eqb x y) (asMention t) (old y)) → (y : ℕ) → orAbove (lookup vs ts y) (new y) ≡ orAbove (lookup (x ∷ vs) (t ∷ ts) y) (old y)
+unfolding lookup orAbove
 replacing-on x t vs ts old new diff some set y = go (ℕ-discrete x y)
   where
-    go : Dec (x ≡ y) → first (lookup vs ts y) (new y) ≡ first (cond (eqb x y) (Replaced t) (lookup vs ts y)) (old y)
+    go : Dec (x ≡ y) → orAbove (lookup vs ts y) (new y) ≡ orAbove (cond (eqb x y) (Replaced t) (lookup vs ts y)) (old y)
     go (yes q) =
-        rw (set y, eq-eqb x y q, as-gives t some)
-        (ap (λ (m : Mention). first m (Gives t)) (lookup-none vs ts y (ap (λ (z : ℕ). has z vs) (sym q) ∙ not-has x vs diff)))
+        rw (set y, eq-eqb x y q, some)
+        (ap (λ (m : Mention). orAbove m (Replaced t)) (lookup-none vs ts y (ap (λ (z : ℕ). has z vs) (sym q) ∙ not-has x vs diff)))
     go (no q) = rw (set y, ne-eqb x y q)
 
 -- ---- moved variables
 
-pub moved-inside : (b : Bundle) (w : List ℕ) (k x : ℕ) → imageIn b w k x ≡ image b k x → moved b k x ≡ true → (1 ≤ x) × (x ≤ length (b .variables))
-unfolding moved movedBy
+pub moved-inside : (b : Bundle) (w : List ℕ) (k x : ℕ) → mentionIn b w k x ≡ found b k x → moved b k x ≡ true → (1 ≤ x) × (x ≤ length (b .variables))
+unfolding movedBy asImage
 moved-inside b w k x same e = go (ℕ-discrete x 0) (decLe x (length (b .variables)))
   where
-    never : {A : Type 0} → imageIn b w k x ≡ Own → A
-    never own = absurd (false≢true (sym (ap (λ (i : Image). movedBy b i x) (sym same ∙ own)) ∙ e))
+    never : {A : Type 0} → mentionIn b w k x ≡ Absent → A
+    never none = absurd (false≢true (sym (moved-found b k x ∙ ap (λ (m : Mention). movedBy b (asImage m) x) (sym same ∙ none)) ∙ e))
 
     go : Dec (x ≡ 0) → Dec (x ≤ length (b .variables)) → (1 ≤ x) × (x ≤ length (b .variables))
-    go (yes q) d = never (image-zero (length (b .variables)) w k x q)
+    go (yes q) d = never (mention-zero (length (b .variables)) w k x q)
     go (no q) (yes l) = (omega arith, l)
-    go (no q) (no l) = never (image-past (length (b .variables)) w k x (omega arith))
+    go (no q) (no l) = never (mention-past (length (b .variables)) w k x (omega arith))
 
 -- ---- a context: the row and the set of its parent, then its own entry
 
@@ -297,28 +306,27 @@ module _ (b : Bundle) (w m w′ m₁ m₂ : List ℕ) (n k p : ℕ) (lower : p <
         ∙ member-same m₁ m (n * p) n (λ i h. out₁ (n * p + i) (omega (arith, own-words))) x
 
 module _ (b : Bundle) (w m w′ m′ : List ℕ) (n k p : ℕ) (lower : p < k) (images : Images b w k) (sets : MovedSets b m n k)
-    (copied : (x : ℕ) → imageIn b w′ k x ≡ imageIn b w p x) where
+    (copied : (x : ℕ) → mentionIn b w′ k x ≡ mentionIn b w p x) where
   pub agrees-copied : ((x : ℕ) → member m′ (n * k) n x ≡ member m (n * p) n x) → Agrees b w′ m′ n k
-  unfolding moved
-  agrees-copied same x = same x ∙ sets .same p x lower ∙ ap (λ (i : Image). movedBy b i x) (sym (copied x ∙ images .same p x lower))
+  agrees-copied same x =
+      same x ∙ sets .same p x lower ∙ moved-found b p x ∙ ap (λ (m : Mention). movedBy b (asImage m) x) (sym (copied x ∙ images .same p x lower))
 
-  module _ (w″ m″ : List ℕ) (room : RowRoom w m n k) (few : length (b .variables) ≤ 64) (kept : Untouched w m w′ m′ n k) (f : ℕ → Image → Image)
-      (entered : Entered b w′ m′ w″ m″ n k f) (own : (x : ℕ) → f x (image b p x) ≡ image b k x) where
+  module _ (w″ m″ : List ℕ) (room : RowRoom w m n k) (few : length (b .variables) ≤ 64) (kept : Untouched w m w′ m′ n k) (f : ℕ → Mention → Mention)
+      (entered : Entered b w′ m′ w″ m″ n k f) (own : (x : ℕ) → f x (found b p x) ≡ found b k x) where
     all : Untouched w m w″ m″ n k
     all = untouched-trans w m w′ m′ w″ m″ n k kept (entered .lower)
 
-    here : (x : ℕ) → imageIn b w″ k x ≡ image b k x
-    here x = entered .images x ∙ ap (f x) (copied x ∙ images .same p x lower) ∙ own x
+    here : (x : ℕ) → mentionIn b w″ k x ≡ found b k x
+    here x = entered .mentions x ∙ ap (f x) (copied x ∙ images .same p x lower) ∙ own x
 
     pub images-on : Images b w″ (k + 1)
     images-on = record { long = omega (arith, room .row, all .long-row); same = λ j x h. go j x (ℕ-discrete j k) h }
       where
-        go : (j x : ℕ) → Dec (j ≡ k) → j < k + 1 → imageIn b w″ j x ≡ image b j x
+        go : (j x : ℕ) → Dec (j ≡ k) → j < k + 1 → mentionIn b w″ j x ≡ found b j x
         go j x (yes q) h = rw q (here x)
         go j x (no q) h = row-kept b w m w″ m″ n k all j x (omega arith) few ∙ images .same j x (omega arith)
 
     pub sets-on : MovedSets b m″ n (k + 1)
-    unfolding moved
     sets-on = record {
       long = omega (arith, room .words, all .long-set, distrib n k);
       same = λ j x h. go j x (ℕ-discrete j k) h;
@@ -329,7 +337,7 @@ module _ (b : Bundle) (w m w′ m′ : List ℕ) (n k p : ℕ) (lower : p < k) (
         distrib n k = omega arith
 
         go : (j x : ℕ) → Dec (j ≡ k) → j < k + 1 → member m″ (n * j) n x ≡ moved b j x
-        go j x (yes q) h = rw q (entered .agrees x ∙ ap (λ (i : Image). movedBy b i x) (here x))
+        go j x (yes q) h = rw q (entered .agrees x ∙ ap (λ (m : Mention). movedBy b (asImage m) x) (here x) ∙ sym (moved-found b k x))
         go j x (no q) h = set-kept b w m w″ m″ n k all j x (omega arith) ∙ sets .same j x (omega arith)
 
         inside : (j x : ℕ) → Dec (j ≡ k) → j < k + 1 → moved b j x ≡ true → (1 ≤ x) × (x ≤ length (b .variables))

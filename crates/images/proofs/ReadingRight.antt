@@ -18,16 +18,19 @@ use Rattle.bundle.specs.Bundle.{Bundle, noTerm, noContext, termOf, contextOf, s
 use Rattle.bundle.specs.File.{bundleAt, tab}
 use Rattle.bundle.proofs.Tab.{at-none}
 use Rattle.bundle.proofs.Fields.{variables-length, terms-length, contexts-length}
+use Rattle.logic.specs.declared.Mention.{Mention}
+use Rattle.logic.specs.declared.Image.the-variants.{Own}
 use Rattle.logic.specs.Table.{table, below}
 use Rattle.logic.specs.Free.{freeBy, freeAt, nothingFree}
-use Rattle.logic.specs.Contexts.{imageBy, ownImage, image, movedBy, moved, settledFor, settled}
+use Rattle.logic.specs.Contexts.{image, found, asImage, movedBy, moved, settledFor, settled}
 use Rattle.logic.specs.Rules.{stepFaultBy, stepFault}
 use Rattle.logic.specs.Readings.{Reading, readingOf}
 use Rattle.logic.proofs.Tables.{table-below}
 use Rattle.logic.proofs.Tests.{up-to-all}
+use Rattle.logic.proofs.Found.{image-found, found-none}
 use Rattle.free_variables.specs.FreeSets.{FreeSets}
-use Rattle.images.specs.ContextRows.{imageAt, Images, MovedSets}
-use Rattle.images.specs.LentReading.{freeIn, settledIn, stepIn, imagesIn, allSettledIn, readingIn, Lent}
+use Rattle.images.specs.ContextRows.{mentionAt, Images, MovedSets}
+use Rattle.images.specs.LentReading.{freeIn, settledIn, stepIn, mentionsIn, imagesIn, allSettledIn, readingIn, Lent}
 use Rattle.images.proofs.FreeWords.{free-zero, free-past, free-some, settled-zero, settled-past, settled-some}
 use Rattle.images.proofs.ContextRows.{moved-few, apart-settled}
 
@@ -44,15 +47,13 @@ unfolding settled settledFor
 settled-none b context t e =
     rw (nothing-free b t e) (up-to-all (length (b .variables)) (λ x. not (nothingFree x) || not (moved b context x)) (λ x p q. refl))
 
-own-image : (b : Bundle) (k : ℕ) → contextOf b k ≡ noContext → image b k ≡ ownImage
-unfolding image imageBy
-own-image b k e =
-    table-below (imageBy b) ownImage noContext (λ g. refl) (b .contexts) k
-    ∙ ap (imageBy b (below ownImage k (table (imageBy b) ownImage (b .contexts)))) e
+own-image : (b : Bundle) (k x : ℕ) → contextOf b k ≡ noContext → image b k x ≡ Own
+unfolding asImage
+own-image b k x e = image-found b k x ∙ ap (λ (f : ℕ → Mention). asImage (f x)) (found-none b k e)
 
 all-settled : (b : Bundle) (k t : ℕ) → contextOf b k ≡ noContext → settled b k t ≡ true
 unfolding settled settledFor moved movedBy
-all-settled b k t e = up-to-all (length (b .variables)) (λ x. not (freeAt b t x) || not (moved b k x)) (λ x p q. rw (own-image b k e) (go (freeAt b t x)))
+all-settled b k t e = up-to-all (length (b .variables)) (λ x. not (freeAt b t x) || not (moved b k x)) (λ x p q. rw (own-image b k x e) (go (freeAt b t x)))
   where
     go : (p : Bool) → (not p || true) ≡ true
     go true = refl
@@ -101,13 +102,16 @@ module _ (f : List ℕ) (c : Counts) (w : List ℕ) (n : ℕ) (sets : FreeSets w
       no-context : (k : ℕ) → (k ≤ c .contexts → ⊥) → contextOf (bundleAt f c) k ≡ noContext
       no-context k l = at-none noContext (bundleAt f c .contexts) k (omega (arith, contexts-length f c))
 
-      pub all-images : (k x : ℕ) → imagesIn c images k x ≡ image (bundleAt f c) k x
-      all-images k x = go (decLe k (c .contexts))
+      pub all-mentions : (k x : ℕ) → mentionsIn c images k x ≡ found (bundleAt f c) k x
+      all-mentions k x = go (decLe k (c .contexts))
         where
-          go : Dec (k ≤ c .contexts) → imagesIn c images k x ≡ image (bundleAt f c) k x
+          go : Dec (k ≤ c .contexts) → mentionsIn c images k x ≡ found (bundleAt f c) k x
           go (yes l) =
-              rw (le-leb k (c .contexts) l) (ap (λ (v : ℕ). imageAt v images k x) (sym (variables-length f c)) ∙ rows .same k x (omega arith))
-          go (no l) = rw (lt-leb k (c .contexts) (omega arith), own-image (bundleAt f c) k (no-context k l))
+              rw (le-leb k (c .contexts) l) (ap (λ (v : ℕ). mentionAt v images k x) (sym (variables-length f c)) ∙ rows .same k x (omega arith))
+          go (no l) = rw (lt-leb k (c .contexts) (omega arith), found-none (bundleAt f c) k (no-context k l))
+
+      pub all-images : (k x : ℕ) → imagesIn c images k x ≡ image (bundleAt f c) k x
+      all-images k x = ap asImage (all-mentions k x) ∙ sym (image-found (bundleAt f c) k x)
 
       pub all-settleds : (k t : ℕ) → allSettledIn c w m n k t ≡ settled (bundleAt f c) k t
       all-settleds k t = go (decLe k (c .contexts))

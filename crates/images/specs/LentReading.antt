@@ -10,11 +10,13 @@ use Rattle.bundle.specs.Lists.{numbers}
 use Rattle.bundle.specs.Limits.{limits}
 use Rattle.bundle.specs.File.{tab, recordBy, stepFrom, bundleAt}
 use Rattle.sets.specs.Sets.{member, disjointOf}
+use Rattle.logic.specs.declared.Mention.{Mention}
+use Rattle.logic.specs.declared.Mention.the-variants.{Absent}
 use Rattle.logic.specs.declared.Image.{Image}
-use Rattle.logic.specs.declared.Image.the-variants.{Own}
+use Rattle.logic.specs.Contexts.{asImage}
 use Rattle.logic.specs.Longer.{withSteps}
 use Rattle.logic.specs.Readings.{Reading}
-use Rattle.images.specs.ContextRows.{imageAt}
+use Rattle.images.specs.ContextRows.{mentionAt}
 
 -- v is in the set of term t
 unfoldable pub freeIn : ℕ → List ℕ → ℕ → ℕ → ℕ → Bool
@@ -36,8 +38,11 @@ stepIn b bed p = stepOf (withSteps b (bedSteps bed)) p
 abbrev pub known : {A : Type 0} → ℕ → A → (ℕ → ℕ → A) → ℕ → ℕ → A
 known c d f k x = cond (leb k c) (f k x) d
 
+abbrev pub mentionsIn : Counts → List ℕ → ℕ → ℕ → Mention
+mentionsIn c images = known (c .contexts) Absent (mentionAt (c .variables) images)
+
 abbrev pub imagesIn : Counts → List ℕ → ℕ → ℕ → Image
-imagesIn c images = known (c .contexts) Own (imageAt (c .variables) images)
+imagesIn c images k x = asImage (mentionsIn c images k x)
 
 abbrev pub allSettledIn : Counts → List ℕ → List ℕ → ℕ → ℕ → ℕ → Bool
 allSettledIn c w moved n = known (c .contexts) true (settledIn (c .terms) w moved n)

@@ -1,33 +1,54 @@
-// Images of variables in contexts, free variables, settled terms: as the lent memory has them, whatever it holds.
+// Mentions and images of variables in contexts, free variables, settled terms: as the lent memory has them, whatever it holds.
 ghost use mathlib.Core.Path.{_≡_};
-ghost use Prim.Native.Nat.{ℕ, _+_, _*_, _≤_};
+ghost use Prim.Native.Nat.{_+_, _*_, _≤_};
 ghost use lib.ListN.{length};
 ghost use Rattle.bundle.specs.Limits.{limits};
 ghost use Rattle.bundle.specs.File.{Whole, bundleAt};
 ghost use Rattle.logic.specs.Contexts.{isVariable};
-ghost use Rattle.images.specs.ContextRows.{imageAt};
+ghost use Rattle.images.specs.ContextRows.{mentionAt, imageAt};
 ghost use Rattle.images.specs.LentReading.{freeIn, settledIn};
 use bundle::Bundle;
 use bundle::halves::wide;
 use bundle::records::term_field;
 use logic::Image;
+use logic::Mention;
+
+// What a place of the table of images holds for a variable that is fixed. A term's number stands for the term, 0 for a variable that no entry
+// mentions.
+pub const FIXED: usize = 65535;
+
+// What the entries of a context say of variable x.
+pub fn mention_of(b: Bundle, images: &[u16], context: usize, x: usize) -> Mention
+    requires { ⌜ (b .variables ≤ limits .variables) × (limits .variables * (context + 1) ≤ length (now images)) ⌝ }
+    ensures { λ r. ⌜ r ≡ mentionAt (b .variables) (now (images .entry)) context x ⌝ }
+{
+    if x == 0 {
+        return Mention::Absent;
+    }
+    if x > b.variables {
+        return Mention::Absent;
+    }
+    let t = wide(images[Bundle::VARIABLES * context + (x - 1)]);
+    if t == 0 {
+        return Mention::Absent;
+    }
+    if t == FIXED {
+        return Mention::Fixed;
+    }
+    Mention::Replaced(t)
+}
 
 // The image of variable x in a context.
 pub fn image_of(b: Bundle, images: &[u16], context: usize, x: usize) -> Image
     requires { ⌜ (b .variables ≤ limits .variables) × (limits .variables * (context + 1) ≤ length (now images)) ⌝ }
     ensures { λ r. ⌜ r ≡ imageAt (b .variables) (now (images .entry)) context x ⌝ }
 {
-    if x == 0 {
-        return Image::Own;
+    let mention = mention_of(b, images, context, x);
+    match mention {
+        Mention::Fixed => Image::Own,
+        Mention::Replaced(t) => Image::Gives(t),
+        Mention::Absent => Image::Own,
     }
-    if x > b.variables {
-        return Image::Own;
-    }
-    let t = wide(images[Bundle::VARIABLES * context + (x - 1)]);
-    if t == 0 {
-        return Image::Own;
-    }
-    Image::Gives(t)
 }
 
 // Whether term t is the variable x.

@@ -1,7 +1,7 @@
-// What is known of each context, written once: the images of all variables, and the set of those that are moved. The row and the set of a
+// What is known of each context, written once: what its entries say of all variables, and the set of those that are moved. The row and the set of a
 // context start as its parent's; then its entry is written over them.
 ghost use mathlib.Core.Path.{_≡_};
-ghost use mathlib.Core.Bool.{Bool, true, cond};
+ghost use mathlib.Core.Bool.{true, cond};
 ghost use Prim.Native.Nat.{ℕ, _+_, _*_, _≤_, _<_};
 ghost use lib.ListN.{length, getD};
 ghost use lib.Dec.{eqb};
@@ -9,9 +9,9 @@ ghost use Rattle.bundle.specs.Links.{items};
 ghost use Rattle.bundle.specs.Lists.{numbers, each, different};
 ghost use Rattle.bundle.specs.File.{Whole, bundleAt};
 ghost use Rattle.sets.specs.Sets.{member};
-ghost use Rattle.logic.specs.declared.Image.{Image};
-ghost use Rattle.logic.specs.Contexts.{lookup, first, movedBy, contextRefers};
-ghost use Rattle.images.specs.ContextRows.{asImage, imageIn, Images, MovedSets, RowRoom, Untouched, Agrees, Entered};
+ghost use Rattle.logic.specs.Contexts.{lookup, orAbove, asImage, movedBy, contextRefers};
+ghost use Rattle.images.specs.ContextRows.{fixedPlace, asMention, mentionIn, Images, MovedSets, RowRoom, Untouched, Agrees, Entered};
+use super::images::FIXED;
 use super::images::is_variable;
 use bundle::Bundle;
 use bundle::lists::first_link;
@@ -42,7 +42,7 @@ fn inherit(
     parent: usize,
 )
     requires { ⌜ Whole (now file) b × RowRoom (now images) (now moved) n k × (parent < k) ⌝ }
-    ensures { λ _. ⌜ Untouched (now (images .entry)) (now (moved .entry)) (now (images .exit)) (now (moved .exit)) n k × ((x : ℕ) → imageIn (bundleAt (now (file .entry)) b) (now (images .exit)) k x ≡ imageIn (bundleAt (now (file .entry)) b) (now (images .entry)) parent x) × ((x : ℕ) → member (now (moved .exit)) (n * k) n x ≡ member (now (moved .entry)) (n * parent) n x) ⌝ }
+    ensures { λ _. ⌜ Untouched (now (images .entry)) (now (moved .entry)) (now (images .exit)) (now (moved .exit)) n k × ((x : ℕ) → mentionIn (bundleAt (now (file .entry)) b) (now (images .exit)) k x ≡ mentionIn (bundleAt (now (file .entry)) b) (now (images .entry)) parent x) × ((x : ℕ) → member (now (moved .exit)) (n * k) n x ≡ member (now (moved .entry)) (n * parent) n x) ⌝ }
 {
     let count = b.variables;
     copy_row(
@@ -55,7 +55,7 @@ fn inherit(
     sets::unite(moved, n * k, n * parent, n);
 }
 
-// Sets the image of variable x in context k to the term t, or with 0 to x itself.
+// Writes the place of variable x in context k: the term t that replaces it, or FIXED.
 fn set_image(
     file: &[u8],
     b: Bundle,
@@ -67,8 +67,8 @@ fn set_image(
     t: usize,
     moves: bool,
 )
-    requires { ⌜ Whole (now file) b × RowRoom (now images) (now moved) n k × (1 ≤ x) × (x ≤ b .variables) × (b .variables ≤ 64 * n) × (t ≤ b .terms) × (moves ≡ movedBy (bundleAt (now file) b) (asImage t) x) × Agrees (bundleAt (now file) b) (now images) (now moved) n k ⌝ }
-    ensures { λ _. ⌜ Entered (bundleAt (now (file .entry)) b) (now (images .entry)) (now (moved .entry)) (now (images .exit)) (now (moved .exit)) n k (λ y i. cond (eqb x y) (asImage t) i) ⌝ }
+    requires { ⌜ Whole (now file) b × RowRoom (now images) (now moved) n k × (1 ≤ x) × (x ≤ b .variables) × (b .variables ≤ 64 * n) × (t ≤ fixedPlace) × (moves ≡ movedBy (bundleAt (now file) b) (asImage (asMention t)) x) × Agrees (bundleAt (now file) b) (now images) (now moved) n k ⌝ }
+    ensures { λ _. ⌜ Entered (bundleAt (now (file .entry)) b) (now (images .entry)) (now (moved .entry)) (now (images .exit)) (now (moved .exit)) n k (λ y m. cond (eqb x y) (asMention t) m) ⌝ }
 {
     images[Bundle::VARIABLES * k + (x - 1)] = t as u16;
     if moves {
@@ -90,7 +90,7 @@ fn replace(
     terms: usize,
 )
     requires { ⌜ Whole (now file) b × RowRoom (now images) (now moved) n k × (b .variables ≤ 64 * n) × (each (numbers (b .variables)) (items (bundleAt (now file) b) variables) ≡ true) × (each (numbers (b .terms)) (items (bundleAt (now file) b) terms) ≡ true) × (different (items (bundleAt (now file) b) variables) ≡ true) × Agrees (bundleAt (now file) b) (now images) (now moved) n k ⌝ }
-    ensures { λ _. ⌜ Entered (bundleAt (now (file .entry)) b) (now (images .entry)) (now (moved .entry)) (now (images .exit)) (now (moved .exit)) n k (λ x i. first (lookup (items (bundleAt (now (file .entry)) b) variables) (items (bundleAt (now (file .entry)) b) terms) x) i) ⌝ }
+    ensures { λ _. ⌜ Entered (bundleAt (now (file .entry)) b) (now (images .entry)) (now (moved .entry)) (now (images .exit)) (now (moved .exit)) n k (λ x m. orAbove (lookup (items (bundleAt (now (file .entry)) b) variables) (items (bundleAt (now (file .entry)) b) terms) x) m) ⌝ }
 {
     let mut i = first_link(b, variables);
     let mut j = first_link(b, terms);
@@ -118,7 +118,7 @@ pub fn enter(file: &[u8], b: Bundle, images: &mut [u16], moved: &mut [u64], n: u
     let parent = context_field(file, b, k, 3);
     inherit(file, b, images, moved, n, k, parent);
     if kind == 1 {
-        set_image(file, b, images, moved, n, k, first, 0, false);
+        set_image(file, b, images, moved, n, k, first, FIXED, false);
     } else {
         replace(file, b, images, moved, n, k, first, second);
     }

@@ -1,61 +1,33 @@
--- `images::image_of` meets its contract: the place of the variable in the row of the context.
-use native.Mathlib.Omega.{arith}
-use mathlib.Core.Path.{_≡_, sym, ap, _∙_}
-use lib.ListN.{getD}
-use Prim.Native.Nat.{_+_, _*_, _-_}
-use Rattle.images.specs.ContextRows.{asImage}
-use Rattle.images.proofs.ContextRows.{image-zero, image-past, image-some, as-own, as-gives}
+-- `images::image_of` meets its contract: one equation for each variant.
+use mathlib.Core.Path.{sym, ap, _∙_}
 use borrow.Author.Needs.{needs}
+use Rattle.logic.specs.Contexts.{asImage}
 use Rattle.images.proofs.images.image_of.Statement.{statement}
 use Rattle.images.proofs.images.image_of.Tie as tie
 
+mention-of-requires : tie.Need-mention-of-requires
+mention-of-requires c κs = search needs
+
+enum-told : tie.Need-enum-told
+enum-told c = search needs
+
+enum-known-mention : tie.Need-enum-known-mention
+enum-known-mention c = search needs
+
+enum-told-2 : tie.Need-enum-told-2
+enum-told-2 c = search needs
+
 returns : tie.Need-returns
-returns c = sym (image-zero _ _ _ _ (c .if1 .taken))
+unfolding asImage
+returns c = sym (ap asImage (sym (c .before .before .mention-of .ensures) ∙ c .enum-told .given .1))
 
 returns-2 : tie.Need-returns-2
-returns-2 c = sym (image-past _ _ _ _ (c .if2 .taken))
-
-mul-wide : tie.Need-mul-wide
-mul-wide c = search needs
-
-sub-wide : tie.Need-sub-wide
-sub-wide c = search needs
-
-add-wide : tie.Need-add-wide
-add-wide c = omega (arith, c .before .before .before .before .pre .0, c .before .before .before .before .pre .1)
-
-mul-wide-2 : tie.Need-mul-wide-2
-mul-wide-2 c = omega (arith, c .before .before .before .before .pre .0, c .before .before .before .before .pre .1)
-
-shared-slice-read-wide : tie.Need-shared-slice-read-wide
-shared-slice-read-wide c = omega (arith, c .before .before .before .before .before .pre .0, c .before .before .before .before .before .pre .1)
-
-wide-requires : tie.Need-wide-requires
-wide-requires c κs = search needs
+unfolding asImage
+returns-2 c = sym (ap asImage (sym (c .before .before .before .mention-of .ensures) ∙ c .before .mention .given .1))
 
 returns-3 : tie.Need-returns-3
-returns-3 c =
-    let a = c .before .before .before .before .before .before .before .args in
-    let e : c .before .wide .result ≡ getD (a .images .now) (64 * a .context + (a .x - 1)) 0 = c .before .wide .ensures in
-    sym (image-some (a .b .variables) (a .images .now) (a .context) (a .x) (omega arith) (omega arith) ∙ ap asImage (sym e) ∙ as-own (c .before .wide .result) (c .if3 .taken))
-
-returns-4 : tie.Need-returns-4
-returns-4 c =
-    let a = c .before .before .before .before .before .before .before .args in
-    let e : c .before .wide .result ≡ getD (a .images .now) (64 * a .context + (a .x - 1)) 0 = c .before .wide .ensures in
-    sym (image-some (a .b .variables) (a .images .now) (a .context) (a .x) (omega arith) (omega arith) ∙ ap asImage (sym e) ∙ as-gives (c .before .wide .result) (c .if3 .left))
+unfolding asImage
+returns-3 c = sym (ap asImage (sym (c .before .before .mention-of .ensures) ∙ c .enum-told2 .given .1))
 
 pub image-of-spec : {M : Type 1} → statement M
-image-of-spec =
-    tie.close
-    (tie.spec
-    returns
-    returns-2
-    mul-wide
-    sub-wide
-    add-wide
-    mul-wide-2
-    shared-slice-read-wide
-    wide-requires
-    returns-3
-    returns-4)
+image-of-spec = tie.close (tie.spec mention-of-requires enum-told enum-known-mention enum-told-2 returns returns-2 returns-3)

@@ -1,17 +1,16 @@
--- `known::enter` meets its contract: the images of the parent, with the entry's own over them, are those of the context.
+-- `known::enter` meets its contract: what is found in the parent, with what the entry says over it, is what is found in the context.
 use native.Mathlib.Omega.{arith}
-use mathlib.Core.Path.{_≡_, refl, sym, ap, _∙_}
-use Prim.Native.Nat.{_+_, _*_, _≤_, _<_}
+use mathlib.Core.Path.{_≡_, refl, sym, _∙_}
+use Prim.Native.Nat.{_≤_, _<_}
 use lib.ListN.{length}
 use Rattle.bundle.specs.File.{bundleAt}
 use mathlib.Core.Bool.{true}
-use Rattle.bundle.specs.Bundle.{contextOf}
 use Rattle.bundle.specs.Links.{items}
 use Rattle.bundle.specs.Lists.{numbers, each, different}
 use Rattle.bundle.proofs.Fields.{variables-length, terms-length}
-use Rattle.logic.specs.Contexts.{movedBy}
-use Rattle.logic.proofs.Images.{image-fixes, image-replaces}
-use Rattle.images.specs.ContextRows.{asImage}
+use Rattle.logic.specs.Contexts.{asImage, movedBy}
+use Rattle.logic.proofs.Found.{found-fixes, found-replaces}
+use Rattle.images.specs.ContextRows.{asMention}
 use Rattle.logic.proofs.EntryFacts.{lower-parent, fixes-number, replaces-kind, replaces-lists}
 use Rattle.images.proofs.ContextRows.{room-on, agrees-copied, images-on, sets-on}
 use borrow.Author.Needs.{needs}
@@ -37,7 +36,7 @@ inherit-requires c κs =
     (c .before .before .before .before .before .before .before .before .before .pre .0, c .before .before .before .before .before .before .before .before .before .pre .3, rw (c .before .before .context-field4 .ensures) (lower-parent b (a .k) (c .before .before .before .before .before .before .before .before .before .pre .5)))
 
 set-image-requires : tie.Need-set-image-requires
-unfolding movedBy asImage
+unfolding movedBy asImage asMention
 set-image-requires c κs =
     let a = c .before .before .before .before .before .before .before .before .before .before .before .before .before .before .before .before .before .args in
     let b = bundleAt (a .file .now) (a .b) in
@@ -84,7 +83,7 @@ same-length-2 : tie.Need-same-length-2
 same-length-2 c = search needs
 
 returns : tie.Need-returns
-unfolding asImage
+unfolding asMention
 returns c =
     let a = c .before .before .before .before .before .before .before .before .before .before .before .before .before .before .before .before .before .before .before .before .before .before .args in
     let b = bundleAt (a .file .now) (a .b) in
@@ -95,8 +94,8 @@ returns c =
     let low : p .result < a .k = rw (p .ensures) (lower-parent b (a .k) (c .before .before .before .before .before .before .before .before .before .before .before .before .before .before .before .before .before .before .before .before .before .before .pre .5)) in (
       s .ensures .lower .long-row ∙ i .ensures .0 .long-row,
       s .ensures .lower .long-set ∙ i .ensures .0 .long-set,
-      images-on b (a .images .now) (a .moved .now) (i .last .1 .1 .0) (i .last .1 .1 .1 .0) (a .n) (a .k) (p .result) low (c .before .before .before .before .before .before .before .before .before .before .before .before .before .before .before .before .before .before .before .before .before .before .pre .1) (c .before .before .before .before .before .before .before .before .before .before .before .before .before .before .before .before .before .before .before .before .before .before .pre .2) (i .ensures .1) (s .last .1 .1 .0) (s .last .1 .1 .1 .0) (c .before .before .before .before .before .before .before .before .before .before .before .before .before .before .before .before .before .before .before .before .before .before .pre .3) v (i .ensures .0) _ (s .ensures) (λ x. rw (p .ensures, c .before .before .before .before .before .before .before .before .before .before .before .before .before .before .before .before .before .context-field2 .ensures) (sym (image-fixes b (a .k) (rw (← c .before .before .before .before .before .before .before .before .before .before .before .before .before .before .before .before .before .before .context-field .ensures) (c .before .before .before .before .before .before .before .if1 .taken)) (lower-parent b (a .k) (c .before .before .before .before .before .before .before .before .before .before .before .before .before .before .before .before .before .before .before .before .before .before .pre .5)) x))),
-      sets-on b (a .images .now) (a .moved .now) (i .last .1 .1 .0) (i .last .1 .1 .1 .0) (a .n) (a .k) (p .result) low (c .before .before .before .before .before .before .before .before .before .before .before .before .before .before .before .before .before .before .before .before .before .before .pre .1) (c .before .before .before .before .before .before .before .before .before .before .before .before .before .before .before .before .before .before .before .before .before .before .pre .2) (i .ensures .1) (s .last .1 .1 .0) (s .last .1 .1 .1 .0) (c .before .before .before .before .before .before .before .before .before .before .before .before .before .before .before .before .before .before .before .before .before .before .pre .3) v (i .ensures .0) _ (s .ensures) (λ x. rw (p .ensures, c .before .before .before .before .before .before .before .before .before .before .before .before .before .before .before .before .before .context-field2 .ensures) (sym (image-fixes b (a .k) (rw (← c .before .before .before .before .before .before .before .before .before .before .before .before .before .before .before .before .before .before .context-field .ensures) (c .before .before .before .before .before .before .before .if1 .taken)) (lower-parent b (a .k) (c .before .before .before .before .before .before .before .before .before .before .before .before .before .before .before .before .before .before .before .before .before .before .pre .5)) x))),
+      images-on b (a .images .now) (a .moved .now) (i .last .1 .1 .0) (i .last .1 .1 .1 .0) (a .n) (a .k) (p .result) low (c .before .before .before .before .before .before .before .before .before .before .before .before .before .before .before .before .before .before .before .before .before .before .pre .1) (c .before .before .before .before .before .before .before .before .before .before .before .before .before .before .before .before .before .before .before .before .before .before .pre .2) (i .ensures .1) (s .last .1 .1 .0) (s .last .1 .1 .1 .0) (c .before .before .before .before .before .before .before .before .before .before .before .before .before .before .before .before .before .before .before .before .before .before .pre .3) v (i .ensures .0) _ (s .ensures) (λ x. rw (p .ensures, c .before .before .before .before .before .before .before .before .before .before .before .before .before .before .before .before .before .context-field2 .ensures) (sym (found-fixes b (a .k) (rw (← c .before .before .before .before .before .before .before .before .before .before .before .before .before .before .before .before .before .before .context-field .ensures) (c .before .before .before .before .before .before .before .if1 .taken)) (lower-parent b (a .k) (c .before .before .before .before .before .before .before .before .before .before .before .before .before .before .before .before .before .before .before .before .before .before .pre .5)) x))),
+      sets-on b (a .images .now) (a .moved .now) (i .last .1 .1 .0) (i .last .1 .1 .1 .0) (a .n) (a .k) (p .result) low (c .before .before .before .before .before .before .before .before .before .before .before .before .before .before .before .before .before .before .before .before .before .before .pre .1) (c .before .before .before .before .before .before .before .before .before .before .before .before .before .before .before .before .before .before .before .before .before .before .pre .2) (i .ensures .1) (s .last .1 .1 .0) (s .last .1 .1 .1 .0) (c .before .before .before .before .before .before .before .before .before .before .before .before .before .before .before .before .before .before .before .before .before .before .pre .3) v (i .ensures .0) _ (s .ensures) (λ x. rw (p .ensures, c .before .before .before .before .before .before .before .before .before .before .before .before .before .before .before .before .before .context-field2 .ensures) (sym (found-fixes b (a .k) (rw (← c .before .before .before .before .before .before .before .before .before .before .before .before .before .before .before .before .before .before .context-field .ensures) (c .before .before .before .before .before .before .before .if1 .taken)) (lower-parent b (a .k) (c .before .before .before .before .before .before .before .before .before .before .before .before .before .before .before .before .before .before .before .before .before .before .pre .5)) x))),
     )
 
 same-length-3 : tie.Need-same-length-3
@@ -117,8 +116,8 @@ returns-2 c =
     let kind = replaces-kind b (a .k) (c .before .before .before .before .before .before .before .before .before .before .before .before .before .before .before .before .before .before .before .before .before .before .pre .5) (λ e. c .before .before .before .before .before .before .before .if1 .left (c .before .before .before .before .before .before .before .before .before .before .before .before .before .before .before .before .before .before .context-field .ensures ∙ e)) in (
       s .ensures .lower .long-row ∙ i .ensures .0 .long-row,
       s .ensures .lower .long-set ∙ i .ensures .0 .long-set,
-      images-on b (a .images .now) (a .moved .now) (i .last .1 .1 .0) (i .last .1 .1 .1 .0) (a .n) (a .k) (p .result) low (c .before .before .before .before .before .before .before .before .before .before .before .before .before .before .before .before .before .before .before .before .before .before .pre .1) (c .before .before .before .before .before .before .before .before .before .before .before .before .before .before .before .before .before .before .before .before .before .before .pre .2) (i .ensures .1) (s .last .1 .1 .0) (s .last .1 .1 .1 .0) (c .before .before .before .before .before .before .before .before .before .before .before .before .before .before .before .before .before .before .before .before .before .before .pre .3) v (i .ensures .0) _ (s .ensures) (λ x. rw (p .ensures, c .before .before .before .before .before .before .before .before .before .before .before .before .before .before .before .before .before .context-field2 .ensures, c .before .before .before .before .before .before .before .before .before .before .before .before .before .before .before .before .context-field3 .ensures) (sym (image-replaces b (a .k) kind (lower-parent b (a .k) (c .before .before .before .before .before .before .before .before .before .before .before .before .before .before .before .before .before .before .before .before .before .before .pre .5)) x))),
-      sets-on b (a .images .now) (a .moved .now) (i .last .1 .1 .0) (i .last .1 .1 .1 .0) (a .n) (a .k) (p .result) low (c .before .before .before .before .before .before .before .before .before .before .before .before .before .before .before .before .before .before .before .before .before .before .pre .1) (c .before .before .before .before .before .before .before .before .before .before .before .before .before .before .before .before .before .before .before .before .before .before .pre .2) (i .ensures .1) (s .last .1 .1 .0) (s .last .1 .1 .1 .0) (c .before .before .before .before .before .before .before .before .before .before .before .before .before .before .before .before .before .before .before .before .before .before .pre .3) v (i .ensures .0) _ (s .ensures) (λ x. rw (p .ensures, c .before .before .before .before .before .before .before .before .before .before .before .before .before .before .before .before .before .context-field2 .ensures, c .before .before .before .before .before .before .before .before .before .before .before .before .before .before .before .before .context-field3 .ensures) (sym (image-replaces b (a .k) kind (lower-parent b (a .k) (c .before .before .before .before .before .before .before .before .before .before .before .before .before .before .before .before .before .before .before .before .before .before .pre .5)) x))),
+      images-on b (a .images .now) (a .moved .now) (i .last .1 .1 .0) (i .last .1 .1 .1 .0) (a .n) (a .k) (p .result) low (c .before .before .before .before .before .before .before .before .before .before .before .before .before .before .before .before .before .before .before .before .before .before .pre .1) (c .before .before .before .before .before .before .before .before .before .before .before .before .before .before .before .before .before .before .before .before .before .before .pre .2) (i .ensures .1) (s .last .1 .1 .0) (s .last .1 .1 .1 .0) (c .before .before .before .before .before .before .before .before .before .before .before .before .before .before .before .before .before .before .before .before .before .before .pre .3) v (i .ensures .0) _ (s .ensures) (λ x. rw (p .ensures, c .before .before .before .before .before .before .before .before .before .before .before .before .before .before .before .before .before .context-field2 .ensures, c .before .before .before .before .before .before .before .before .before .before .before .before .before .before .before .before .context-field3 .ensures) (sym (found-replaces b (a .k) kind (lower-parent b (a .k) (c .before .before .before .before .before .before .before .before .before .before .before .before .before .before .before .before .before .before .before .before .before .before .pre .5)) x))),
+      sets-on b (a .images .now) (a .moved .now) (i .last .1 .1 .0) (i .last .1 .1 .1 .0) (a .n) (a .k) (p .result) low (c .before .before .before .before .before .before .before .before .before .before .before .before .before .before .before .before .before .before .before .before .before .before .pre .1) (c .before .before .before .before .before .before .before .before .before .before .before .before .before .before .before .before .before .before .before .before .before .before .pre .2) (i .ensures .1) (s .last .1 .1 .0) (s .last .1 .1 .1 .0) (c .before .before .before .before .before .before .before .before .before .before .before .before .before .before .before .before .before .before .before .before .before .before .pre .3) v (i .ensures .0) _ (s .ensures) (λ x. rw (p .ensures, c .before .before .before .before .before .before .before .before .before .before .before .before .before .before .before .before .before .context-field2 .ensures, c .before .before .before .before .before .before .before .before .before .before .before .before .before .before .before .before .context-field3 .ensures) (sym (found-replaces b (a .k) kind (lower-parent b (a .k) (c .before .before .before .before .before .before .before .before .before .before .before .before .before .before .before .before .before .before .before .before .before .before .pre .5)) x))),
     )
 
 pub enter-spec : {M : Type 1} → statement M

@@ -1,22 +1,20 @@
--- `known::replace` meets its contract. The invariant: what is left to replace, over the images so far, makes up the whole.
+-- `known::replace` meets its contract. The invariant: what is left to replace, over the row so far, makes up the whole.
 -- The measure is the length of what is left.
 use borrow.Author.Needs.{needs}
 use native.Mathlib.Omega.{arith}
 use mathlib.Core.Path.{_≡_, refl, sym, ap, _∙_}
-use mathlib.Core.Bool.{true, false, not}
-use mathlib.Core.List.{List, [], _∷_}
-use Prim.Native.Nat.{ℕ, _+_, _*_, _≤_, _<_}
+use mathlib.Core.Bool.{true, not}
+use mathlib.Core.List.{List, _∷_}
+use Prim.Native.Nat.{ℕ, _≤_}
 use lib.ListN.{length}
 use Rattle.bundle.specs.Links.{items}
 use Rattle.bundle.specs.Lists.{numbers, each, different}
 use Rattle.bundle.specs.File.{bundleAt}
 use Rattle.bundle.proofs.Walks.{walk-start, walk-start-le, walk-le, walk-nil, walk-cons, walk-some, walk-length}
-use Rattle.bundle.specs.declared.Bundle.{Bundle as Counts}
-use Rattle.bundle.specs.Bundle.{Bundle}
-use Rattle.logic.specs.Contexts.{lookup, first, movedBy}
+use Rattle.logic.specs.Contexts.{lookup, orAbove, asImage, movedBy}
 use Rattle.logic.proofs.Tests.{numbers-of, and-left, and-right}
-use Rattle.images.specs.ContextRows.{asImage, imageIn, Untouched, Agrees}
-use Rattle.images.proofs.ContextRows.{untouched-refl, untouched-trans, room-on, replacing-on, different-rest, as-gives}
+use Rattle.images.specs.ContextRows.{mentionIn, Untouched, Agrees}
+use Rattle.images.proofs.ContextRows.{untouched-refl, untouched-trans, room-on, replacing-on, different-rest, as-replaced}
 use Rattle.images.proofs.known.replace.Statement.{statement}
 use Rattle.images.proofs.known.replace.Tie as tie
 
@@ -34,7 +32,7 @@ Inv-loop file b images₀ moved₀ n k variables terms i₀ j₀ images moved i 
     × (j ≤ b .links)
     × Untouched images₀ moved₀ images moved n k
     × Agrees (bundleAt file b) images moved n k
-    × ((y : ℕ) → first (lookup (items (bundleAt file b) i) (items (bundleAt file b) j) y) (imageIn (bundleAt file b) images k y) ≡ first (lookup (items (bundleAt file b) variables) (items (bundleAt file b) terms) y) (imageIn (bundleAt file b) images₀ k y))
+    × ((y : ℕ) → orAbove (lookup (items (bundleAt file b) i) (items (bundleAt file b) j) y) (mentionIn (bundleAt file b) images k y) ≡ orAbove (lookup (items (bundleAt file b) variables) (items (bundleAt file b) terms) y) (mentionIn (bundleAt file b) images₀ k y))
     × (each (numbers (b .variables)) (items (bundleAt file b) i) ≡ true)
     × (each (numbers (b .terms)) (items (bundleAt file b) j) ≡ true)
     × (different (items (bundleAt file b) i) ≡ true)
@@ -73,13 +71,13 @@ same-length-2 : tie.Need-same-length-2 Inv-loop μ-loop
 same-length-2 c = c .before .before .loop .inv .2 .long-set
 
 returns : tie.Need-returns Inv-loop μ-loop
-unfolding lookup first
+unfolding lookup orAbove
 returns c =
     let a = c .before .before .before .before .before .before .before .before .args in
     let l = c .before .before .loop in
     record {
       lower = l .inv .2;
-      images = λ y. rw (walk-some (a .file .now) (a .b) (l .i) (c .before .loop-test .taken) (l .inv .0), walk-nil (a .file .now) (a .b) (l .j) (c .if1 .taken)) at (l .inv .4 y);
+      mentions = λ y. rw (walk-some (a .file .now) (a .b) (l .i) (c .before .loop-test .taken) (l .inv .0), walk-nil (a .file .now) (a .b) (l .j) (c .if1 .taken)) at (l .inv .4 y);
       agrees = l .inv .3;
     }
 
@@ -93,7 +91,7 @@ is-variable-requires : tie.Need-is-variable-requires Inv-loop μ-loop
 is-variable-requires c κs = c .before .before .before .before .before .before .before .before .before .before .pre .0
 
 set-image-requires : tie.Need-set-image-requires Inv-loop μ-loop
-unfolding movedBy
+unfolding movedBy asImage
 set-image-requires c κs =
     let a = c .before .before .before .before .before .before .before .before .before .before .before .before .before .args in
     let l = c .before .before .before .before .before .before .before .loop in
@@ -110,8 +108,8 @@ set-image-requires c κs =
       v .0,
       v .1,
       p .2,
-      u .1,
-      ap not (c .before .before .is-variable .ensures) ∙ sym (ap (λ i. movedBy b i (x .result)) (as-gives (t .result) (λ z. omega (arith, u .0)))),
+      omega (arith, u .1, p .0 .within .terms),
+      ap not (c .before .before .is-variable .ensures) ∙ sym (ap (λ m. movedBy b (asImage m) (x .result)) (as-replaced (t .result) (λ z. omega (arith, u .0)) (λ z. omega (arith, u .1, p .0 .within .terms)))),
       l .inv .3,
     )
 
@@ -144,12 +142,14 @@ loop-again c =
     let five : each (numbers (a .b .variables)) (x .result ∷ vs) ≡ true = rw i at (l .inv .5) in
     let six : each (numbers (a .b .terms)) (t .result ∷ ts) ≡ true = rw j at (l .inv .6) in
     let seven : different (x .result ∷ vs) ≡ true = rw i at (l .inv .7) in
-    let some : (t .result ≡ 0) → ⊥ = λ z. omega (arith, each-head (a .b .terms) (t .result) ts six .0) in (
+    let u = each-head (a .b .terms) (t .result) ts six in
+    let few = c .before .before .before .before .before .before .before .before .before .before .before .before .before .before .before .before .before .before .before .before .pre .0 .within .terms in
+    let some = as-replaced (t .result) (λ z. omega (arith, u .0)) (λ z. omega (arith, u .1, few)) in (
       walk-le (a .file .now) (a .b) (l .i) (r .result) (r .ensures),
       walk-le (a .file .now) (a .b) (l .j) (s .result) (s .ensures),
       untouched-trans (a .images .now) (a .moved .now) (l .images) (l .moved) _ _ (a .n) (a .k) (l .inv .2) (set .ensures .lower),
       set .ensures .agrees,
-      (λ y. replacing-on (x .result) (t .result) vs ts (imageIn b (l .images) (a .k)) _ seven some (set .ensures .images) y ∙ (rw (i, j) at (l .inv .4 y))),
+      (λ y. replacing-on (x .result) (t .result) vs ts (mentionIn b (l .images) (a .k)) _ seven some (set .ensures .mentions) y ∙ (rw (i, j) at (l .inv .4 y))),
       each-rest (a .b .variables) (x .result) vs five,
       each-rest (a .b .terms) (t .result) ts six,
       different-rest (x .result) vs seven,
@@ -162,13 +162,13 @@ same-length-4 : tie.Need-same-length-4 Inv-loop μ-loop
 same-length-4 c = c .before .loop .inv .2 .long-set
 
 returns-2 : tie.Need-returns-2 Inv-loop μ-loop
-unfolding lookup first
+unfolding lookup orAbove
 returns-2 c =
     let a = c .before .before .before .before .before .before .before .args in
     let l = c .before .loop in
     record {
       lower = l .inv .2;
-      images = λ y. rw (walk-nil (a .file .now) (a .b) (l .i) (c .loop-test .left)) at (l .inv .4 y);
+      mentions = λ y. rw (walk-nil (a .file .now) (a .b) (l .i) (c .loop-test .left)) at (l .inv .4 y);
       agrees = l .inv .3;
     }
 

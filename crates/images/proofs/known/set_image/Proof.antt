@@ -1,8 +1,5 @@
 -- `known::set_image` meets its contract: one place of the row written, and one bit of the set.
 use native.Mathlib.Omega.{arith}
-use mathlib.Core.Path.{_≡_}
-use Prim.Native.Nat.{_+_, _*_, _-_, _≤_, _<_}
-use lib.ListN.{length}
 use Rattle.bundle.specs.File.{bundleAt}
 use Rattle.bundle.proofs.Fields.{variables-length}
 use Rattle.images.proofs.ContextRows.{entered-set}
