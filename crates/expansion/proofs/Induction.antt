@@ -33,7 +33,7 @@ use Rattle.logic.proofs.Longer.{longer-refl, longer-trans, sizes, variable-adde
 use Rattle.logic.proofs.Kept.{variable-kept, tree-kept, image-kept}
 use Rattle.logic.proofs.FormedKept.{image-tree-kept}
 use Rattle.expansion.specs.Nodes.{Node, Nodes, leaf, node, scope, block, nil, cons, number}
-use Rattle.expansion.specs.Visit.{PlacedTerm, placeApplication, placeBinder, Visit, Visits, concluded, OpenedContext, replacing, fixing, imageTerm, closeApplication, newVariable, fresh, openBinder, closeBinder, visit, visitAll}
+use Rattle.expansion.specs.Visit.{PlacedTerm, placeApplication, placeBinder, Visit, Visits, concluded, OpenedContext, replacing, fixing, imageTerm, closeApplication, newVariable, fresh, renaming, openBinder, closeBinder, visit, visitAll}
 use Rattle.expansion.proofs.Grown.{variable-longer, application-longer, binder-longer, fresh-longer, fixing-longer, replacing-longer, open-longer, visit-longer, visitAll-longer}
 use Rattle.expansion.proofs.AppendedChecked.{Checked, list-checked, list-start, variable-checked}
 use Rattle.expansion.proofs.Placement.{all-map, all-snoc, gather-kept, PlacedAs, variable-placed, application-placed, binder-placed}
@@ -215,7 +215,7 @@ module _ {V₀ : ℕ} {N : ℕ → Type 0} (b : Bundle) (c x : ℕ) (old : Check
         ∙ sym (ap (sort withList) (y-tree from-term)));
   }
 
-  binder-opens : Opens V₀ (And N y) (openBinder b x c) (λ z. first (lookup (x ∷ []) (fresh b x .term ∷ []) z) (image withList fixed z))
+  binder-opens : Opens V₀ (And N y) (renaming withTerm x y (fresh b x .term) c) (λ z. first (lookup (x ∷ []) (fresh b x .term ∷ []) z) (image withList fixed z))
   binder-opens =
       replacing-opens withList fixed list-ok list-substitutes (listStart withFixed (x ∷ [])) (x ∷ []) (fresh b x .term ∷ [])
       (list-start withFixed (x ∷ []) (longer-refl withList)) (list-added withFixed (x ∷ []) (longer-refl withList)) (nx, tt) y-lists (y-result, tt)
