@@ -1,15 +1,11 @@
 -- THE VISITS, without limits. Old records stay, new ones are appended: every append in document 01's order.
 use Prim.Native.Nat.{ℕ, zero, suc}
-use mathlib.Core.Bool.{Bool, cond, _&&_}
 use mathlib.Core.List.{List, [], _∷_, _++_}
 use lib.ListN.{length}
-use lib.Dec.{eqb}
 use Rattle.bundle.specs.Bundle.{Bundle, TermRecord, sortOfVariable}
-use Rattle.bundle.specs.Links.{items}
-use Rattle.bundle.specs.Lists.{sameList}
 use Rattle.logic.specs.declared.Image.{Image}
 use Rattle.logic.specs.declared.Image.the-variants.{Own, Gives}
-use Rattle.logic.specs.Terms.{Binder, forAll, exists, binder, numberOf}
+use Rattle.logic.specs.Terms.{Binder, binder, numberOf}
 use Rattle.logic.specs.Contexts.{image}
 use Rattle.logic.specs.Lookup.{seek, sameVariable, sameApplication, sameBinder}
 use Rattle.logic.specs.Longer.{withVariables, withTerms, withContexts, withSteps, addList, listStart, consecutive}

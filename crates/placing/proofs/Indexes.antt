@@ -21,7 +21,6 @@ use Rattle.placing.specs.declared.Listed.{Listed}
 use Rattle.placing.specs.declared.Recorded.{Recorded}
 use Rattle.placing.specs.declared.Opened.{Opened}
 use Rattle.expansion.specs.Nodes.{leaf}
-use Rattle.expansion.specs.Visit as unlimited
 use Rattle.expansion.specs.Visit.{concluded, replacing, renaming, visit}
 use Rattle.placing.specs.Outcomes.{VisitOutcome, OpenOutcome, AddOutcome, VisitIndexed, RecordIndexed, BinderIndexed, ListIndexed}
 use Rattle.expansion.proofs.Grown.{concluded-longer, replacing-longer, renaming-longer, visit-longer}
@@ -85,8 +84,8 @@ module _ {b : Bundle} {ix : List ℕ} (indexed : Indexed b ix) where
 
 -- ---- a term was appended, and filed
 
-pub plain-filed : (b : Bundle) (k f x d : ℕ) → (k ≡ 2 → ⊥) → d ≡ rootDigest k f → Digested b (record { kind = k; a = f; b = x; c = 0 }) d
-plain-filed b k f x d h e B more = plain-digested b (record { kind = k; a = f; b = x; c = 0 }) h B more ∙ sym e
+pub plain-filed : (b : Bundle) (k f x d : ℕ) → (k ≡ 2 → ⊥) → (k ≡ 5 → ⊥) → d ≡ rootDigest k f → Digested b (record { kind = k; a = f; b = x; c = 0 }) d
+plain-filed b k f x d h g e B more = plain-digested b (record { kind = k; a = f; b = x; c = 0 }) h g B more ∙ sym e
 
 -- w and c are those after the list was appended, and s is where it starts
 pub application-filed : {b : Bundle} {vs w : List ℕ} {a : Recorded} {c : Counts} {s : ℕ} → AddOutcome b vs w a → a ≡ Recorded.Done c s
