@@ -38,9 +38,7 @@ all-small e (x ∷ xs) l = all-small (mix e x) xs (mix-small e x)
 
 digest-small : (b : Bundle) (r : TermRecord) → lookupDigest b r < digests
 unfolding lookupDigest
-digest-small b r =
-    either (eqb (r .kind) 5) (mix-small (mixAll (mixAll (mix 0 5) (items b (r .a))) (items b (r .b))) (r .c))
-    (all-small (rootDigest (r .kind) (r .a)) (cond (eqb (r .kind) 2) (items b (r .b)) []) (mix-small (mix 0 (r .kind)) (r .a)))
+digest-small b r = either (eqb (r .kind) 5) (mix-small _ (r .c)) (all-small _ _ (mix-small _ (r .a)))
   where
     either : (p : Bool) {d e : ℕ} → d < digests → e < digests → cond p d e < digests
     either true h k = h
