@@ -47,7 +47,7 @@ fresh-longer b x =
 pub listed-longer : (b : Bundle) (x y t c : ℕ) → Longer (addList (fixing b y c .bundle) (x ∷ [])) (renaming b x y t c .bundle)
 listed-longer b x y t c =
     let f : OpenedContext = fixing b y c in
-    replacing-longer (addList (f .bundle) (x ∷ [])) (listStart (f .bundle) (x ∷ [])) (f .context) (t ∷ [])
+    replacing-longer (addList (f .bundle) (x ∷ [])) (listStart (f .bundle) (x ∷ [])) _ (t ∷ [])
 
 pub fixed-longer : (b : Bundle) (x y t c : ℕ) → Longer (fixing b y c .bundle) (renaming b x y t c .bundle)
 fixed-longer b x y t c = longer-trans (list-longer (fixing b y c .bundle) (x ∷ [])) (listed-longer b x y t c)
