@@ -11,7 +11,7 @@ ghost use Rattle.bundle.specs.Filed.{digests};
 ghost use Rattle.logic.specs.WellFormed.{TablesFormed};
 ghost use Rattle.scratch.specs.Scratch.{bundleIn, Roomy};
 ghost use Rattle.scratch.specs.Stack.{halves};
-ghost use Rattle.filing.specs.Filing.{mixAll, rootDigest, lookupDigest, Indexed};
+ghost use Rattle.filing.specs.Filing.{mixAll, rootDigest, letDigest, lookupDigest, Indexed};
 use bundle::Bundle;
 use bundle::digests::DIGESTS;
 use bundle::digests::mixed;
@@ -60,6 +60,17 @@ fn mixed_items(words: &[u32], c: Bundle, d: usize, list: usize) -> usize
     sum
 }
 
+// The digest of a let, by its lists of variables and of bound terms and its body.
+fn let_digest(words: &[u32], c: Bundle, variables: usize, bound: usize, body: usize) -> usize
+    requires { ⌜ Roomy (now words) c ⌝ }
+    ensures { λ r. ⌜ (r ≡ letDigest (items (bundleIn (now (words .entry)) c) variables) (items (bundleIn (now (words .entry)) c) bound) body) × (r < digests) ⌝ }
+{
+    let d = mixed(0, 5);
+    let e = mixed_items(words, c, d, variables);
+    let f = mixed_items(words, c, e, bound);
+    mixed(f, body)
+}
+
 // The digest of the record of term t.
 fn digest(words: &[u32], c: Bundle, t: usize) -> usize
     requires { ⌜ Roomy (now words) c ⌝ }
@@ -68,6 +79,10 @@ fn digest(words: &[u32], c: Bundle, t: usize) -> usize
     let kind = term_field(words, c, t, 0);
     let first = term_field(words, c, t, 1);
     let second = term_field(words, c, t, 2);
+    let third = term_field(words, c, t, 3);
+    if kind == 5 {
+        return let_digest(words, c, first, second, third);
+    }
     let d = root_digest(kind, first);
     if kind == 2 {
         mixed_items(words, c, d, second)
