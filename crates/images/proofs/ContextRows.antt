@@ -54,9 +54,9 @@ module _ (variables : ℕ) (w : List ℕ) (k x : ℕ) where
   unfolding mentionAt
   mention-past h = rw (numbers-past variables x h)
 
-  pub mention-some : 1 ≤ x → x ≤ variables → mentionAt variables w k x ≡ asMention (getD w (64 * k + (x - 1)) 0)
+  pub mention-some : 1 ≤ x → x ≤ variables → {t : ℕ} → t ≡ getD w (64 * k + (x - 1)) 0 → mentionAt variables w k x ≡ asMention t
   unfolding mentionAt
-  mention-some one few = rw (numbers-in variables x one few)
+  mention-some one few e = rw (numbers-in variables x one few, e)
 
 module _ (t : ℕ) where
   pub as-absent : t ≡ 0 → asMention t ≡ Absent
@@ -163,7 +163,7 @@ module _ (b : Bundle) (w : List ℕ) (k x t : ℕ) (one : 1 ≤ x) (few : x ≤ 
       go : Dec (x ≡ y) → mentionIn b (set w (64 * k + (x - 1)) t) k y ≡ cond (eqb x y) (asMention t) (mentionIn b w k y)
       go (yes q) =
           rw (eq-eqb x y q, ← q)
-          (mention-some (length (b .variables)) (set w (64 * k + (x - 1)) t) k x one few ∙ ap asMention (getD-set-same w (64 * k + (x - 1)) t 0 (omega arith)))
+          (mention-some (length (b .variables)) (set w (64 * k + (x - 1)) t) k x one few (sym (getD-set-same w (64 * k + (x - 1)) t 0 (omega arith))))
       go (no q) =
           rw (ne-eqb x y q)
           (same-place b (set w (64 * k + (x - 1)) t) w k k y (λ first low. getD-set-other w (64 * k + (x - 1)) (64 * k + (y - 1)) t 0 (λ z. q (omega arith))))

@@ -1,6 +1,6 @@
 -- What the entries of a context say of a variable.
 --     image-found                        THE LAW: a replaced variable has its term for image; a fixed one, and one that is not mentioned, are their own
---     found-empty                        context 0 has no entries
+--     found-empty, found-none            context 0, and a number that is no context's, have no entries
 --     found-fixes, found-replaces        in a context of kind 1 or 2 whose parent is lower: by its entry, and what is found in the parent
 --     mentioned-found, found-mentioned   in a well-formed bundle something is found of the variables that an entry mentions, and of no others
 --     absent-exactly                     THE LAW: none mentions a variable exactly where it is found absent
@@ -93,7 +93,7 @@ told-fixed e = let z : _≡_ {A = ℕ} 0 1 = cc in omega arith
 told-replaced : (t : ℕ) → Told (Replaced t)
 told-replaced t e = let z : _≡_ {A = ℕ} 0 1 = cc in omega arith
 
-pub told? : (m : Mention) → Told m ⊎ (m ≡ Absent)
+told? : (m : Mention) → Told m ⊎ (m ≡ Absent)
 told? Fixed = inl told-fixed
 told? (Replaced t) = inl (told-replaced t)
 told? Absent = inr refl

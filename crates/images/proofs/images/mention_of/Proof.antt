@@ -1,9 +1,6 @@
 -- `images::mention_of` meets its contract: the place of the variable in the row of the context.
 use native.Mathlib.Omega.{arith}
-use mathlib.Core.Path.{_≡_, sym, ap, _∙_}
-use lib.ListN.{getD}
-use Prim.Native.Nat.{_+_, _*_, _-_}
-use Rattle.images.specs.ContextRows.{asMention}
+use mathlib.Core.Path.{sym, _∙_}
 use Rattle.images.proofs.ContextRows.{mention-zero, mention-past, mention-some, as-absent, as-fixed, as-replaced}
 use borrow.Author.Needs.{needs}
 use Rattle.images.proofs.images.mention_of.Statement.{statement}
@@ -34,22 +31,13 @@ wide-requires : tie.Need-wide-requires
 wide-requires c κs = search needs
 
 returns-3 : tie.Need-returns-3
-returns-3 c =
-    let a = c .before .before .before .before .before .before .before .args in
-    let e : c .before .wide .result ≡ getD (a .images .now) (64 * a .context + (a .x - 1)) 0 = c .before .wide .ensures in
-    sym (mention-some (a .b .variables) (a .images .now) (a .context) (a .x) (omega arith) (omega arith) ∙ ap asMention (sym e) ∙ as-absent (c .before .wide .result) (c .if3 .taken))
+returns-3 c = sym (mention-some _ _ _ _ (omega arith) (omega arith) (c .before .wide .ensures) ∙ as-absent _ (c .if3 .taken))
 
 returns-4 : tie.Need-returns-4
-returns-4 c =
-    let a = c .before .before .before .before .before .before .before .before .args in
-    let e : c .before .before .wide .result ≡ getD (a .images .now) (64 * a .context + (a .x - 1)) 0 = c .before .before .wide .ensures in
-    sym (mention-some (a .b .variables) (a .images .now) (a .context) (a .x) (omega arith) (omega arith) ∙ ap asMention (sym e) ∙ as-fixed (c .before .before .wide .result) (c .if4 .taken))
+returns-4 c = sym (mention-some _ _ _ _ (omega arith) (omega arith) (c .before .before .wide .ensures) ∙ as-fixed _ (c .if4 .taken))
 
 returns-5 : tie.Need-returns-5
-returns-5 c =
-    let a = c .before .before .before .before .before .before .before .before .args in
-    let e : c .before .before .wide .result ≡ getD (a .images .now) (64 * a .context + (a .x - 1)) 0 = c .before .before .wide .ensures in
-    sym (mention-some (a .b .variables) (a .images .now) (a .context) (a .x) (omega arith) (omega arith) ∙ ap asMention (sym e) ∙ as-replaced (c .before .before .wide .result) (c .before .if3 .left) (c .if4 .left))
+returns-5 c = sym (mention-some _ _ _ _ (omega arith) (omega arith) (c .before .before .wide .ensures) ∙ as-replaced _ (c .before .if3 .left) (c .if4 .left))
 
 pub mention-of-spec : {M : Type 1} → statement M
 mention-of-spec =
