@@ -11,6 +11,7 @@ use bundle::Bundle;
 use bundle::halves::wide;
 use bundle::records::term_field;
 use logic::Image;
+use logic::kinds::VARIABLE;
 
 // The image of variable x in a context.
 pub fn image_of(b: Bundle, images: &[u16], context: usize, x: usize) -> Image
@@ -37,7 +38,7 @@ pub fn is_variable(file: &[u8], b: Bundle, t: usize, x: usize) -> bool
 {
     let kind = term_field(file, b, t, 0);
     let a = term_field(file, b, t, 1);
-    (kind == 1) & (a == x)
+    (kind == VARIABLE) & (a == x)
 }
 
 // Whether variable v is free in term t. A number that is no term's has no free variables.
