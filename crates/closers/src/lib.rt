@@ -15,6 +15,11 @@ ghost use Rattle.placing.specs.Outcomes.{VisitOutcome, OpenOutcome, BinderOutco
 use bundle::Bundle;
 use bundle::digests::DIGESTS;
 use logic::Image;
+use logic::kinds::FIXES;
+use logic::kinds::REPLACES;
+use logic::rules::BIND;
+use logic::rules::CONG;
+use logic::rules::REFL;
 use placing::Opened;
 use placing::Recorded;
 use placing::Visited;
@@ -111,7 +116,7 @@ pub fn open_let(
         Recorded::Done {
             counts,
             number: start,
-        } => add_context(words, counts, 2, variables, start, parent),
+        } => add_context(words, counts, REPLACES, variables, start, parent),
     }
 }
 
@@ -126,7 +131,7 @@ fn open_one(words: &mut [u32], c: Bundle, variables: usize, parent: usize, term:
         Recorded::Done {
             counts,
             number: start,
-        } => add_context(words, counts, 2, variables, start, parent),
+        } => add_context(words, counts, REPLACES, variables, start, parent),
     }
 }
 
@@ -145,8 +150,8 @@ pub fn close_variable(
 {
     let image = image_in(words, c, context, x);
     match image {
-        Image::Own => conclude_alone(words, c, 1, context, term, term),
-        Image::Gives(t) => conclude_alone(words, c, 1, context, term, t),
+        Image::Own => conclude_alone(words, c, REFL, context, term, term),
+        Image::Gives(t) => conclude_alone(words, c, REFL, context, term, t),
     }
 }
 
@@ -170,7 +175,7 @@ pub fn close_application(
         Recorded::Done {
             counts,
             number: right,
-        } => conclude(words, counts, 2, context, term, right, stack, from, to),
+        } => conclude(words, counts, CONG, context, term, right, stack, from, to),
     }
 }
 
@@ -186,7 +191,7 @@ fn open_renaming(
     requires { ⌜ Ready (now words) c × (x ≤ 4294967295) × (y ≤ 4294967295) × (t ≤ 4294967295) × (parent ≤ 4294967295) ⌝ }
     ensures { λ r. ⌜ (length (now (words .exit)) ≡ length (now (words .entry))) × OpenOutcome (renaming (bundleIn (now (words .entry)) c) x y t parent) (now (words .exit)) r ⌝ }
 {
-    let fixed = add_context(words, c, 1, y, 0, parent);
+    let fixed = add_context(words, c, FIXES, y, 0, parent);
     match fixed {
         Recorded::Full => Recorded::Full,
         Recorded::Done {
@@ -261,6 +266,6 @@ pub fn close_quantifier(
         Recorded::Done {
             counts,
             number: right,
-        } => conclude_one(words, counts, 4, context, term, right, step),
+        } => conclude_one(words, counts, BIND, context, term, right, step),
     }
 }

@@ -20,6 +20,8 @@ use bundle::records::link_field;
 use images::images::is_settled;
 use images::known::enter;
 use logic::Fault;
+use logic::kinds::FIXES;
+use logic::kinds::REPLACES;
 use logic::no_fault;
 use sorting::sorts::lists_agree;
 
@@ -34,10 +36,10 @@ fn context_refers(file: &[u8], b: Bundle, sorts: &[usize], i: usize) -> bool
     let parent = context_field(file, b, i, 3);
     let links = b.links;
     let variables = b.variables;
-    if kind == 1 {
+    if kind == FIXES {
         return (0 < first) & (first <= variables) & (second == 0) & (parent < i);
     }
-    if kind == 2 {
+    if kind == REPLACES {
         let replaced = all_numbers(file, b, first, variables);
         let terms = all_numbers(file, b, second, b.terms);
         let agree = lists_agree(file, b, sorts, first, second);
@@ -85,7 +87,7 @@ fn replacements_settled(
     let kind = context_field(file, b, i, 0);
     let terms = context_field(file, b, i, 2);
     let parent = context_field(file, b, i, 3);
-    if kind == 2 {
+    if kind == REPLACES {
         return all_settled(file, b, area, n, moved, parent, terms);
     }
     true

@@ -16,6 +16,7 @@ use bundle::Bundle;
 use bundle::digests::DIGESTS;
 use bundle::digests::mixed;
 use bundle::lists::first_link;
+use logic::kinds::APPLICATION;
 use scratch::lists::half;
 use scratch::lists::next_link;
 use scratch::records::link_field;
@@ -84,7 +85,7 @@ fn digest(words: &[u32], c: Bundle, t: usize) -> usize
         return let_digest(words, c, first, second, third);
     }
     let d = root_digest(kind, first);
-    if kind == 2 {
+    if kind == APPLICATION {
         mixed_items(words, c, d, second)
     } else {
         d

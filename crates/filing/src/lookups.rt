@@ -14,6 +14,8 @@ ghost use Rattle.filing.specs.Filing.{mixAll, rootDigest, Indexed};
 use bundle::Bundle;
 use bundle::digests::DIGESTS;
 use bundle::halves::wide;
+use logic::kinds::APPLICATION;
+use logic::kinds::VARIABLE;
 use scratch::lists::same_results;
 use scratch::records::term_field;
 
@@ -24,7 +26,7 @@ fn is_variable(words: &[u32], c: Bundle, t: usize, y: usize) -> bool
 {
     let kind = term_field(words, c, t, 0);
     let first = term_field(words, c, t, 1);
-    (kind == 1) & (first == y)
+    (kind == VARIABLE) & (first == y)
 }
 
 // d is the digest of the variable.
@@ -64,7 +66,7 @@ fn is_application(
     let kind = term_field(words, c, t, 0);
     let first = term_field(words, c, t, 1);
     let second = term_field(words, c, t, 2);
-    if kind != 2 {
+    if kind != APPLICATION {
         return false;
     }
     if first != symbol {

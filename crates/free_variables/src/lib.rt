@@ -17,6 +17,10 @@ use bundle::lists::first_link;
 use bundle::lists::next_link;
 use bundle::records::link_field;
 use bundle::records::term_field;
+use logic::kinds::APPLICATION;
+use logic::kinds::LET;
+use logic::kinds::VARIABLE;
+use logic::kinds::is_binder;
 use unions::unite_list;
 use unions::unite_term;
 
@@ -45,21 +49,21 @@ fn free_own(file: &[u8], b: Bundle, area: &mut [u64], n: usize, t: usize, at: us
     let second = term_field(file, b, t, 2);
     let third = term_field(file, b, t, 3);
     sets::clear(area, at, n);
-    if kind == 2 {
+    if kind == APPLICATION {
         return second;
     }
-    if kind == 1 {
+    if kind == VARIABLE {
         if (0 < first) & (first <= b.variables) {
             sets::insert(area, at, n, first);
         }
         return 0;
     }
-    if (kind == 3) | (kind == 4) {
+    if is_binder(kind) {
         unite_term(area, n, t, at, second);
         sets::remove(area, at, n, first);
         return 0;
     }
-    if kind == 5 {
+    if kind == LET {
         unite_term(area, n, t, at, third);
         remove_list(file, b, area, n, at, first);
         return second;

@@ -12,6 +12,7 @@ use bundle::halves::wide;
 use bundle::records::term_field;
 use logic::Image;
 use logic::Mention;
+use logic::kinds::VARIABLE;
 
 // What a place of the table of images holds for a variable that is fixed. A term's number stands for the term, 0 for a variable that no entry
 // mentions.
@@ -58,7 +59,7 @@ pub fn is_variable(file: &[u8], b: Bundle, t: usize, x: usize) -> bool
 {
     let kind = term_field(file, b, t, 0);
     let a = term_field(file, b, t, 1);
-    (kind == 1) & (a == x)
+    (kind == VARIABLE) & (a == x)
 }
 
 // Whether variable v is free in term t. A number that is no term's has no free variables.

@@ -18,6 +18,7 @@ use bundle::lists::first_link;
 use bundle::lists::next_link;
 use bundle::records::context_field;
 use bundle::records::link_field;
+use logic::kinds::FIXES;
 
 // Copies the first `count` places of the row that starts at `from` to that which starts at `to`.
 fn copy_row(images: &mut [u16], from: usize, to: usize, count: usize)
@@ -117,7 +118,7 @@ pub fn enter(file: &[u8], b: Bundle, images: &mut [u16], moved: &mut [u64], n: u
     let second = context_field(file, b, k, 2);
     let parent = context_field(file, b, k, 3);
     inherit(file, b, images, moved, n, k, parent);
-    if kind == 1 {
+    if kind == FIXES {
         set_image(file, b, images, moved, n, k, first, FIXED, false);
     } else {
         replace(file, b, images, moved, n, k, first, second);

@@ -1,40 +1,35 @@
 -- The kind of a term's record, from the tests of the code, and the record by its fields.
---     kind-binder      3 and 4 are binders
---     kind-rest        a number that is none of 2 to 5 is a variable's or no kind
---     kind-other       a number that is none of 1 to 5 is no kind
+--     kind-binder      the number of a binder
+--     kind-rest        a number that is neither 2, 5 nor a binder's is a variable's or no kind
+--     kind-other       a number that is neither 1, 2, 5 nor a binder's is no kind
 --     kind-none, kind-let     a number that has no list of terms, and one that has and is not 2
 --     record-is        a record is its four fields
-use mathlib.Core.Path.{_≡_, refl, sym}
-use mathlib.Core.Bool.{Bool, true, false, cond, not, _&&_, _||_, false≢true}
+use mathlib.Core.Path.{_≡_, refl, sym, _∙_}
+use mathlib.Core.Bool.{Bool, true, false, cond, not, _&&_, false≢true}
 use Prim.Native.Nat.{ℕ}
 use lib.Dec.{eqb}
 use borrow.Author.Tests.{eqb-true, eqb-false, ne-eqb, not-true}
 use Rattle.bundle.specs.Bundle.{TermRecord}
 use Rattle.bundle.proofs.Walks.{or-none}
 use Rattle.logic.proofs.Tests.{and-left, and-right}
-use Rattle.logic.specs.Terms.{Binder, forAll, exists, kindOf, variable, binder, other}
+use Rattle.logic.proofs.TermKinds.{is-binder-exactly, is-binder-numbers}
+use Rattle.logic.specs.Terms.{Binder, kindOf, isBinder, variable, binder, other}
 
-pub kind-binder : (k : ℕ) → (eqb k 3 || eqb k 4) ≡ true → (q : Binder) × (kindOf k ≡ binder q)
-unfolding kindOf
-kind-binder k = go (eqb k 3) refl (eqb k 4) refl
-  where
-    go : (p : Bool) → eqb k 3 ≡ p → (s : Bool) → eqb k 4 ≡ s → (p || s) ≡ true → (q : Binder) × (kindOf k ≡ binder q)
-    go true d s e h = (forAll, rw (eqb-true k 3 d))
-    go false d true e h = (exists, rw (eqb-true k 4 e))
-    go false d false e h = absurd (false≢true h)
+pub kind-binder : (k : ℕ) → isBinder k ≡ true → (q : Binder) × (kindOf k ≡ binder q)
+kind-binder k = is-binder-exactly k .0
 
-module _ (k : ℕ) (not2 : k ≡ 2 → ⊥) (no-binder : (eqb k 3 || eqb k 4) ≡ false) (not5 : k ≡ 5 → ⊥) where
+module _ (k : ℕ) (not2 : k ≡ 2 → ⊥) (no-binder : isBinder k ≡ false) (not5 : k ≡ 5 → ⊥) where
   pub kind-rest : kindOf k ≡ cond (eqb k 1) variable other
   unfolding kindOf
   kind-rest =
-      let none = or-none (eqb k 3) (eqb k 4) no-binder in
+      let none = or-none (eqb k 3) (eqb k 4) (sym (is-binder-numbers k) ∙ no-binder) in
       rw (ne-eqb k 2 not2, none .0, none .1, ne-eqb k 5 not5)
 
   pub kind-other : (k ≡ 1 → ⊥) → kindOf k ≡ other
   kind-other not1 = rw (kind-rest, ne-eqb k 1 not1)
 
 -- the code's test of a kind with a list of terms: neither 2 nor 5, or one of them
-pub kind-none : (k : ℕ) → (k ≡ 1 → ⊥) → (eqb k 3 || eqb k 4) ≡ false → (not (eqb k 2) && not (eqb k 5)) ≡ true → kindOf k ≡ other
+pub kind-none : (k : ℕ) → (k ≡ 1 → ⊥) → isBinder k ≡ false → (not (eqb k 2) && not (eqb k 5)) ≡ true → kindOf k ≡ other
 kind-none k not1 no-binder neither =
     kind-other k (eqb-false k 2 (not-true (eqb k 2) (and-left (not (eqb k 2)) (not (eqb k 5)) neither))) no-binder
     (eqb-false k 5 (not-true (eqb k 5) (and-right (not (eqb k 2)) (not (eqb k 5)) neither))) not1

@@ -2,6 +2,9 @@
 ghost use mathlib.Core.Path.{_≡_};
 ghost use Rattle.logic.specs.Tests.{fault};
 
+pub mod kinds; // kinds.rt: the kinds of terms and of contexts
+pub mod rules; // rules.rt: the rules
+
 // What is wrong with a record: the number of the check that fails, and the record. Number 0: nothing is wrong.
 pub struct Fault {
     pub number: usize,

@@ -21,6 +21,8 @@ use filing::filing::root_digest;
 use filing::lookups::find_application;
 use filing::lookups::find_binder;
 use filing::lookups::find_variable;
+use logic::kinds::APPLICATION;
+use logic::kinds::VARIABLE;
 use scratch::appends::append_context;
 use scratch::appends::append_step;
 use scratch::appends::append_term;
@@ -191,7 +193,7 @@ pub fn place_application(
     requires { ⌜ Ready (now words) c × (symbol ≤ 4294967295) × (from ≤ to) × (to ≤ length (now stack)) × Indexed (bundleIn (now words) c) (now index) ⌝ }
     ensures { λ r. ⌜ (length (now (words .exit)) ≡ length (now (words .entry))) × PlaceOutcome (placeApplication (bundleIn (now (words .entry)) c) symbol (halves true (now (stack .entry)) from to)) (now (words .exit)) r × RecordIndexed (now (words .exit)) (now (index .exit)) r ⌝ }
 {
-    let root = root_digest(2, symbol);
+    let root = root_digest(APPLICATION, symbol);
     let d = mixed_results(root, stack, from, to);
     let found = find_application(words, c, index, d, symbol, stack, from, to);
     if found != 0 {
@@ -206,7 +208,7 @@ pub fn place_application(
         Recorded::Done {
             counts,
             number: start,
-        } => add_term(words, counts, 2, symbol, start, index, d),
+        } => add_term(words, counts, APPLICATION, symbol, start, index, d),
     }
 }
 
@@ -227,7 +229,7 @@ pub fn place_fresh(
     }
     let y = variables + 1;
     let more = append_variable(words, c, sort);
-    let d = root_digest(1, y);
+    let d = root_digest(VARIABLE, y);
     let found = find_variable(words, more, index, d, y);
     if found != 0 {
         return Recorded::Done {
@@ -235,7 +237,7 @@ pub fn place_fresh(
             number: found,
         };
     }
-    add_term(words, more, 1, y, 0, index, d)
+    add_term(words, more, VARIABLE, y, 0, index, d)
 }
 
 // The term of a binder of y in the term `body`, looked up before it is appended.

@@ -23,6 +23,11 @@ use images::images::is_free;
 use images::images::is_settled;
 use images::images::is_variable;
 use logic::Image;
+use logic::kinds::APPLICATION;
+use logic::kinds::FIXES;
+use logic::kinds::LET;
+use logic::kinds::REPLACES;
+use logic::kinds::is_binder;
 use premises::all_prove;
 use premises::step_carries;
 use premises::taken_field;
@@ -80,7 +85,10 @@ pub fn cong_holds(file: &[u8], b: Bundle, s: StepWords, proved: bool) -> bool
     let right_kind = term_field(file, b, right, 0);
     let left_symbol = term_field(file, b, left, 1);
     let right_symbol = term_field(file, b, right, 1);
-    (left_kind == 2) & (right_kind == 2) & (left_symbol == right_symbol) & proved
+    (left_kind == APPLICATION)
+        & (right_kind == APPLICATION)
+        & (left_symbol == right_symbol)
+        & proved
 }
 
 // ---- TRANS
@@ -137,7 +145,7 @@ pub fn bind_terms(file: &[u8], b: Bundle, bed: &[u32], s: StepWords) -> bool
     let premise = first_item(file, b, premises);
     let premise_left = taken_field(file, b, bed, premise, 2);
     let premise_right = taken_field(file, b, bed, premise, 3);
-    ((left_kind == 3) | (left_kind == 4))
+    is_binder(left_kind)
         & (right_kind == left_kind)
         & (premise_left == left_body)
         & (premise_right == right_body)
@@ -168,12 +176,12 @@ pub fn bind_contexts(file: &[u8], b: Bundle, bed: &[u32], s: StepWords) -> bool
     let outer_kind = context_field(file, b, outer, 0);
     let fixed = context_field(file, b, outer, 1);
     let home = context_field(file, b, outer, 3);
-    (kind == 2)
+    (kind == REPLACES)
         & one_variable
         & (variable == x)
         & one_term
         & by_y
-        & (outer_kind == 1)
+        & (outer_kind == FIXES)
         & (fixed == y)
         & (home == context)
 }
@@ -245,10 +253,10 @@ pub fn let_holds(file: &[u8], b: Bundle, bed: &[u32], s: StepWords) -> bool
     let parent = context_field(file, b, inner, 3);
     let same = same_list(file, b, replaced, variables);
     let proved = all_prove(file, b, bed, true, context, bound, terms, premises);
-    (kind == 5)
+    (kind == LET)
         & (from == body)
         & (to == right)
-        & (inner_kind == 2)
+        & (inner_kind == REPLACES)
         & (parent == context)
         & same
         & proved

@@ -11,6 +11,8 @@ use bundle::Bundle;
 use bundle::lists::first_link;
 use logic::Image;
 use logic::Mention;
+use logic::kinds::FIXES;
+use logic::kinds::REPLACES;
 
 // What a list of variables and a list of terms, side by side, say of the variable x.
 fn lookup_in(words: &[u32], c: Bundle, variables: usize, terms: usize, x: usize) -> Mention
@@ -42,13 +44,13 @@ fn mention_in(words: &[u32], c: Bundle, k: usize, x: usize) -> Mention
     let kind = context_field(words, c, k, 0);
     let first = context_field(words, c, k, 1);
     let second = context_field(words, c, k, 2);
-    if kind == 1 {
+    if kind == FIXES {
         if first == x {
             return Mention::Fixed;
         }
         return Mention::Absent;
     }
-    if kind == 2 {
+    if kind == REPLACES {
         return lookup_in(words, c, first, second, x);
     }
     Mention::Fixed

@@ -9,6 +9,8 @@ use bundle::records::link_field;
 use bundle::records::step_field;
 use bundle::records::symbol_field;
 use bundle::records::variable_sort;
+use logic::kinds::FIXES;
+use logic::kinds::REPLACES;
 use show_text::out;
 use show_text::terms::term;
 
@@ -90,10 +92,10 @@ fn context_line(file: &[u8], b: Bundle, i: usize)
     let second = context_field(file, b, i, 2);
     out::name(b"c", i);
     out::name(b" = c", context_field(file, b, i, 3));
-    if kind == 1 {
+    if kind == FIXES {
         out::name(b", v", first);
         out::text(b" fixed");
-    } else if kind == 2 {
+    } else if kind == REPLACES {
         replacements(file, b, first, second);
     } else {
         out::name(b", kind ", kind);

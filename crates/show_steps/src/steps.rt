@@ -7,6 +7,15 @@ use bundle::lists::first_link;
 use bundle::records::link_field;
 use bundle::records::step_field;
 use bundle::records::term_field;
+use logic::kinds;
+use logic::kinds::APPLICATION;
+use logic::kinds::is_binder;
+use logic::rules::BIND;
+use logic::rules::CONG;
+use logic::rules::LET;
+use logic::rules::REFL;
+use logic::rules::RULES;
+use logic::rules::TRANS;
 use show_tables::tables::bad_link;
 use show_tables::tables::bad_sort;
 use show_tables::tables::before;
@@ -24,10 +33,10 @@ use show_text::out;
 
 fn wrong_count(rule: usize) {
     match rule {
-        1 => out::text(b" is REFL, which takes no premises"),
-        3 => out::text(b" is TRANS, which takes two premises"),
-        4 => out::text(b" is BIND, which takes one premise"),
-        _ => not_to(b" has rule ", rule, 5),
+        REFL => out::text(b" is REFL, which takes no premises"),
+        TRANS => out::text(b" is TRANS, which takes two premises"),
+        BIND => out::text(b" is BIND, which takes one premise"),
+        _ => not_to(b" has rule ", rule, RULES),
     }
 }
 
@@ -79,8 +88,8 @@ fn false_refl(context: usize, left: usize, right: usize) {
 fn false_cong(file: &[u8], b: Bundle, context: usize, left: usize, right: usize)
     requires { ⌜ Whole (now file) b ⌝ }
 {
-    let applied = term_field(file, b, left, 0) == 2;
-    let result = term_field(file, b, right, 0) == 2;
+    let applied = term_field(file, b, left, 0) == APPLICATION;
+    let result = term_field(file, b, right, 0) == APPLICATION;
     let same = term_field(file, b, left, 1) == term_field(file, b, right, 1);
     out::name(b" is CONG, and t", left);
     if !(applied & result & same) {
@@ -100,7 +109,7 @@ fn false_bind(file: &[u8], b: Bundle, context: usize, left: usize, right: usize)
     let same = kind == term_field(file, b, right, 0);
     let x = term_field(file, b, left, 1);
     let y = term_field(file, b, right, 1);
-    if same & ((kind == 3) | (kind == 4)) {
+    if same & is_binder(kind) {
         out::name(
             b" is BIND, and its premise does not carry t",
             term_field(file, b, left, 2),
@@ -120,7 +129,7 @@ fn false_bind(file: &[u8], b: Bundle, context: usize, left: usize, right: usize)
 fn false_let(file: &[u8], b: Bundle, context: usize, left: usize, right: usize)
     requires { ⌜ Whole (now file) b ⌝ }
 {
-    if term_field(file, b, left, 0) == 5 {
+    if term_field(file, b, left, 0) == kinds::LET {
         out::name(
             b" is LET, and its premises do not carry the bound terms of t",
             left,
@@ -147,10 +156,10 @@ fn false_step(file: &[u8], b: Bundle, k: usize)
     let right = step_field(file, b, k, 3);
     out::name(b"step ", k);
     match rule {
-        1 => false_refl(context, left, right),
-        2 => false_cong(file, b, context, left, right),
-        4 => false_bind(file, b, context, left, right),
-        5 => false_let(file, b, context, left, right),
+        REFL => false_refl(context, left, right),
+        CONG => false_cong(file, b, context, left, right),
+        BIND => false_bind(file, b, context, left, right),
+        LET => false_let(file, b, context, left, right),
         _ => {
             out::name(b" is TRANS, and its premises do not carry t", left);
             out::name(b" to a middle term and that to t", right);
@@ -168,7 +177,7 @@ fn failed_side(file: &[u8], b: Bundle, k: usize)
     let right = step_field(file, b, k, 3);
     let premise = link_field(file, b, first_link(b, step_field(file, b, k, 4)), 0);
     out::name(b"step ", k);
-    if step_field(file, b, k, 0) == 3 {
+    if step_field(file, b, k, 0) == TRANS {
         out::name(
             b" is TRANS, and its middle term, t",
             step_field(file, b, premise, 3),

@@ -4,6 +4,9 @@ use super::bad_terms::bad_pairs;
 use bundle::Bundle;
 use bundle::lists::all_numbers;
 use bundle::records::context_field;
+use logic::kinds::CONTEXT_KINDS;
+use logic::kinds::FIXES;
+use logic::kinds::REPLACES;
 use show_tables::tables::is_number;
 use show_tables::tables::no_list;
 use show_tables::tables::not_to;
@@ -52,12 +55,12 @@ pub fn bad_context(file: &[u8], b: Bundle, i: usize)
     if i <= parent {
         out::name(b": its parent is c", parent);
         out::text(b", not an earlier context");
-    } else if kind == 1 {
+    } else if kind == FIXES {
         bad_fixing(b, first, second);
-    } else if kind == 2 {
+    } else if kind == REPLACES {
         bad_replacing(file, b, first, second);
     } else {
-        not_to(b" has kind ", kind, 2);
+        not_to(b" has kind ", kind, CONTEXT_KINDS);
     }
 }
 

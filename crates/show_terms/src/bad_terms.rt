@@ -6,6 +6,11 @@ use bundle::lists::all_different;
 use bundle::lists::all_numbers;
 use bundle::lists::first_link;
 use bundle::records::term_field;
+use logic::kinds::APPLICATION;
+use logic::kinds::LET;
+use logic::kinds::TERM_KINDS;
+use logic::kinds::VARIABLE;
+use logic::kinds::is_binder;
 use show_tables::tables::before;
 use show_tables::tables::is_number;
 use show_tables::tables::no_list;
@@ -80,12 +85,15 @@ pub fn bad_term(file: &[u8], b: Bundle, i: usize)
     let second = term_field(file, b, i, 2);
     let third = term_field(file, b, i, 3);
     out::name(b"t", i);
+    if is_binder(kind) {
+        bad_quantifier(b, i, first, second);
+        return;
+    }
     match kind {
-        1 => bad_variable_term(b, first),
-        2 => bad_application(file, b, i, first, second),
-        3 | 4 => bad_quantifier(b, i, first, second),
-        5 => bad_let(file, b, i, first, second, third),
-        _ => not_to(b" has kind ", kind, 5),
+        VARIABLE => bad_variable_term(b, first),
+        APPLICATION => bad_application(file, b, i, first, second),
+        LET => bad_let(file, b, i, first, second, third),
+        _ => not_to(b" has kind ", kind, TERM_KINDS),
     }
 }
 
@@ -110,12 +118,12 @@ pub fn missorted(file: &[u8], b: Bundle, i: usize)
     let first = term_field(file, b, i, 1);
     let second = term_field(file, b, i, 2);
     out::name(b"t", i);
-    if kind == 2 {
+    if kind == APPLICATION {
         out::name(b": its arguments are not as many as symbol ", first);
         out::text(b" (");
         out::symbol(first);
         out::text(b") takes, or not of its sorts");
-    } else if kind == 5 {
+    } else if kind == LET {
         bad_pairs(file, b, first);
     } else {
         out::name(b": its body, t", second);

@@ -1,4 +1,9 @@
 // Pieces of text on standard output: words, numbers and names.
+use logic::rules::BIND;
+use logic::rules::CONG;
+use logic::rules::LET;
+use logic::rules::REFL;
+use logic::rules::TRANS;
 
 pub fn text(words: &[u8]) {
     io::write_all(1, words);
@@ -66,11 +71,11 @@ pub fn declared(i: usize) {
 
 pub fn rule(r: usize) {
     match r {
-        1 => text(b"REFL"),
-        2 => text(b"CONG"),
-        3 => text(b"TRANS"),
-        4 => text(b"BIND"),
-        5 => text(b"LET"),
+        REFL => text(b"REFL"),
+        CONG => text(b"CONG"),
+        TRANS => text(b"TRANS"),
+        BIND => text(b"BIND"),
+        LET => text(b"LET"),
         _ => name(b"rule ", r),
     }
 }

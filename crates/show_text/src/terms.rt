@@ -8,6 +8,11 @@ use bundle::lists::next_link;
 use bundle::records::link_field;
 use bundle::records::term_field;
 use bundle::records::variable_sort;
+use logic::kinds::APPLICATION;
+use logic::kinds::FOR_ALL;
+use logic::kinds::LET;
+use logic::kinds::VARIABLE;
+use logic::kinds::is_binder;
 
 // `(`, and the symbol of an application.
 fn open_application(f: usize) {
@@ -19,7 +24,7 @@ fn open_application(f: usize) {
 fn open_quantifier(file: &[u8], b: Bundle, kind: usize, variable: usize)
     requires { ⌜ Whole (now file) b ⌝ }
 {
-    if kind == 3 {
+    if kind == FOR_ALL {
         out::text(b"(forall ((v");
     } else {
         out::text(b"(exists ((v");
@@ -63,7 +68,7 @@ fn term_name(t: usize, budget: usize) -> usize {
 
 // A variable, or a record of no kind that there is.
 fn simple_term(kind: usize, first: usize, second: usize, third: usize, budget: usize) -> usize {
-    if kind == 1 {
+    if kind == VARIABLE {
         return leaf(b"v", first, budget);
     }
     out::name(b"(kind ", kind);
@@ -143,7 +148,7 @@ pub fn term(file: &[u8], b: Bundle, t: usize, budget: usize) -> usize
     let first = term_field(file, b, t, 1);
     let second = term_field(file, b, t, 2);
     let third = term_field(file, b, t, 3);
-    if kind == 2 {
+    if kind == APPLICATION {
         if first_link(b, second) == 0 {
             return constant(first, budget);
         }
@@ -152,13 +157,13 @@ pub fn term(file: &[u8], b: Bundle, t: usize, budget: usize) -> usize
         out::close();
         return after;
     }
-    if (kind == 3) | (kind == 4) {
+    if is_binder(kind) {
         open_quantifier(file, b, kind, first);
         let after = part(file, b, t, second, budget);
         out::close();
         return after;
     }
-    if kind == 5 {
+    if kind == LET {
         open_let();
         let bound = bound_terms(file, b, t, first, second, budget);
         open_body();

@@ -13,6 +13,9 @@ use super::sorts::sort_in;
 use bundle::Bundle;
 use bundle::records::term_field;
 use bundle::records::variable_sort;
+use logic::kinds::APPLICATION;
+use logic::kinds::LET;
+use logic::kinds::VARIABLE;
 
 // The sort of term t by its record, from the sorts of the terms below it.
 fn sort_by(file: &[u8], b: Bundle, sorts: &[usize], t: usize) -> usize
@@ -20,13 +23,13 @@ fn sort_by(file: &[u8], b: Bundle, sorts: &[usize], t: usize) -> usize
     ensures { λ r. ⌜ r ≡ sortBy (bundleAt (now (file .entry)) b) (λ i. getD (now (sorts .entry)) i 0) (termOf (bundleAt (now (file .entry)) b) t) ⌝ }
 {
     let kind = term_field(file, b, t, 0);
-    if kind == 1 {
+    if kind == VARIABLE {
         return variable_sort(file, b, term_field(file, b, t, 1));
     }
-    if kind == 2 {
+    if kind == APPLICATION {
         return result_sort(file, b, signature_of(b, term_field(file, b, t, 1)));
     }
-    if kind == 5 {
+    if kind == LET {
         return sort_in(sorts, term_field(file, b, t, 3));
     }
     0

@@ -18,6 +18,8 @@ use bundle::lists::next_link;
 use bundle::lists::same_list;
 use bundle::records::link_field;
 use bundle::records::term_field;
+use logic::kinds::APPLICATION;
+use logic::kinds::LET;
 
 // A digest and the first items of a list.
 fn mixed_items(file: &[u8], b: Bundle, d: usize, list: usize) -> usize
@@ -61,8 +63,8 @@ pub fn digest(file: &[u8], b: Bundle, i: usize) -> usize
     let second = term_field(file, b, i, 2);
     let third = term_field(file, b, i, 3);
     let d = mixed(0, kind);
-    let d1 = mixed_field(file, b, kind == 5, d, first);
-    let d2 = mixed_field(file, b, (kind == 2) | (kind == 5), d1, second);
+    let d1 = mixed_field(file, b, kind == LET, d, first);
+    let d2 = mixed_field(file, b, (kind == APPLICATION) | (kind == LET), d1, second);
     mixed(d2, third)
 }
 
@@ -90,14 +92,14 @@ pub fn same_term(file: &[u8], b: Bundle, i: usize, j: usize) -> bool
     let first = same_field(
         file,
         b,
-        kind == 5,
+        kind == LET,
         term_field(file, b, i, 1),
         term_field(file, b, j, 1),
     );
     let second = same_field(
         file,
         b,
-        (kind == 2) | (kind == 5),
+        (kind == APPLICATION) | (kind == LET),
         term_field(file, b, i, 2),
         term_field(file, b, j, 2),
     );

@@ -19,6 +19,10 @@ use bundle::lists::all_numbers;
 use bundle::notes::all_lower;
 use bundle::records::term_field;
 use logic::Fault;
+use logic::kinds::APPLICATION;
+use logic::kinds::LET;
+use logic::kinds::VARIABLE;
+use logic::kinds::is_binder;
 use logic::no_fault;
 use sorting::sorts::arguments_fit;
 use sorting::sorts::is_known;
@@ -45,17 +49,17 @@ pub fn term_refers(file: &[u8], b: Bundle, lower: &mut [u8], i: usize) -> bool
     let links = b.links;
     let variables = b.variables;
     let below = i - 1;
-    if kind == 1 {
+    if kind == VARIABLE {
         return is_number(variables, first) & (second == 0) & (third == 0);
     }
-    if (kind == 3) | (kind == 4) {
+    if is_binder(kind) {
         return is_number(variables, first) & is_number(below, second) & (third == 0);
     }
-    if (kind != 2) & (kind != 5) {
+    if (kind != APPLICATION) & (kind != LET) {
         return false;
     }
     let terms = all_lower(file, b, lower, second, below, 8);
-    if kind == 2 {
+    if kind == APPLICATION {
         let symbol = is_known(signature_of(b, first));
         return symbol & (second <= links) & terms & (third == 0);
     }
@@ -71,13 +75,13 @@ pub fn term_sorted(file: &[u8], b: Bundle, sorts: &[usize], fitting: &mut [u16],
     let kind = term_field(file, b, i, 0);
     let first = term_field(file, b, i, 1);
     let second = term_field(file, b, i, 2);
-    if kind == 2 {
+    if kind == APPLICATION {
         return arguments_fit(file, b, sorts, fitting, signature_of(b, first), second);
     }
-    if (kind == 3) | (kind == 4) {
+    if is_binder(kind) {
         return sort_in(sorts, second) == 0;
     }
-    if kind == 5 {
+    if kind == LET {
         return lists_agree(file, b, sorts, first, second);
     }
     true

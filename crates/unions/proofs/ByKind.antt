@@ -22,7 +22,7 @@ use Rattle.sets.proofs.Members.{holds-small, member-same, member-inserted, memb
 use Rattle.logic.specs.Table.{below}
 use Rattle.logic.proofs.Tables.{table-below}
 use Rattle.logic.proofs.Tests.{numbers-of}
-use Rattle.logic.specs.Terms.{Kind, kindOf, variable, application, binder, letting, other}
+use Rattle.logic.specs.Terms.{Kind, kindOf, isBinder, variable, application, binder, letting, other}
 use Rattle.logic.specs.Free.{freesOf, freeAs, freeBy, freeAt, nothingFree}
 use Rattle.unions.specs.Put.{SetRoom, Kept, Put, setBelow, listAs, listOf, ownAs, ownBy}
 use Rattle.logic.proofs.KindTests.{termRecord, record-is, kind-binder, kind-other}
@@ -88,15 +88,15 @@ module _ {b : Bundle} {m : ℕ} {w v : List ℕ} {n t at k a y z : ℕ} (ready :
   unfolding ownBy listOf
   by-application e = rw (same, e) (refl, record { kept = none .kept; members = empty })
 
-  quantifier-is : (eqb k 3 || eqb k 4) ≡ true → (f : ℕ → ℕ → Bool) (x : ℕ) → ownBy b f (termRecord k a y z) x ≡ (not (eqb x a) && f y x)
+  quantifier-is : isBinder k ≡ true → (f : ℕ → ℕ → Bool) (x : ℕ) → ownBy b f (termRecord k a y z) x ≡ (not (eqb x a) && f y x)
   unfolding ownBy
   quantifier-is e f x = rw (kind-binder k e .1)
 
-  no-list : (eqb k 3 || eqb k 4) ≡ true → 0 ≡ listOf (termRecord k a y z)
+  no-list : isBinder k ≡ true → 0 ≡ listOf (termRecord k a y z)
   unfolding listOf
   no-list e = rw (kind-binder k e .1)
 
-  pub by-quantifier : (u q : List ℕ) → (eqb k 3 || eqb k 4) ≡ true
+  pub by-quantifier : (u q : List ℕ) → isBinder k ≡ true
       → Put v u n at (λ x. member v at n x || setBelow v n t y x) → q ≡ removed u at n a → Own q 0
   by-quantifier u q e put rem =
       let over : Put u q n at (λ x. not (eqb x a) && member u at n x)
@@ -132,7 +132,7 @@ module _ {b : Bundle} {m : ℕ} {w v : List ℕ} {n t at k a y z : ℕ} (ready :
   unfolding listOf
   other-list e = rw e
 
-  pub by-other : (k ≡ 1 → ⊥) → (k ≡ 2 → ⊥) → (eqb k 3 || eqb k 4) ≡ false → (k ≡ 5 → ⊥) → Own v 0
+  pub by-other : (k ≡ 1 → ⊥) → (k ≡ 2 → ⊥) → isBinder k ≡ false → (k ≡ 5 → ⊥) → Own v 0
   by-other not1 not2 e not5 =
       let none-of : kindOf k ≡ other = kind-other k not2 e not5 not1 in
       rw same (other-list none-of, record { kept = none .kept; members = λ x. empty x ∙ sym (other-is none-of (setBelow w n t) x) })

@@ -1,7 +1,6 @@
 -- `rules::bind_terms` meets its contract: a straight line of reads, in the definition's order.
 use Rattle.logic.specs.Tests.{passed}
 use Rattle.logic.specs.Rules.{bindTermsBy}
-use Rattle.logic.proofs.TermKinds.{is-binder-numbers}
 use borrow.Author.Needs.{needs}
 use Rattle.rules.proofs.rules.bind_terms.Statement.{statement}
 use Rattle.rules.proofs.rules.bind_terms.Tie as tie
@@ -27,18 +26,21 @@ taken-field-requires c κs = search needs
 taken-field-requires-2 : tie.Need-taken-field-requires-2
 taken-field-requires-2 c κs = search needs
 
+is-binder-requires : tie.Need-is-binder-requires
+is-binder-requires c κs = search needs
+
 returns : tie.Need-returns
 unfolding passed bindTermsBy
 returns c =
     rw (
-      is-binder-numbers,
-      ← c .before .before .before .before .before .before .term-field .ensures,
-      ← c .before .before .before .before .before .term-field2 .ensures,
-      ← c .before .before .before .before .term-field3 .ensures,
-      ← c .before .before .before .term-field4 .ensures,
-      ← c .before .before .first-item .ensures,
-      ← c .before .taken-field .ensures,
-      ← c .taken-field2 .ensures,
+      ← c .before .before .before .before .before .before .before .term-field .ensures,
+      ← c .before .before .before .before .before .before .term-field2 .ensures,
+      ← c .before .before .before .before .before .term-field3 .ensures,
+      ← c .before .before .before .before .term-field4 .ensures,
+      ← c .before .before .before .first-item .ensures,
+      ← c .before .before .taken-field .ensures,
+      ← c .before .taken-field2 .ensures,
+      ← c .is-binder .ensures,
     )
 
 pub bind-terms-spec : {M : Type 1} → statement M
@@ -52,4 +54,5 @@ bind-terms-spec =
     first-item-requires
     taken-field-requires
     taken-field-requires-2
+    is-binder-requires
     returns)

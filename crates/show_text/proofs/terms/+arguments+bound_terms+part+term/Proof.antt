@@ -25,6 +25,7 @@ use Rattle.bundle.proofs.lists.first_link.Reads as first-link-reads
 use Rattle.bundle.proofs.lists.next_link.Reads as next-link-reads
 use Rattle.bundle.proofs.records.link_field.Reads as link-field-reads
 use Rattle.bundle.proofs.records.term_field.Reads as term-field-reads
+use Rattle.logic.proofs.kinds.is_binder.Reads as is-binder-reads
 use Rattle.show_text.proofs.out.close.Reads as close-reads
 use Rattle.show_text.proofs.out.space.Reads as space-reads
 use Rattle.show_text.proofs.terms.close_binding.Reads as close-binding-reads
@@ -131,6 +132,8 @@ term-calls t = (
   arguments.Post,
   close-reads.Asked,
   close-reads.Learnt,
+  is-binder-reads.Asked,
+  is-binder-reads.Learnt,
   open-quantifier-reads.Asked,
   open-quantifier-reads.Learnt,
   part-below t,
@@ -283,11 +286,14 @@ term-close-requires t c κs = search needs
 term-returns-2 : (t : ℕ) → term-lts.Need-returns-2 (term-calls t) (term-at t) term.Post
 term-returns-2 t c = search needs
 
+term-is-binder-requires : (t : ℕ) → term-lts.Need-is-binder-requires (term-calls t) (term-at t) term.Post
+term-is-binder-requires t c κs = search needs
+
 term-open-quantifier-requires : (t : ℕ) → term-lts.Need-open-quantifier-requires (term-calls t) (term-at t) term.Post
-term-open-quantifier-requires t c κs = c .before .before .before .before .before .before .before .pre .1
+term-open-quantifier-requires t c κs = c .before .before .before .before .before .before .before .before .pre .1
 
 term-part-requires : (t : ℕ) → term-lts.Need-part-requires (term-calls t) (term-at t) term.Post
-term-part-requires t c κs = (omega (arith, c .before .before .before .before .before .before .before .before .pre .0), c .before .before .before .before .before .before .before .before .pre .1)
+term-part-requires t c κs = (omega (arith, c .before .before .before .before .before .before .before .before .before .pre .0), c .before .before .before .before .before .before .before .before .before .pre .1)
 
 term-close-requires-2 : (t : ℕ) → term-lts.Need-close-requires-2 (term-calls t) (term-at t) term.Post
 term-close-requires-2 t c κs = search needs
@@ -299,13 +305,13 @@ term-open-let-requires : (t : ℕ) → term-lts.Need-open-let-requires (term-cal
 term-open-let-requires t c κs = search needs
 
 term-bound-terms-requires : (t : ℕ) → term-lts.Need-bound-terms-requires (term-calls t) (term-at t) term.Post
-term-bound-terms-requires t c κs = (omega (arith, c .before .before .before .before .before .before .before .before .before .pre .0), c .before .before .before .before .before .before .before .before .before .pre .1)
+term-bound-terms-requires t c κs = (omega (arith, c .before .before .before .before .before .before .before .before .before .before .pre .0), c .before .before .before .before .before .before .before .before .before .before .pre .1)
 
 term-open-body-requires : (t : ℕ) → term-lts.Need-open-body-requires (term-calls t) (term-at t) term.Post
 term-open-body-requires t c κs = search needs
 
 term-part-requires-2 : (t : ℕ) → term-lts.Need-part-requires-2 (term-calls t) (term-at t) term.Post
-term-part-requires-2 t c κs = (omega (arith, c .before .before .before .before .before .before .before .before .before .before .before .pre .0), c .before .before .before .before .before .before .before .before .before .before .before .pre .1)
+term-part-requires-2 t c κs = (omega (arith, c .before .before .before .before .before .before .before .before .before .before .before .before .pre .0), c .before .before .before .before .before .before .before .before .before .before .before .before .pre .1)
 
 term-close-requires-3 : (t : ℕ) → term-lts.Need-close-requires-3 (term-calls t) (term-at t) term.Post
 term-close-requires-3 t c κs = search needs
@@ -375,6 +381,7 @@ pub +arguments+bound-terms+part+term-spec : {M : Type 1} → statement M
     (term-arguments-requires t)
     (term-close-requires t)
     (term-returns-2 t)
+    (term-is-binder-requires t)
     (term-open-quantifier-requires t)
     (term-part-requires t)
     (term-close-requires-2 t)

@@ -1,6 +1,7 @@
 -- `terms::term_refers` meets its contract: in each branch the kind is known, and the tests are those that `refersAs` lists for it. Where they hold,
 -- so does that of the items of a list, and what is noted with it.
 use borrow.Author.Needs.{needs}
+use mathlib.Core.Path.{sym, _∙_}
 use mathlib.Core.Bool.{_&&_}
 use lib.Dec.{eqb, leb}
 use Rattle.bundle.proofs.Fields.{symbols-length, variables-length, links-length}
@@ -43,6 +44,9 @@ returns c = (
   λ e. c .before .before .before .before .before .before .before .before .pre .1,
 )
 
+is-binder-requires : tie.Need-is-binder-requires
+is-binder-requires c κs = search needs
+
 is-number-requires-2 : tie.Need-is-number-requires-2
 is-number-requires-2 c κs = search needs
 
@@ -52,23 +56,23 @@ is-number-requires-3 c κs = search needs
 returns-2 : tie.Need-returns-2
 unfolding refers
 returns-2 c =
-    let q = kind-binder (c .before .before .before .before .before .before .before .term-field .result) (c .before .before .if2 .taken) in (
+    let q = kind-binder (c .before .before .before .before .before .before .before .before .term-field .result) (sym (c .before .before .before .is-binder .ensures) ∙ c .before .before .if2 .taken) in (
       rw (
-        ← c .before .before .before .before .before .before .before .term-field .ensures,
+        ← c .before .before .before .before .before .before .before .before .term-field .ensures,
         q .1,
-        ← c .before .before .before .before .before .before .term-field2 .ensures,
-        ← c .before .before .before .before .before .term-field3 .ensures,
-        ← c .before .before .before .before .term-field4 .ensures,
+        ← c .before .before .before .before .before .before .before .term-field2 .ensures,
+        ← c .before .before .before .before .before .before .term-field3 .ensures,
+        ← c .before .before .before .before .before .term-field4 .ensures,
         variables-length,
         ← c .before .is-number2 .ensures,
         ← c .is-number3 .ensures,
       ),
-      λ e. c .before .before .before .before .before .before .before .before .before .before .pre .1,
+      λ e. c .before .before .before .before .before .before .before .before .before .before .before .pre .1,
     )
 
 returns-3 : tie.Need-returns-3
 unfolding refers
-returns-3 c = (rw (← c .before .before .before .before .before .before .term-field .ensures, kind-none (c .before .before .before .before .before .before .term-field .result) (c .before .before .if1 .left) (c .before .if2 .left) (c .if3 .taken)), λ e. c .before .before .before .before .before .before .before .before .before .pre .1)
+returns-3 c = (rw (← c .before .before .before .before .before .before .before .term-field .ensures, kind-none (c .before .before .before .before .before .before .before .term-field .result) (c .before .before .before .if1 .left) (sym (c .before .before .is-binder .ensures) ∙ c .before .if2 .left) (c .if3 .taken)), λ e. c .before .before .before .before .before .before .before .before .before .before .pre .1)
 
 all-lower-requires : tie.Need-all-lower-requires
 all-lower-requires c κs = search needs
@@ -86,15 +90,15 @@ returns-4 : tie.Need-returns-4
 unfolding refers
 returns-4 c =
     let known = c .is-known .result in
-    let starts = leb (c .before .before .before .before .before .before .before .before .before .before .before .term-field3 .result) (c .before .before .before .before .before .before .before .before .before .before .before .before .before .before .before .before .args .b .links) in
+    let starts = leb (c .before .before .before .before .before .before .before .before .before .before .before .before .term-field3 .result) (c .before .before .before .before .before .before .before .before .before .before .before .before .before .before .before .before .before .args .b .links) in
     let all = c .before .before .before .before .before .all-lower .result in
-    let none = eqb (c .before .before .before .before .before .before .before .before .before .before .term-field4 .result) 0 in (
+    let none = eqb (c .before .before .before .before .before .before .before .before .before .before .before .term-field4 .result) 0 in (
       rw (
-        ← c .before .before .before .before .before .before .before .before .before .before .before .before .before .term-field .ensures,
+        ← c .before .before .before .before .before .before .before .before .before .before .before .before .before .before .term-field .ensures,
         c .before .before .if4 .taken,
-        ← c .before .before .before .before .before .before .before .before .before .before .before .before .term-field2 .ensures,
-        ← c .before .before .before .before .before .before .before .before .before .before .before .term-field3 .ensures,
-        ← c .before .before .before .before .before .before .before .before .before .before .term-field4 .ensures,
+        ← c .before .before .before .before .before .before .before .before .before .before .before .before .before .term-field2 .ensures,
+        ← c .before .before .before .before .before .before .before .before .before .before .before .before .term-field3 .ensures,
+        ← c .before .before .before .before .before .before .before .before .before .before .before .term-field4 .ensures,
         symbols-length,
         ← c .before .signature-of .ensures,
         ← c .is-known .ensures,
@@ -116,14 +120,14 @@ same-length-2 c = search needs
 returns-5 : tie.Need-returns-5
 unfolding refers
 returns-5 c =
-    let first = leb (c .before .before .before .before .before .before .before .before .before .before .before .before .term-field2 .result) (c .before .before .before .before .before .before .before .before .before .before .before .before .before .before .before .before .args .b .links) && c .before .all-numbers .result && leb (c .before .before .before .before .before .before .before .before .before .before .before .term-field3 .result) (c .before .before .before .before .before .before .before .before .before .before .before .before .before .before .before .before .args .b .links) in
+    let first = leb (c .before .before .before .before .before .before .before .before .before .before .before .before .before .term-field2 .result) (c .before .before .before .before .before .before .before .before .before .before .before .before .before .before .before .before .before .args .b .links) && c .before .all-numbers .result && leb (c .before .before .before .before .before .before .before .before .before .before .before .before .term-field3 .result) (c .before .before .before .before .before .before .before .before .before .before .before .before .before .before .before .before .before .args .b .links) in
     let all = c .before .before .before .before .before .all-lower .result in (
       rw (
-        ← c .before .before .before .before .before .before .before .before .before .before .before .before .before .term-field .ensures,
-        kind-let (c .before .before .before .before .before .before .before .before .before .before .before .before .before .term-field .result) (c .before .before .if4 .left) (c .before .before .before .before .before .before .before .if3 .left),
-        ← c .before .before .before .before .before .before .before .before .before .before .before .before .term-field2 .ensures,
-        ← c .before .before .before .before .before .before .before .before .before .before .before .term-field3 .ensures,
-        ← c .before .before .before .before .before .before .before .before .before .before .term-field4 .ensures,
+        ← c .before .before .before .before .before .before .before .before .before .before .before .before .before .before .term-field .ensures,
+        kind-let (c .before .before .before .before .before .before .before .before .before .before .before .before .before .before .term-field .result) (c .before .before .if4 .left) (c .before .before .before .before .before .before .before .if3 .left),
+        ← c .before .before .before .before .before .before .before .before .before .before .before .before .before .term-field2 .ensures,
+        ← c .before .before .before .before .before .before .before .before .before .before .before .before .term-field3 .ensures,
+        ← c .before .before .before .before .before .before .before .before .before .before .before .term-field4 .ensures,
         variables-length,
         ← c .before .all-numbers .ensures,
         ← c .before .before .before .before .before .all-lower .ensures .0,
@@ -144,6 +148,7 @@ term-refers-spec =
     sub-below
     is-number-requires
     returns
+    is-binder-requires
     is-number-requires-2
     is-number-requires-3
     returns-2

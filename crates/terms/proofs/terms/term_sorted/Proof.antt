@@ -1,6 +1,6 @@
 -- `terms::term_sorted` meets its contract: in each branch the kind is known, and the callee says what `sortedAs` asks for it.
 use borrow.Author.Needs.{needs}
-use mathlib.Core.Path.{_≡_, refl}
+use mathlib.Core.Path.{_≡_, refl, sym, _∙_}
 use mathlib.Core.Bool.{Bool, true, false, cond}
 use lib.Dec.{eqb}
 use Rattle.bundle.specs.Bundle.{Bundle, TermRecord}
@@ -50,14 +50,17 @@ returns c = (
   c .before .before .arguments-fit .ensures .1,
 )
 
+is-binder-requires : tie.Need-is-binder-requires
+is-binder-requires c κs = search needs
+
 sort-in-requires : tie.Need-sort-in-requires
 sort-in-requires c κs = search needs
 
 returns-2 : tie.Need-returns-2
 unfolding sorted
 returns-2 c =
-    let q = kind-binder (c .before .before .before .before .before .term-field .result) (c .before .if2 .taken) in
-    (rw (← c .before .before .before .before .before .term-field .ensures, q .1, ← c .before .before .before .term-field3 .ensures, ← c .before .before .before .before .before .before .before .before .before .pre .1 .noted (c .before .before .before .term-field3 .result), ← c .sort-in .ensures), λ e. c .before .before .before .before .before .before .before .before .before .pre .2)
+    let q = kind-binder (c .before .before .before .before .before .before .term-field .result) (sym (c .before .before .is-binder .ensures) ∙ c .before .if2 .taken) in
+    (rw (← c .before .before .before .before .before .before .term-field .ensures, q .1, ← c .before .before .before .before .term-field3 .ensures, ← c .before .before .before .before .before .before .before .before .before .before .pre .1 .noted (c .before .before .before .before .term-field3 .result), ← c .sort-in .ensures), λ e. c .before .before .before .before .before .before .before .before .before .before .pre .2)
 
 lists-agree-requires : tie.Need-lists-agree-requires
 lists-agree-requires c κs = search needs
@@ -66,20 +69,20 @@ returns-3 : tie.Need-returns-3
 unfolding sorted
 returns-3 c = (
   rw (
-    ← c .before .before .before .before .before .before .term-field .ensures,
+    ← c .before .before .before .before .before .before .before .term-field .ensures,
     c .before .if3 .taken,
-    ← c .before .before .before .before .before .term-field2 .ensures,
-    ← c .before .before .before .before .term-field3 .ensures,
+    ← c .before .before .before .before .before .before .term-field2 .ensures,
+    ← c .before .before .before .before .before .term-field3 .ensures,
     ← c .lists-agree .ensures,
   ),
-  λ e. c .before .before .before .before .before .before .before .before .before .before .pre .2,
+  λ e. c .before .before .before .before .before .before .before .before .before .before .before .pre .2,
 )
 
 returns-4 : tie.Need-returns-4
 unfolding sorted
 returns-4 c =
-    let k = c .before .before .before .before .before .term-field in
-    (rw (← k .ensures, kind-rest (k .result) (c .before .before .if1 .left) (c .before .if2 .left) (c .if3 .left)) (nothing-asked _ _ (eqb (k .result) 1)), λ e. c .before .before .before .before .before .before .before .before .before .pre .2)
+    let k = c .before .before .before .before .before .before .term-field in
+    (rw (← k .ensures, kind-rest (k .result) (c .before .before .before .if1 .left) (sym (c .before .before .is-binder .ensures) ∙ c .before .if2 .left) (c .if3 .left)) (nothing-asked _ _ (eqb (k .result) 1)), λ e. c .before .before .before .before .before .before .before .before .before .before .pre .2)
 
 pub term-sorted-spec : {M : Type 1} → statement M
 term-sorted-spec =
@@ -92,6 +95,7 @@ term-sorted-spec =
     arguments-fit-requires
     same-length
     returns
+    is-binder-requires
     sort-in-requires
     returns-2
     lists-agree-requires
