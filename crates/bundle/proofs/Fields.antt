@@ -15,7 +15,8 @@ use native.Mathlib.Omega.{arith}
 use lib.ListN.{length}
 use Rattle.bundle.specs.declared.Bundle.{Bundle as Counts}
 use Rattle.bundle.specs.Words.{wordAt}
-use Rattle.bundle.specs.Bundle.{Bundle, at, noSymbol, noLink, noTerm, noContext, noStep, symbolOf, sortOfVariable, termOf, linkOf, contextOf, stepOf, symbolField, linkField, termField, contextField, stepField}
+use Rattle.bundle.specs.Bundle.{Bundle, at, noSymbol, noLink, noTerm, noContext, noStep, symbolOf, sortOfVariable, termOf, linkOf, contextOf, stepOf}
+use Rattle.bundle.specs.Bundle.{symbolField, linkField, termField, contextField, stepField}
 use Rattle.bundle.specs.Limits.{symbolsAt, variablesAt, termsAt, linksAt, contextsAt, stepsAt}
 use Rattle.bundle.specs.File.{tab, recordBy, symbolFrom, linkFrom, termFrom, contextFrom, stepFrom, bundleBy, bundleAt}
 use Rattle.bundle.proofs.Tab.{tab-length, tab-at, tab-ext, tab-more, at-field}
@@ -89,9 +90,11 @@ module _ {A : Type 0} (from : (ℕ → ℕ) → A) (size : ℕ) (same : (u v : �
 
 -- field k of record i of any memory
 module _ (word : ℕ → ℕ) (places c : Counts) (i : ℕ) where
-  pub symbol-is : (k : ℕ) → k < 2 → symbolField (symbolOf (bundleBy word places c) i) k ≡ at 0 (tab (λ j. recordBy word (symbolsAt places) 2 j k) (c .symbols)) i
+  pub symbol-is : (k : ℕ) → k < 2 → symbolField (symbolOf (bundleBy word places c) i) k ≡ at 0 (tab (λ j. recordBy word (symbolsAt places) 2 j k) (c .symbols))
+      i
   unfolding bundleBy
-  symbol-is k h = at-field noSymbol _ (λ r. symbolField r k) _ (symbol-word (λ _. 0) k h) (λ j. symbol-word (recordBy word (symbolsAt places) 2 j) k h) (c .symbols) i
+  symbol-is k h = at-field noSymbol _ (λ r. symbolField r k) _ (symbol-word (λ _. 0) k h) (λ j. symbol-word (recordBy word (symbolsAt places) 2 j) k h)
+      (c .symbols) i
 
   pub variable-is : sortOfVariable (bundleBy word places c) i ≡ at 0 (tab (λ j. recordBy word (variablesAt places) 1 j 0) (c .variables)) i
   unfolding bundleBy
@@ -105,9 +108,11 @@ module _ (word : ℕ → ℕ) (places c : Counts) (i : ℕ) where
   unfolding bundleBy
   link-is k h = at-field noLink _ (λ r. linkField r k) _ (link-word (λ _. 0) k h) (λ j. link-word (recordBy word (linksAt places) 2 j) k h) (c .links) i
 
-  pub context-is : (k : ℕ) → k < 4 → contextField (contextOf (bundleBy word places c) i) k ≡ at 0 (tab (λ j. recordBy word (contextsAt places) 4 j k) (c .contexts)) i
+  pub context-is : (k : ℕ) → k < 4 → contextField (contextOf (bundleBy word places c) i) k ≡ at 0
+      (tab (λ j. recordBy word (contextsAt places) 4 j k) (c .contexts)) i
   unfolding bundleBy
-  context-is k h = at-field noContext _ (λ r. contextField r k) _ (context-word (λ _. 0) k h) (λ j. context-word (recordBy word (contextsAt places) 4 j) k h) (c .contexts) i
+  context-is k h = at-field noContext _ (λ r. contextField r k) _ (context-word (λ _. 0) k h) (λ j. context-word (recordBy word (contextsAt places) 4 j) k h)
+      (c .contexts) i
 
   pub step-is : (k : ℕ) → k < 5 → stepField (stepOf (bundleBy word places c) i) k ≡ at 0 (tab (λ j. recordBy word (stepsAt places) 5 j k) (c .steps)) i
   unfolding bundleBy

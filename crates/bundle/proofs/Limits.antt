@@ -36,7 +36,8 @@ within-all c e =
     }
 
 pub within-true : (c : Counts) → Within c → withinOf c ≡ true
-within-true c w = rw (le-leb _ _ (w .symbols), le-leb _ _ (w .variables), le-leb _ _ (w .terms), le-leb _ _ (w .links), le-leb _ _ (w .contexts), le-leb _ _ (w .steps))
+within-true c w =
+    rw (le-leb _ _ (w .symbols), le-leb _ _ (w .variables), le-leb _ _ (w .terms), le-leb _ _ (w .links), le-leb _ _ (w .contexts), le-leb _ _ (w .steps))
 
 pub within-words : (c : Counts) → Within c → wordsOf c ≤ wordsOf limits
 unfolding headerWords

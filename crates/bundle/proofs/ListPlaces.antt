@@ -67,7 +67,8 @@ module _ (f : List ℕ) (c : Counts) where
       rw (walk-some f c (suc i) (λ z. omega arith) h, eqb·suc-zero i, eqb·suc-zero (length (items (bundleAt f c) (nextOf (bundleAt f c .links) (suc i)))))
 
   pub pair-is : (i : ℕ) → i ≤ c .links
-      → (not (eqb (nextOf (bundleAt f c .links) i) 0) && eqb (nextOf (bundleAt f c .links) (nextOf (bundleAt f c .links) i)) 0) ≡ eqb (length (items (bundleAt f c) i)) 2
+      → (not (eqb (nextOf (bundleAt f c .links) i) 0) && eqb (nextOf (bundleAt f c .links) (nextOf (bundleAt f c .links) i)) 0) ≡ eqb
+      (length (items (bundleAt f c) i)) 2
   unfolding follows
   pair-is zero h = rw (walk-nil f c 0 refl)
   pair-is (suc i) h =

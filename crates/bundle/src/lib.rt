@@ -3,7 +3,8 @@
 // limits, length exact. What it gives is said of the bundle that the file stands for, `bundleAt`.
 ghost use mathlib.Core.Path.{_≡_};
 ghost use Prim.Native.Nat.{_≤_, _<_};
-ghost use Rattle.bundle.specs.Limits.{limits, setWords, leastBytes, headerWords, symbolsAt, variablesAt, termsAt, linksAt, contextsAt, stepsAt, bytesOf, withinOf, Within};
+ghost use Rattle.bundle.specs.Limits.{limits, setWords, leastBytes, headerWords, symbolsAt, variablesAt, termsAt, linksAt, contextsAt, stepsAt};
+ghost use Rattle.bundle.specs.Limits.{bytesOf, withinOf, Within};
 ghost use Rattle.bundle.specs.Limits.{sections, extentOf};
 
 pub mod words; // words.rt: words of bytes, and the header

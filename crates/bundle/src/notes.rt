@@ -15,7 +15,8 @@ use super::records::link_field;
 // list is known, so what is noted holds only where the answer is yes.
 fn far_lower(file: &[u8], b: Bundle, lower: &mut [u8], start: usize, n: usize) -> bool
     requires { ⌜ Whole (now file) b × LowerNoted (now file) b n (now lower) × (start ≤ b .links) ⌝ }
-    ensures { λ r. ⌜ (r ≡ each (numbers n) (items (bundleAt (now (file .entry)) b) start)) × (r ≡ true → LowerNoted (now (file .entry)) b n (now (lower .exit))) ⌝ }
+    ensures { λ r. ⌜ (r ≡ each (numbers n) (items (bundleAt (now (file .entry)) b) start))
+        × (r ≡ true → LowerNoted (now (file .entry)) b n (now (lower .exit))) ⌝ }
 {
     let mut i = start;
     while i != 0 {
@@ -42,7 +43,8 @@ pub fn all_lower(
     plain: usize,
 ) -> bool
     requires { ⌜ Whole (now file) b × LowerNoted (now file) b n (now lower) ⌝ }
-    ensures { λ r. ⌜ (r ≡ each (numbers n) (items (bundleAt (now (file .entry)) b) list)) × (r ≡ true → LowerNoted (now (file .entry)) b n (now (lower .exit))) ⌝ }
+    ensures { λ r. ⌜ (r ≡ each (numbers n) (items (bundleAt (now (file .entry)) b) list))
+        × (r ≡ true → LowerNoted (now (file .entry)) b n (now (lower .exit))) ⌝ }
 {
     let mut i = first_link(b, list);
     let mut left = plain;

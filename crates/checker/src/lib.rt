@@ -60,7 +60,9 @@ fn late_fault_in(
     images: &mut [u16],
     moved: &mut [u64],
 ) -> Fault
-    requires { ⌜ Whole (now file) b × Sorted (now file) b (now sorts) × FreeSets (now free) setWords (bundleAt (now file) b) × (limits .variables * (b .contexts + 1) ≤ length (now images)) × (setWords * (b .contexts + 1) ≤ length (now moved)) × Images (bundleAt (now file) b) (now images) 1 × MovedSets (bundleAt (now file) b) (now moved) setWords 1 ⌝ }
+    requires { ⌜ Whole (now file) b × Sorted (now file) b (now sorts) × FreeSets (now free) setWords (bundleAt (now file) b)
+        × (limits .variables * (b .contexts + 1) ≤ length (now images)) × (setWords * (b .contexts + 1) ≤ length (now moved))
+        × Images (bundleAt (now file) b) (now images) 1 × MovedSets (bundleAt (now file) b) (now moved) setWords 1 ⌝ }
     ensures { λ r. ⌜ r ≡ lateFault (bundleAt (now (file .entry)) b) ⌝ }
 {
     let in_contexts = contexts::contexts::contexts_fault(

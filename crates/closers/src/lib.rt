@@ -44,7 +44,8 @@ fn conclude_alone(
     right: usize,
 ) -> Visited
     requires { ⌜ Ready (now words) c × (rule ≤ 5) × (context ≤ 4294967295) × (left ≤ 4294967295) × (right ≤ 4294967295) ⌝ }
-    ensures { λ r. ⌜ (length (now (words .exit)) ≡ length (now (words .entry))) × VisitOutcome (concluded (bundleIn (now (words .entry)) c) rule context left right []) (now (words .exit)) r ⌝ }
+    ensures { λ r. ⌜ (length (now (words .exit)) ≡ length (now (words .entry)))
+        × VisitOutcome (concluded (bundleIn (now (words .entry)) c) rule context left right []) (now (words .exit)) r ⌝ }
 {
     add_step(words, c, rule, context, left, right, 0)
 }
@@ -60,7 +61,8 @@ fn conclude_one(
     premise: usize,
 ) -> Visited
     requires { ⌜ Ready (now words) c × (rule ≤ 5) × (context ≤ 4294967295) × (left ≤ 4294967295) × (right ≤ 4294967295) × (premise ≤ 4294967295) ⌝ }
-    ensures { λ r. ⌜ (length (now (words .exit)) ≡ length (now (words .entry))) × VisitOutcome (concluded (bundleIn (now (words .entry)) c) rule context left right (premise ∷ [])) (now (words .exit)) r ⌝ }
+    ensures { λ r. ⌜ (length (now (words .exit)) ≡ length (now (words .entry)))
+        × VisitOutcome (concluded (bundleIn (now (words .entry)) c) rule context left right (premise ∷ [])) (now (words .exit)) r ⌝ }
 {
     let listed = add_value(words, c, premise);
     match listed {
@@ -84,8 +86,11 @@ pub fn conclude(
     from: usize,
     to: usize,
 ) -> Visited
-    requires { ⌜ Ready (now words) c × (rule ≤ 5) × (context ≤ 4294967295) × (left ≤ 4294967295) × (right ≤ 4294967295) × (from ≤ to) × (to ≤ length (now stack)) ⌝ }
-    ensures { λ r. ⌜ (length (now (words .exit)) ≡ length (now (words .entry))) × VisitOutcome (concluded (bundleIn (now (words .entry)) c) rule context left right (halves false (now (stack .entry)) from to)) (now (words .exit)) r ⌝ }
+    requires { ⌜ Ready (now words) c × (rule ≤ 5) × (context ≤ 4294967295) × (left ≤ 4294967295) × (right ≤ 4294967295) × (from ≤ to)
+        × (to ≤ length (now stack)) ⌝ }
+    ensures { λ r. ⌜ (length (now (words .exit)) ≡ length (now (words .entry)))
+        × VisitOutcome (concluded (bundleIn (now (words .entry)) c) rule context left right (halves false (now (stack .entry)) from to)) (now (words .exit)) r
+        ⌝ }
 {
     let listed = add_halves(words, c, stack, false, from, to);
     match listed {
@@ -108,7 +113,8 @@ pub fn open_let(
     to: usize,
 ) -> Recorded
     requires { ⌜ Ready (now words) c × (variables ≤ 4294967295) × (parent ≤ 4294967295) × (from ≤ to) × (to ≤ length (now stack)) ⌝ }
-    ensures { λ r. ⌜ (length (now (words .exit)) ≡ length (now (words .entry))) × OpenOutcome (replacing (bundleIn (now (words .entry)) c) variables parent (halves true (now (stack .entry)) from to)) (now (words .exit)) r ⌝ }
+    ensures { λ r. ⌜ (length (now (words .exit)) ≡ length (now (words .entry)))
+        × OpenOutcome (replacing (bundleIn (now (words .entry)) c) variables parent (halves true (now (stack .entry)) from to)) (now (words .exit)) r ⌝ }
 {
     let listed = add_halves(words, c, stack, true, from, to);
     match listed {
@@ -123,7 +129,8 @@ pub fn open_let(
 // A context that replaces the variables of a list by one term.
 fn open_one(words: &mut [u32], c: Bundle, variables: usize, parent: usize, term: usize) -> Recorded
     requires { ⌜ Ready (now words) c × (variables ≤ 4294967295) × (parent ≤ 4294967295) × (term ≤ 4294967295) ⌝ }
-    ensures { λ r. ⌜ (length (now (words .exit)) ≡ length (now (words .entry))) × OpenOutcome (replacing (bundleIn (now (words .entry)) c) variables parent (term ∷ [])) (now (words .exit)) r ⌝ }
+    ensures { λ r. ⌜ (length (now (words .exit)) ≡ length (now (words .entry)))
+        × OpenOutcome (replacing (bundleIn (now (words .entry)) c) variables parent (term ∷ [])) (now (words .exit)) r ⌝ }
 {
     let listed = add_value(words, c, term);
     match listed {
@@ -146,7 +153,8 @@ pub fn close_variable(
     x: usize,
 ) -> Visited
     requires { ⌜ Ready (now words) c × (context ≤ 4294967295) × (term ≤ 4294967295) ⌝ }
-    ensures { λ r. ⌜ (length (now (words .exit)) ≡ length (now (words .entry))) × VisitOutcome (visit (leaf term x) context (bundleIn (now (words .entry)) c)) (now (words .exit)) r ⌝ }
+    ensures { λ r. ⌜ (length (now (words .exit)) ≡ length (now (words .entry)))
+        × VisitOutcome (visit (leaf term x) context (bundleIn (now (words .entry)) c)) (now (words .exit)) r ⌝ }
 {
     let image = image_in(words, c, context, x);
     match image {
@@ -166,8 +174,17 @@ pub fn close_application(
     to: usize,
     index: &mut [u16; DIGESTS + Bundle::TERMS + 1],
 ) -> Visited
-    requires { ⌜ Ready (now words) c × (context ≤ 4294967295) × (term ≤ 4294967295) × (symbol ≤ 4294967295) × (from ≤ to) × (to ≤ length (now stack)) × Indexed (bundleIn (now words) c) (now index) ⌝ }
-    ensures { λ r. ⌜ (length (now (words .exit)) ≡ length (now (words .entry))) × VisitOutcome (closeApplication context term symbol (record { bundle = bundleIn (now (words .entry)) c; results = halves true (now (stack .entry)) from to; steps = halves false (now (stack .entry)) from to })) (now (words .exit)) r × VisitIndexed (now (words .exit)) (now (index .exit)) r ⌝ }
+    requires { ⌜ Ready (now words) c × (context ≤ 4294967295) × (term ≤ 4294967295) × (symbol ≤ 4294967295) × (from ≤ to) × (to ≤ length (now stack))
+        × Indexed (bundleIn (now words) c) (now index) ⌝ }
+    ensures { λ r. ⌜ (length (now (words .exit)) ≡ length (now (words .entry)))
+        × VisitOutcome
+        (closeApplication context term symbol
+        (record {
+          bundle = bundleIn (now (words .entry)) c;
+          results = halves true (now (stack .entry)) from to;
+          steps =
+              halves false (now (stack .entry)) from to;
+        })) (now (words .exit)) r × VisitIndexed (now (words .exit)) (now (index .exit)) r ⌝ }
 {
     let placed = place_application(words, c, symbol, stack, from, to, index);
     match placed {
@@ -189,7 +206,8 @@ fn open_renaming(
     parent: usize,
 ) -> Recorded
     requires { ⌜ Ready (now words) c × (x ≤ 4294967295) × (y ≤ 4294967295) × (t ≤ 4294967295) × (parent ≤ 4294967295) ⌝ }
-    ensures { λ r. ⌜ (length (now (words .exit)) ≡ length (now (words .entry))) × OpenOutcome (renaming (bundleIn (now (words .entry)) c) x y t parent) (now (words .exit)) r ⌝ }
+    ensures { λ r. ⌜ (length (now (words .exit)) ≡ length (now (words .entry)))
+        × OpenOutcome (renaming (bundleIn (now (words .entry)) c) x y t parent) (now (words .exit)) r ⌝ }
 {
     let fixed = add_context(words, c, FIXES, y, 0, parent);
     match fixed {
@@ -219,7 +237,9 @@ pub fn open_quantifier(
     index: &mut [u16; DIGESTS + Bundle::TERMS + 1],
 ) -> Opened
     requires { ⌜ Ready (now words) c × (x ≤ 4294967295) × (context ≤ 4294967295) × Indexed (bundleIn (now words) c) (now index) ⌝ }
-    ensures { λ r. ⌜ (length (now (words .exit)) ≡ length (now (words .entry))) × BinderOutcome (openBinder (bundleIn (now (words .entry)) c) x context) (now (words .exit)) r × BinderIndexed (now (words .exit)) (now (index .exit)) r ⌝ }
+    ensures { λ r. ⌜ (length (now (words .exit)) ≡ length (now (words .entry)))
+        × BinderOutcome (openBinder (bundleIn (now (words .entry)) c) x context) (now (words .exit)) r
+        × BinderIndexed (now (words .exit)) (now (index .exit)) r ⌝ }
 {
     let y = c.variables + 1;
     let placed = place_fresh(words, c, x, index);
@@ -257,8 +277,12 @@ pub fn close_quantifier(
     step: usize,
     index: &mut [u16; DIGESTS + Bundle::TERMS + 1],
 ) -> Visited
-    requires { ⌜ Ready (now words) c × (context ≤ 4294967295) × (term ≤ 4294967295) × (3 ≤ kind) × (kind ≤ 4) × (y ≤ 4294967295) × (result ≤ 4294967295) × (step ≤ 4294967295) × Indexed (bundleIn (now words) c) (now index) ⌝ }
-    ensures { λ r. ⌜ (length (now (words .exit)) ≡ length (now (words .entry))) × ((q : Binder) → kind ≡ numberOf (binder q) → VisitOutcome (closeBinder context term q y (record { bundle = bundleIn (now (words .entry)) c; result = result; step = step })) (now (words .exit)) r) × VisitIndexed (now (words .exit)) (now (index .exit)) r ⌝ }
+    requires { ⌜ Ready (now words) c × (context ≤ 4294967295) × (term ≤ 4294967295) × (3 ≤ kind) × (kind ≤ 4) × (y ≤ 4294967295) × (result ≤ 4294967295)
+        × (step ≤ 4294967295) × Indexed (bundleIn (now words) c) (now index) ⌝ }
+    ensures { λ r. ⌜ (length (now (words .exit)) ≡ length (now (words .entry)))
+        × ((q : Binder) → kind ≡ numberOf (binder q) → VisitOutcome
+        (closeBinder context term q y (record { bundle = bundleIn (now (words .entry)) c; result = result; step = step })) (now (words .exit)) r)
+        × VisitIndexed (now (words .exit)) (now (index .exit)) r ⌝ }
 {
     let placed = place_binder(words, c, kind, y, result, index);
     match placed {

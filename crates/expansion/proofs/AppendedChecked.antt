@@ -22,7 +22,8 @@ use Rattle.logic.specs.Instance.{StepHolds}
 use Rattle.logic.specs.Longer.{Longer, withVariables, withTerms, withContexts, withSteps, startOf, consecutive, addList, listStart}
 use Rattle.logic.proofs.Firsts.{none-bad}
 use Rattle.logic.proofs.Instances.{step-holds, steps-exactly}
-use Rattle.logic.proofs.Longer.{longer-refl, sizes, prefix-at, consecutive-length, list-longer, variables-longer, terms-longer, contexts-longer, steps-longer, variable-added, term-added}
+use Rattle.logic.proofs.Longer.{longer-refl, sizes, prefix-at, consecutive-length, list-longer, variables-longer, terms-longer, contexts-longer}
+use Rattle.logic.proofs.Longer.{steps-longer, variable-added, term-added}
 use Rattle.logic.proofs.FormedKept.{link-formed-kept, symbol-formed-kept, variable-formed-kept, term-formed-kept, fields-kept, context-formed-kept}
 use Rattle.logic.proofs.Later.{passes-kept}
 use Rattle.expansion.specs.Visit.{claiming}
@@ -143,7 +144,8 @@ module _ (b : Bundle) (vs : List ℕ) where
         m : ℕ
         m = length (b .links)
 
-        formed : {x : Link} (i : ℕ) → n ≡ suc (m + i) → linkOf B n ≡ x → (x .next ≡ 0) ⊎ ((suc m + i < x .next) × (x .next < suc m + length vs)) → LinkFormed B n
+        formed : {x : Link} (i : ℕ) → n ≡ suc (m + i) → linkOf B n ≡ x → (x .next ≡ 0) ⊎ ((suc m + i < x .next) × (x .next < suc m + length vs))
+            → LinkFormed B n
         formed {x} i is q (inl z) = inl (ap (λ (l : Link). l .next) q ∙ z)
         formed {x} i is q (inr z) =
             let same : linkOf B n .next ≡ x .next = ap (λ (l : Link). l .next) q in

@@ -68,7 +68,8 @@ module _ (f : List ℕ) (B : Bundle) (fit : Within (countsIn B)) (small : SmallB
   acceptable : (m : ℕ) → setWords * countsOf (fileOf B) .terms ≤ m → Acceptable (fileOf B) m
   unfolding headerWords
   acceptable m long = record {
-    header = record { long = omega (arith, file-length B); version = rw (file-counts B fit small) (theorem .longer .version ∙ one); whole = file-whole B fit small };
+    header =
+        record { long = omega (arith, file-length B); version = rw (file-counts B fit small) (theorem .longer .version ∙ one); whole = file-whole B fit small };
     area = long;
     formed = here .formed;
     steps = here .steps;

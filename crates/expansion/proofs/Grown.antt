@@ -13,7 +13,8 @@ use Rattle.logic.specs.Longer.{Longer, withVariables, addList, listStart}
 use Rattle.logic.proofs.Longer.{longer-refl, longer-trans, list-longer, terms-longer, variables-longer, contexts-longer, steps-longer}
 use Rattle.expansion.specs.Nodes.{Node, Nodes, leaf, node, scope, block, nil, cons, nodeAt}
 use Rattle.logic.specs.Lookup.{seek, sameVariable, sameApplication, sameBinder}
-use Rattle.expansion.specs.Visit.{placed, placeVariable, placeApplication, placeBinder, Visit, Visits, concluded, OpenedContext, replacing, fixing, imageTerm, newVariable, fresh, renaming, OpenedBinder, openBinder, visit, visitAll, visited, expanded, claiming}
+use Rattle.expansion.specs.Visit.{placed, placeVariable, placeApplication, placeBinder, Visit, Visits, concluded, OpenedContext, replacing, fixing}
+use Rattle.expansion.specs.Visit.{imageTerm, newVariable, fresh, renaming, OpenedBinder, openBinder, visit, visitAll, visited, expanded, claiming}
 
 pub placed-longer : (b : Bundle) (vs : List ℕ) (r : ℕ → TermRecord) (n : ℕ) → Longer b (placed b vs r n .bundle)
 placed-longer b vs r zero = longer-trans (list-longer b vs) (terms-longer (addList b vs) (r (listStart b vs) ∷ []))

@@ -34,14 +34,19 @@ use Rattle.logic.proofs.Longer.{longer-refl, longer-trans, sizes, variable-adde
 use Rattle.logic.proofs.Kept.{variable-kept, tree-kept, image-kept}
 use Rattle.logic.proofs.FormedKept.{image-tree-kept}
 use Rattle.expansion.specs.Nodes.{Node, Nodes, leaf, node, scope, block, nil, cons, number}
-use Rattle.expansion.specs.Visit.{PlacedTerm, placeApplication, placeBinder, Visit, Visits, concluded, OpenedContext, replacing, fixing, imageTerm, closeApplication, newVariable, fresh, renaming, openBinder, closeBinder, visit, visitAll}
-use Rattle.expansion.proofs.Grown.{variable-longer, application-longer, binder-longer, fresh-longer, fixing-longer, replacing-longer, open-longer, visit-longer, visitAll-longer}
+use Rattle.expansion.specs.Visit.{PlacedTerm, placeApplication, placeBinder, Visit, Visits, concluded, OpenedContext, replacing, fixing, imageTerm}
+use Rattle.expansion.specs.Visit.{closeApplication, newVariable, fresh, renaming, openBinder, closeBinder, visit, visitAll}
+use Rattle.expansion.proofs.Grown.{variable-longer, application-longer, binder-longer, fresh-longer, fixing-longer, replacing-longer, open-longer}
+use Rattle.expansion.proofs.Grown.{visit-longer, visitAll-longer}
 use Rattle.expansion.proofs.AppendedChecked.{Checked, list-checked, list-start, variable-checked}
 use Rattle.expansion.proofs.Placement.{all-map, all-snoc, gather-kept, PlacedAs, variable-placed, application-placed, binder-placed}
 use Rattle.expansion.proofs.Mentioned.{FixedIn}
-use Rattle.expansion.proofs.Substitution.{Result, Substitutes, replaced-old, substitutes-kept, new-not-free, new-not-in-image, not-listed, not-new, lookup-covers, fixing-says, replacing-says, Opens, fixing-opens, replacing-opens}
-use Rattle.expansion.proofs.Conclusions.{done-says, done-kept, done-none, done-more, done-all-kept, done-results, done-sorts, done-steps, say-all, Visited, VisitedAll, conclude}
-use Rattle.expansion.proofs.Standing.{numbersOf, StandsAs, Stands, Stand, stands-term, stand-terms, stands-kept, stand-kept, application-sorts, binder-sorts, let-lists}
+use Rattle.expansion.proofs.Substitution.{Result, Substitutes, replaced-old, substitutes-kept, new-not-free, new-not-in-image, not-listed, not-new}
+use Rattle.expansion.proofs.Substitution.{lookup-covers, fixing-says, replacing-says, Opens, fixing-opens, replacing-opens}
+use Rattle.expansion.proofs.Conclusions.{done-says, done-kept, done-none, done-more, done-all-kept, done-results, done-sorts, done-steps, say-all}
+use Rattle.expansion.proofs.Conclusions.{Visited, VisitedAll, conclude}
+use Rattle.expansion.proofs.Standing.{numbersOf, StandsAs, Stands, Stand, stands-term, stand-terms, stands-kept, stand-kept, application-sorts}
+use Rattle.expansion.proofs.Standing.{binder-sorts, let-lists}
 
 -- what may be free in a result: the variables of the binders that the visit has opened and not closed, all of them new
 abbrev pub Open : ℕ → (ℕ → Type 0) → Type 0
@@ -311,7 +316,8 @@ module _ {V₀ : ℕ} {N : ℕ → Type 0} (b : Bundle) (c x : ℕ) (old : Check
 
         replaced : Replaces B (openBinder b x c .context) (x ∷ []) (more (var y) none) fixed
         replaced =
-            subst (λ (τ : Term). Replaces B (openBinder b x c .context) (x ∷ []) (more τ none) fixed) (y-tree (longer-trans from-term (longer-trans opened all)))
+            subst (λ (τ : Term). Replaces B (openBinder b x c .context) (x ∷ []) (more τ none) fixed)
+            (y-tree (longer-trans from-term (longer-trans opened all)))
             (replacing-says withList (listStart withFixed (x ∷ [])) fixed (x ∷ []) (fresh b x .term ∷ []) (list-ok .formed .tables)
             (list-start withFixed (x ∷ []) (longer-refl withList)) (list-added withFixed (x ∷ []) (longer-refl withList)) all)
 

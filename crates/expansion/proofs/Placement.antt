@@ -21,7 +21,8 @@ use Rattle.bundle.specs.Lists.{sameList}
 use Rattle.logic.specs.declared.Signature.the-variants.{Unknown}
 use Rattle.logic.specs.Lists.{All, Number}
 use Rattle.logic.specs.Symbols.{truthSort, signatureOf, argumentSorts}
-use Rattle.logic.specs.Terms.{Binder, forAll, exists, Term, var, app, bind, more, Kind, variable, application, binder, letting, other, kindOf, gather, tree, numberOf}
+use Rattle.logic.specs.Terms.{Binder, forAll, exists, Term, var, app, bind, more, Kind, variable, application, binder, letting, other, kindOf, gather, tree}
+use Rattle.logic.specs.Terms.{numberOf}
 use Rattle.logic.specs.WellFormed.{sortOfTerm, TermFormed, a-variable, an-application, a-binder, number, list, Fields, fieldsAs, fieldsOf, TablesFormed}
 use Rattle.logic.specs.Longer.{Longer, withTerms, addList, listStart}
 use Rattle.logic.proofs.Tests.{and-left, and-right, and-both, same-list, list-same}
@@ -300,7 +301,8 @@ binderRecord q y t s = record { kind = numberOf (binder q); a = y; b = t; c = 0 
 pub binder-formed : (b : Bundle) (q : Binder) (y t : ℕ) → TablesFormed b → Number (length (b .variables)) y → Number (length (b .terms)) t
     → sortOfTerm b t ≡ truthSort → TermFormed (grown b [] (binderRecord q y t)) (suc (length (b .terms)))
 binder-formed b q y t formed ny nt sorted =
-    a-binder q (numberOf (binder q)) y t (term-added (addList b []) (binderRecord q y t 0) (longer-refl (grown b [] (binderRecord q y t)))) (number-kind (binder q)) ny
+    a-binder q (numberOf (binder q)) y t (term-added (addList b []) (binderRecord q y t 0) (longer-refl (grown b [] (binderRecord q y t))))
+    (number-kind (binder q)) ny
     (nt .0, omega (arith, nt .1)) (sort-tree-kept (grown-longer b [] (binderRecord q y t)) formed t (nt .1) ∙ sorted)
 
 pub binder-placed : (b : Bundle) (q : Binder) (y t : ℕ) → Checked b → Number (length (b .variables)) y → Number (length (b .terms)) t
@@ -328,7 +330,8 @@ binder-placed b q y t old ny nt sorted =
     sound m e =
         let x : TermRecord = termOf b m in
         let rest : (eqb (x .a) y && eqb (x .b) t) ≡ true = and-right (eqb (x .kind) (numberOf (binder q))) (eqb (x .a) y && eqb (x .b) t) e in
-        let k : x .kind ≡ numberOf (binder q) = eqb-true (x .kind) (numberOf (binder q)) (and-left (eqb (x .kind) (numberOf (binder q))) (eqb (x .a) y && eqb (x .b) t) e) in
+        let k : x .kind ≡ numberOf (binder q) = eqb-true (x .kind) (numberOf (binder q))
+        (and-left (eqb (x .kind) (numberOf (binder q))) (eqb (x .a) y && eqb (x .b) t) e) in
         tree-binder b formed m q refl (binder-number (x .kind) q k)
         ∙ ap₂ (λ (z u : ℕ). bind q z (tree b u)) (eqb-true (x .a) y (and-left (eqb (x .a) y) (eqb (x .b) t) rest))
         (eqb-true (x .b) t (and-right (eqb (x .a) y) (eqb (x .b) t) rest))

@@ -25,13 +25,15 @@ use Rattle.logic.specs.declared.Image.the-variants.{Own, Gives}
 use Rattle.logic.specs.declared.Mention.{Mention}
 use Rattle.logic.specs.declared.Mention.the-variants.{Fixed, Replaced, Absent}
 use Rattle.logic.specs.Terms.{Binder, forAll, exists, Kind, kindOf, variable, application, binder, letting, other, numberOf}
-use Rattle.logic.specs.Contexts.{Entry, fixing as isFixing, replacing as isReplacing, noEntry, entryOf, lookup, mentionAs, mention, first, imageBy, ownImage, image}
+use Rattle.logic.specs.Contexts.{Entry, fixing as isFixing, replacing as isReplacing, noEntry, entryOf, lookup, mentionAs, mention, first, imageBy, ownImage}
+use Rattle.logic.specs.Contexts.{image}
 use Rattle.logic.specs.Longer.{Longer, withVariables, withTerms, withLinks, withContexts, withSteps, startOf, consecutive, addList, listStart}
 use Rattle.logic.proofs.Tables.{table-all}
 use Rattle.logic.proofs.Longer.{longer-refl, longer-trans, sizes, list-longer, terms-longer, contexts-longer, steps-longer, consecutive-length}
 use Rattle.expansion.specs.Nodes.{Node, Nodes, leaf, node, scope, block, nil, cons, Numbered, numbered, gatherNodes, noNode, nodeAs, nodeBy, nodeAt}
 use Rattle.logic.specs.Lookup.{after, seek, sameVariable, sameApplication, sameBinder}
-use Rattle.expansion.specs.Visit.{PlacedTerm, placed, placeApplication, placeBinder, Visit, Visits, concluded, OpenedContext, replacing, fixing, imageTerm, newVariable, fresh, renaming, OpenedBinder, openBinder, visit, visitAll, visited, expanded}
+use Rattle.expansion.specs.Visit.{PlacedTerm, placed, placeApplication, placeBinder, Visit, Visits, concluded, OpenedContext, replacing, fixing}
+use Rattle.expansion.specs.Visit.{imageTerm, newVariable, fresh, renaming, OpenedBinder, openBinder, visit, visitAll, visited, expanded}
 use Rattle.expansion.specs.File.{countsIn, symbolWords, variableWords, termWords, linkWords, contextWords, stepWords}
 use Rattle.expansion.specs.Demands.{Bytes}
 use Rattle.expansion.proofs.SmallNumbers.{Word, SmallBundle, all-append, all-snoc, all-getD, all-at, all-tab}
@@ -239,7 +241,8 @@ node-small b small fit t =
     table-all (nodeBy b) noNode SmallNode (omega arith, omega arith, tt) none (numbered 1 (b .terms))
     (λ i f h.
     let r : Numbered = at none (numbered 1 (b .terms)) i in
-    node-as b (kindOf (r .term .kind)) f r h (all-at SmallNumbered (numbered 1 (b .terms)) none (numbered-small 1 (b .terms) (small .terms) (omega arith)) nothing i))
+    node-as b (kindOf (r .term .kind)) f r h
+    (all-at SmallNumbered (numbered 1 (b .terms)) none (numbered-small 1 (b .terms) (small .terms) (omega arith)) nothing i))
     t
   where
     none : Numbered

@@ -25,7 +25,8 @@ use Rattle.logic.proofs.Images.{sortsOf, sorts-gather}
 use Rattle.logic.proofs.Shapes.{formed-before, Shape, var-shape, app-shape, bind-shape, let-shape, shape}
 use Rattle.logic.proofs.Longer.{sizes}
 use Rattle.logic.proofs.Kept.{items-kept, tree-kept}
-use Rattle.expansion.specs.Nodes.{Node, Nodes, leaf, node, scope, block, nil, cons, number, Numbered, numbered, gatherNodes, noNode, nodeAs, nodeBy, nodeAt}
+use Rattle.expansion.specs.Nodes.{Node, Nodes, leaf, node, scope, block, nil, cons, number, Numbered, numbered, gatherNodes, noNode, nodeAs, nodeBy}
+use Rattle.expansion.specs.Nodes.{nodeAt}
 use Rattle.expansion.proofs.Placement.{gather-kept}
 
 abbrev pub numbersOf : Nodes → List ℕ

@@ -334,7 +334,8 @@ module _ {V₀ : ℕ} {N : ℕ → Type 0} (b : Bundle) (c : ℕ) (old : Checked
 
       settled : (t : ℕ) → Result N b t → Settled B c (tree B t)
       settled t h =
-          subst (Settled B c) (sym (tree-kept longer formed t (h .is-term .1))) (settled-in-kept longer (old .formed) c (tree b t) (s .here) (results-settled s t h))
+          subst (Settled B c) (sym (tree-kept longer formed t (h .is-term .1)))
+          (settled-in-kept longer (old .formed) c (tree b t) (s .here) (results-settled s t h))
 
       kept : Substitutes V₀ N B c
       kept = substitutes-kept s longer (old .formed) (λ x n. n) (s .itself)

@@ -50,7 +50,8 @@ module _ (w : List ℕ) (to : ℕ) (f : List ℕ) (k n : ℕ) where
   copied-more room =
       let h : to ≤ length w = omega arith in
       rw (← append-assoc, drop-cons w (to + n) 0, add-one n, wordsFrom-more)
-      (set-at (take to w ++ wordsFrom f k n) (getD w (to + n) 0) (drop (suc (to + n)) w) (wordAt f (k + n)) (to + n) (head-length h) ∙ simp (append-assoc, add-suc))
+      (set-at (take to w ++ wordsFrom f k n) (getD w (to + n) 0) (drop (suc (to + n)) w) (wordAt f (k + n)) (to + n) (head-length h)
+      ∙ simp (append-assoc, add-suc))
 
   pub getD-copied : (j : ℕ) → to ≤ length w → j < n → getD (copied w to f k n) (to + j) 0 ≡ wordAt f (k + j)
   getD-copied j h l =

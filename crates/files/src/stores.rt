@@ -31,7 +31,8 @@ fn header(c: Bundle, left: usize, right: usize) -> [u32; Bundle::HEADER]
 // Stores the file of the bundle in the scratch, with the claim that `left` is `right`, at the start of the output.
 pub fn store_file(words: &[u32], c: Bundle, left: usize, right: usize, out: &mut [u8])
     requires { ⌜ Ready (now words) c × (left ≤ 4294967295) × (right ≤ 4294967295) × (bytesOf limits ≤ length (now out)) ⌝ }
-    ensures { λ _. ⌜ (length (now (out .exit)) ≡ length (now (out .entry))) × (take (bytesOf c) (now (out .exit)) ≡ fileOf (claiming (bundleIn (now (words .entry)) c) left right)) ⌝ }
+    ensures { λ _. ⌜ (length (now (out .exit)) ≡ length (now (out .entry)))
+        × (take (bytesOf c) (now (out .exit)) ≡ fileOf (claiming (bundleIn (now (words .entry)) c) left right)) ⌝ }
 {
     let room = Bundle::largest();
     let mut from = room.symbols_at();

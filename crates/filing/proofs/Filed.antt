@@ -93,7 +93,8 @@ let-digest b vs ts t r e =
 pub plain-digested : (b : Bundle) (r : TermRecord) → (r .kind ≡ 2 → ⊥) → (r .kind ≡ 5 → ⊥) → Digested b r (rootDigest (r .kind) (r .a))
 plain-digested b r h k B more = plain B r h k
 
-pub application-digested : (b : Bundle) (f : ℕ) (vs : List ℕ) → Digested (addList b vs) (record { kind = 2; a = f; b = listStart b vs; c = 0 }) (mixAll (rootDigest 2 f) vs)
+pub application-digested : (b : Bundle) (f : ℕ) (vs : List ℕ)
+    → Digested (addList b vs) (record { kind = 2; a = f; b = listStart b vs; c = 0 }) (mixAll (rootDigest 2 f) vs)
 unfolding lookupDigest
 application-digested b f vs B more = ap (mixAll (rootDigest 2 f)) (list-added b vs more)
 
@@ -193,6 +194,7 @@ module _ (b : Bundle) (p : TermRecord → Bool) where
       go (inr some) =
           let n = length (b .terms) in
           let i : suc (m - 1) ≡ m = omega (arith, some .0) in
-          sym (none-below (m - 1) (omega (arith, some .1)) (λ j one l t. omega (arith, some .0, sought-lowest sought z j one (omega (arith, some .0, some .1)) t .1))
+          sym (none-below (m - 1) (omega (arith, some .1))
+          (λ j one l t. omega (arith, some .0, sought-lowest sought z j one (omega (arith, some .0, some .1)) t .1))
           ∙ ap (seekFrom p (b .terms)) i
           ∙ seek-here p (b .terms) n refl m (omega (arith, some .0)) (some .1) refl (some .2))

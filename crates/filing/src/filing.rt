@@ -64,7 +64,8 @@ fn mixed_items(words: &[u32], c: Bundle, d: usize, list: usize) -> usize
 // The digest of a let, by its lists of variables and of bound terms and its body.
 fn let_digest(words: &[u32], c: Bundle, variables: usize, bound: usize, body: usize) -> usize
     requires { ⌜ Roomy (now words) c ⌝ }
-    ensures { λ r. ⌜ (r ≡ letDigest (items (bundleIn (now (words .entry)) c) variables) (items (bundleIn (now (words .entry)) c) bound) body) × (r < digests) ⌝ }
+    ensures { λ r. ⌜ (r ≡ letDigest (items (bundleIn (now (words .entry)) c) variables) (items (bundleIn (now (words .entry)) c) bound) body)
+        × (r < digests) ⌝ }
 {
     let d = mixed(0, 5);
     let e = mixed_items(words, c, d, variables);

@@ -61,7 +61,8 @@ fn is_application(
     to: usize,
 ) -> bool
     requires { ⌜ Roomy (now words) c × (from ≤ to) × (to ≤ length (now stack)) ⌝ }
-    ensures { λ r. ⌜ r ≡ sameApplication (bundleIn (now (words .entry)) c) symbol (halves true (now (stack .entry)) from to) (termOf (bundleIn (now (words .entry)) c) t) ⌝ }
+    ensures { λ r. ⌜ r ≡ sameApplication (bundleIn (now (words .entry)) c) symbol (halves true (now (stack .entry)) from to)
+        (termOf (bundleIn (now (words .entry)) c) t) ⌝ }
 {
     let kind = term_field(words, c, t, 0);
     let first = term_field(words, c, t, 1);
@@ -86,8 +87,10 @@ pub fn find_application(
     from: usize,
     to: usize,
 ) -> usize
-    requires { ⌜ Roomy (now words) c × Indexed (bundleIn (now words) c) (now index) × (d < digests) × (d ≡ mixAll (rootDigest 2 symbol) (halves true (now stack) from to)) × (from ≤ to) × (to ≤ length (now stack)) ⌝ }
-    ensures { λ r. ⌜ r ≡ seek (sameApplication (bundleIn (now (words .entry)) c) symbol (halves true (now (stack .entry)) from to)) (bundleIn (now (words .entry)) c .terms) ⌝ }
+    requires { ⌜ Roomy (now words) c × Indexed (bundleIn (now words) c) (now index) × (d < digests)
+        × (d ≡ mixAll (rootDigest 2 symbol) (halves true (now stack) from to)) × (from ≤ to) × (to ≤ length (now stack)) ⌝ }
+    ensures { λ r. ⌜ r ≡ seek (sameApplication (bundleIn (now (words .entry)) c) symbol (halves true (now (stack .entry)) from to))
+        (bundleIn (now (words .entry)) c .terms) ⌝ }
 {
     let mut found = 0;
     let mut t = wide(index[d]);

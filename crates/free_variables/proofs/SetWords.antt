@@ -74,7 +74,8 @@ module _ (b : Bundle) (n m : ℕ) (one : 1 ≤ n) where
       → v ≡ cleared w (n * terms) (length w - n * terms) → ((j : ℕ) → getD v j 0 < 2 ^ 64) → v ≡ freeArea b n m
   unfolding freeArea
   area-is w v terms count long room so clear words =
-      ext-getD 0 v (tab wordOf m) (same-long ∙ sym (tab-length wordOf m)) (λ j h. word j (omega (arith, same-long)) (ltb j (n * length (b .terms))) refl ∙ sym (tab-at wordOf m j 0 (omega (arith, same-long))))
+      ext-getD 0 v (tab wordOf m) (same-long ∙ sym (tab-length wordOf m))
+      (λ j h. word j (omega (arith, same-long)) (ltb j (n * length (b .terms))) refl ∙ sym (tab-at wordOf m j 0 (omega (arith, same-long))))
     where
       same-long : length v ≡ m
       same-long = rw clear (filled-length (λ k. 0) w (n * terms) (length w - n * terms) ∙ long)

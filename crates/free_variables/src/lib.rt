@@ -27,7 +27,8 @@ use unions::unite_term;
 // Removes the variables of a list.
 fn remove_list(file: &[u8], b: Bundle, area: &mut [u64], n: usize, at: usize, list: usize)
     requires { ⌜ Whole (now file) b × (at + n ≤ length (now area)) ⌝ }
-    ensures { λ _. ⌜ Put (now (area .entry)) (now (area .exit)) n at (λ x. member (now (area .entry)) at n x && not (has x (items (bundleAt (now (file .entry)) b) list))) ⌝ }
+    ensures { λ _. ⌜ Put (now (area .entry)) (now (area .exit)) n at
+        (λ x. member (now (area .entry)) at n x && not (has x (items (bundleAt (now (file .entry)) b) list))) ⌝ }
 {
     let mut i = first_link(b, list);
     while i != 0 {
@@ -42,7 +43,9 @@ fn remove_list(file: &[u8], b: Bundle, area: &mut [u64], n: usize, at: usize, li
 // Writes the free set of term t, but for the terms of its list, from the sets of the terms below it. Gives that list, 0 where it has none.
 fn free_own(file: &[u8], b: Bundle, area: &mut [u64], n: usize, t: usize, at: usize) -> usize
     requires { ⌜ Whole (now file) b × SetRoom (now area) n t at × (b .variables ≤ 64 * n) ⌝ }
-    ensures { λ r. ⌜ (r ≡ listOf (termOf (bundleAt (now (file .entry)) b) t)) × Put (now (area .entry)) (now (area .exit)) n at (ownBy (bundleAt (now (file .entry)) b) (setBelow (now (area .entry)) n t) (termOf (bundleAt (now (file .entry)) b) t)) ⌝ }
+    ensures { λ r. ⌜ (r ≡ listOf (termOf (bundleAt (now (file .entry)) b) t))
+        × Put (now (area .entry)) (now (area .exit)) n at
+        (ownBy (bundleAt (now (file .entry)) b) (setBelow (now (area .entry)) n t) (termOf (bundleAt (now (file .entry)) b) t)) ⌝ }
 {
     let kind = term_field(file, b, t, 0);
     let first = term_field(file, b, t, 1);
@@ -82,8 +85,10 @@ fn free_term(
     lists: &mut [u64],
     marks: &mut [u16],
 )
-    requires { ⌜ Whole (now file) b × SetRoom (now area) n t at × (b .variables ≤ 64 * n) × SetsBelow (now area) n t (bundleAt (now file) b) × Unions (bundleAt (now file) b) n t (now lists) (now marks) ⌝ }
-    ensures { λ _. ⌜ Put (now (area .entry)) (now (area .exit)) n at (freeBy (bundleAt (now (file .entry)) b) (setBelow (now (area .entry)) n t) (termOf (bundleAt (now (file .entry)) b) t)) ⌝ }
+    requires { ⌜ Whole (now file) b × SetRoom (now area) n t at × (b .variables ≤ 64 * n) × SetsBelow (now area) n t (bundleAt (now file) b)
+        × Unions (bundleAt (now file) b) n t (now lists) (now marks) ⌝ }
+    ensures { λ _. ⌜ Put (now (area .entry)) (now (area .exit)) n at
+        (freeBy (bundleAt (now (file .entry)) b) (setBelow (now (area .entry)) n t) (termOf (bundleAt (now (file .entry)) b) t)) ⌝ }
     ensures { λ _. ⌜ Unions (bundleAt (now (file .entry)) b) n t (now (lists .exit)) (now (marks .exit)) ⌝ }
 {
     let list = free_own(file, b, area, n, t, at);
@@ -99,8 +104,10 @@ fn free_terms(
     lists: &mut [u64],
     marks: &mut [u16],
 )
-    requires { ⌜ Whole (now file) b × (1 ≤ n) × (n * b .terms ≤ length (now area)) × (b .variables ≤ 64 * n) × Unions (bundleAt (now file) b) n 1 (now lists) (now marks) ⌝ }
-    ensures { λ _. ⌜ (length (now (area .exit)) ≡ length (now (area .entry))) × SetsBelow (now (area .exit)) n (b .terms + 1) (bundleAt (now (file .entry)) b) ⌝ }
+    requires { ⌜ Whole (now file) b × (1 ≤ n) × (n * b .terms ≤ length (now area)) × (b .variables ≤ 64 * n)
+        × Unions (bundleAt (now file) b) n 1 (now lists) (now marks) ⌝ }
+    ensures { λ _. ⌜ (length (now (area .exit)) ≡ length (now (area .entry)))
+        × SetsBelow (now (area .exit)) n (b .terms + 1) (bundleAt (now (file .entry)) b) ⌝ }
 {
     let terms = b.terms;
     let mut t = 1;
@@ -113,7 +120,8 @@ fn free_terms(
 // The same, with room for the unions of the lists of up to 64, 512, or 2,048 links: small files ask for little room, since all of it is cleared.
 fn with_64_links(file: &[u8], b: Bundle, area: &mut [u64], n: usize)
     requires { ⌜ Whole (now file) b × (1 ≤ n) × (n ≤ setWords) × (n * b .terms ≤ length (now area)) × (b .variables ≤ 64 * n) × (b .links ≤ 64) ⌝ }
-    ensures { λ _. ⌜ (length (now (area .exit)) ≡ length (now (area .entry))) × SetsBelow (now (area .exit)) n (b .terms + 1) (bundleAt (now (file .entry)) b) ⌝ }
+    ensures { λ _. ⌜ (length (now (area .exit)) ≡ length (now (area .entry)))
+        × SetsBelow (now (area .exit)) n (b .terms + 1) (bundleAt (now (file .entry)) b) ⌝ }
 {
     let mut lists = [0u64; Bundle::SET_WORDS * 65];
     let mut marks = [0u16; 65];
@@ -122,7 +130,8 @@ fn with_64_links(file: &[u8], b: Bundle, area: &mut [u64], n: usize)
 
 fn with_512_links(file: &[u8], b: Bundle, area: &mut [u64], n: usize)
     requires { ⌜ Whole (now file) b × (1 ≤ n) × (n ≤ setWords) × (n * b .terms ≤ length (now area)) × (b .variables ≤ 64 * n) × (b .links ≤ 512) ⌝ }
-    ensures { λ _. ⌜ (length (now (area .exit)) ≡ length (now (area .entry))) × SetsBelow (now (area .exit)) n (b .terms + 1) (bundleAt (now (file .entry)) b) ⌝ }
+    ensures { λ _. ⌜ (length (now (area .exit)) ≡ length (now (area .entry)))
+        × SetsBelow (now (area .exit)) n (b .terms + 1) (bundleAt (now (file .entry)) b) ⌝ }
 {
     let mut lists = [0u64; Bundle::SET_WORDS * 513];
     let mut marks = [0u16; 513];
@@ -131,7 +140,8 @@ fn with_512_links(file: &[u8], b: Bundle, area: &mut [u64], n: usize)
 
 fn with_all_links(file: &[u8], b: Bundle, area: &mut [u64], n: usize)
     requires { ⌜ Whole (now file) b × (1 ≤ n) × (n ≤ setWords) × (n * b .terms ≤ length (now area)) × (b .variables ≤ 64 * n) ⌝ }
-    ensures { λ _. ⌜ (length (now (area .exit)) ≡ length (now (area .entry))) × SetsBelow (now (area .exit)) n (b .terms + 1) (bundleAt (now (file .entry)) b) ⌝ }
+    ensures { λ _. ⌜ (length (now (area .exit)) ≡ length (now (area .entry)))
+        × SetsBelow (now (area .exit)) n (b .terms + 1) (bundleAt (now (file .entry)) b) ⌝ }
 {
     let mut lists = [0u64; Bundle::SET_WORDS * (Bundle::LINKS + 1)];
     let mut marks = [0u16; Bundle::LINKS + 1];
@@ -141,7 +151,8 @@ fn with_all_links(file: &[u8], b: Bundle, area: &mut [u64], n: usize)
 // The same, with room as the file asks for it.
 fn fitting(file: &[u8], b: Bundle, area: &mut [u64], n: usize)
     requires { ⌜ Whole (now file) b × (1 ≤ n) × (n ≤ setWords) × (n * b .terms ≤ length (now area)) × (b .variables ≤ 64 * n) ⌝ }
-    ensures { λ _. ⌜ (length (now (area .exit)) ≡ length (now (area .entry))) × SetsBelow (now (area .exit)) n (b .terms + 1) (bundleAt (now (file .entry)) b) ⌝ }
+    ensures { λ _. ⌜ (length (now (area .exit)) ≡ length (now (area .entry)))
+        × SetsBelow (now (area .exit)) n (b .terms + 1) (bundleAt (now (file .entry)) b) ⌝ }
 {
     if b.links <= 64 {
         with_64_links(file, b, area, n);

@@ -28,7 +28,8 @@ use Rattle.bundle.specs.Lists.{numbers, has, different}
 use Rattle.bundle.proofs.Fields.{record-within}
 use Rattle.sets.specs.Sets.{bitAt, holds, member, withBit, withoutBit, inserted, removed, cleared, united, disjointOf}
 use Rattle.sets.proofs.Digits.{bit-none}
-use Rattle.sets.proofs.Members.{holds-small, member-inserted, member-removed, member-cleared, member-united, member-same, changed-length, changed-out, filled-length, filled-out, disjoint-none, none-disjoint}
+use Rattle.sets.proofs.Members.{holds-small, member-inserted, member-removed, member-cleared, member-united, member-same, changed-length, changed-out}
+use Rattle.sets.proofs.Members.{filled-length, filled-out, disjoint-none, none-disjoint}
 use Rattle.logic.specs.declared.Mention.{Mention}
 use Rattle.logic.specs.declared.Mention.the-variants.{Fixed, Replaced, Absent}
 use Rattle.logic.specs.declared.Image.{Image}
@@ -82,7 +83,8 @@ same-place : (b : Bundle) (w v : List ℕ) (k j x : ℕ) → (1 ≤ x → x ≤ 
 unfolding mentionAt
 same-place b w v k j x same = go (numbers (length (b .variables)) x) refl
   where
-    go : (p : Bool) → numbers (length (b .variables)) x ≡ p → cond p (asMention (getD w (64 * k + (x - 1)) 0)) Absent ≡ cond p (asMention (getD v (64 * j + (x - 1)) 0)) Absent
+    go : (p : Bool) → numbers (length (b .variables)) x ≡ p → cond p (asMention (getD w (64 * k + (x - 1)) 0)) Absent ≡ cond p
+        (asMention (getD v (64 * j + (x - 1)) 0)) Absent
     go true e = let h = numbers-of (length (b .variables)) x e in ap asMention (same (h .0) (h .1))
     go false e = refl
 
@@ -156,7 +158,8 @@ cond-eqb : (x y : ℕ) (p : Bool) → eqb x y ≡ p → Dec (x ≡ y)
 cond-eqb x y true e = yes (eqb-true x y e)
 cond-eqb x y false e = no (λ q. false≢true (sym e ∙ eq-eqb x y q))
 
-module _ (b : Bundle) (w : List ℕ) (k x t : ℕ) (one : 1 ≤ x) (few : x ≤ length (b .variables)) (small : length (b .variables) ≤ 64) (room : 64 * (k + 1) ≤ length w) where
+module _ (b : Bundle) (w : List ℕ) (k x t : ℕ) (one : 1 ≤ x) (few : x ≤ length (b .variables)) (small : length (b .variables) ≤ 64)
+    (room : 64 * (k + 1) ≤ length w) where
   pub mention-set : (y : ℕ) → mentionIn b (set w (64 * k + (x - 1)) t) k y ≡ cond (eqb x y) (asMention t) (mentionIn b w k y)
   mention-set y = go (ℕ-discrete x y)
     where
@@ -168,7 +171,8 @@ module _ (b : Bundle) (w : List ℕ) (k x t : ℕ) (one : 1 ≤ x) (few : x ≤ 
           rw (ne-eqb x y q)
           (same-place b (set w (64 * k + (x - 1)) t) w k k y (λ first low. getD-set-other w (64 * k + (x - 1)) (64 * k + (y - 1)) t 0 (λ z. q (omega arith))))
 
-  module _ (m m′ : List ℕ) (n : ℕ) (words : n * k + n ≤ length m) (bits : length (b .variables) ≤ 64 * n) (agrees : Agrees b w m n k) (moves : Bool) (same : moves ≡ movedBy b (asImage (asMention t)) x) where
+  module _ (m m′ : List ℕ) (n : ℕ) (words : n * k + n ≤ length m) (bits : length (b .variables) ≤ 64 * n) (agrees : Agrees b w m n k) (moves : Bool)
+      (same : moves ≡ movedBy b (asImage (asMention t)) x) where
     held : holds n x ≡ true
     held = holds-small n x one (omega arith)
 
@@ -351,7 +355,8 @@ module _ (b : Bundle) (w m : List ℕ) (at n k t : ℕ) (free : (x : ℕ) → me
   unfolding settled settledFor
   apart-settled words =
       both-ways (disjointOf w at m (n * k) n) (settled b k t)
-      (λ e. up-to-all (length (b .variables)) (λ x. not (freeAt b t x) || not (moved b k x)) (λ x one few. apart (freeAt b t x) (moved b k x) (rw (← free x, ← sets .same k x (omega arith)) (disjoint-none w at m (n * k) n e x))))
+      (λ e. up-to-all (length (b .variables)) (λ x. not (freeAt b t x) || not (moved b k x))
+      (λ x one few. apart (freeAt b t x) (moved b k x) (rw (← free x, ← sets .same k x (omega arith)) (disjoint-none w at m (n * k) n e x))))
       (λ e. none-disjoint w at m (n * k) n words (λ u. rw (free u, sets .same k u (omega arith)) (common e u (freeAt b t u) refl (moved b k u) refl)))
     where
       apart : (p q : Bool) → (p && q) ≡ false → (not p || not q) ≡ true
@@ -359,7 +364,8 @@ module _ (b : Bundle) (w m : List ℕ) (at n k t : ℕ) (free : (x : ℕ) → me
       apart true false e = refl
       apart false q e = refl
 
-      common : upTo (length (b .variables)) (λ x. not (freeAt b t x) || not (moved b k x)) ≡ true → (u : ℕ) → (p : Bool) → freeAt b t u ≡ p → (q : Bool) → moved b k u ≡ q → (p && q) ≡ false
+      common : upTo (length (b .variables)) (λ x. not (freeAt b t x) || not (moved b k x)) ≡ true → (u : ℕ) → (p : Bool) → freeAt b t u ≡ p → (q : Bool)
+          → moved b k u ≡ q → (p && q) ≡ false
       common e u true d true f =
           let h = sets .few k u (omega arith) f in
           absurd (false≢true (rw (d, f) at (up-to (length (b .variables)) (λ x. not (freeAt b t x) || not (moved b k x)) e u (h .0) (h .1))))

@@ -93,7 +93,8 @@ module _ (f : List ℕ) (c : Counts) (w : List ℕ) (n : ℕ) (sets : FreeSets w
         go (yes q) d = settled-zero (c .terms) w m n k t q ∙ sym (settled-none (bundleAt f c) k t (rw q))
         go (no q) (yes l) =
             settled-some (c .terms) w m n k t q l
-            ∙ apart-settled (bundleAt f c) w m (n * (t - 1)) n k t (λ v. sets .same t v (omega arith) (omega (arith, terms-length f c))) moves (λ j. words (n * (t - 1) + j))
+            ∙ apart-settled (bundleAt f c) w m (n * (t - 1)) n k t (λ v. sets .same t v (omega arith) (omega (arith, terms-length f c))) moves
+            (λ j. words (n * (t - 1) + j))
         go (no q) (no l) =
             settled-past (c .terms) w m n k t (omega arith)
             ∙ sym (settled-none (bundleAt f c) k t (at-none noTerm (bundleAt f c .terms) t (omega (arith, terms-length f c))))

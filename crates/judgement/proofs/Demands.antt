@@ -45,7 +45,8 @@ pub accepted-sound : AcceptedSound
 accepted-sound f m a e =
     let h = accepted-exactly f m a .0 e in
     let last : LastIsClaim (bundleOf f) = h .0 .claim in
-    subst₂ (EqualValues (bundleOf f)) (last .left ∙ sym (ap (λ (x : Acceptance). x .left) (h .1))) (last .right ∙ sym (ap (λ (x : Acceptance). x .right) (h .1)))
+    subst₂ (EqualValues (bundleOf f)) (last .left ∙ sym (ap (λ (x : Acceptance). x .left) (h .1)))
+    (last .right ∙ sym (ap (λ (x : Acceptance). x .right) (h .1)))
     (claim-sound (bundleOf f) (h .0 .formed) (h .0 .steps) (length (bundleOf f .steps)) (last .some, omega arith) (last .context))
 
 pub accepted-distinct : AcceptedDistinct

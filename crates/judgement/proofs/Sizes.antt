@@ -1,4 +1,5 @@
--- How large the number and the record of an answer can be: at most 18 (15 for the checker; the writer has three more), and at most the longest section's length.
+-- How large the number and the record of an answer can be: at most 18 (15 for the checker; the writer has three more), and at most the longest section's
+-- length.
 --     failing-le, none-small, else-small, next-small, sections-small     of tests, of faults one after another, of sections
 --     tables-small    of the first of checks 1 to 9
 --     fault-small     of the first fault of a file
@@ -15,7 +16,8 @@ use Rattle.bundle.proofs.Fields.{symbols-length, variables-length, terms-length
 use Rattle.logic.specs.declared.Fault.{Fault}
 use Rattle.logic.specs.Lists.{All}
 use Rattle.logic.specs.Tests.{Test, firstFailing, fault, orElse, orNext, firstFrom, firstFault}
-use Rattle.logic.specs.Checks.{headerTests, headerFault, linkTests, linkFault, symbolTests, symbolFault, variableTests, variableFault, termTests, termFault, linksFault, symbolsFault, variablesFault, termsFault, sectionsFault, tablesFault}
+use Rattle.logic.specs.Checks.{headerTests, headerFault, linkTests, linkFault, symbolTests, symbolFault, variableTests, variableFault, termTests, termFault}
+use Rattle.logic.specs.Checks.{linksFault, symbolsFault, variablesFault, termsFault, sectionsFault, tablesFault}
 use Rattle.logic.specs.Contexts.{contextTests, contextFault, contextsFault}
 use Rattle.logic.specs.Rules.{stepTests, stepFault, stepsFault}
 use Rattle.judgement.specs.declared.Answer.the-variants.{Refused}
@@ -60,8 +62,12 @@ module _ (f : List ℕ) (whole : Whole f (countsOf f)) where
   late-small : SmallFault (lateFault (bundleOf f))
   unfolding lateFault contextsFault contextFault stepsFault stepFault bundleOf
   late-small =
-      next-small (contextsFault b) (orNext (stepsFault b) claim) (section-small (contextFault b) (λ i. failing-le (contextTests b i) (omega arith, (omega arith, tt))) (length (b .contexts)) (omega (arith, contexts-length f (countsOf f), whole .within .contexts)))
-      (next-small (stepsFault b) claim (section-small (stepFault b) (λ i. failing-le (stepTests b i) (omega arith, (omega arith, (omega arith, tt)))) (length (b .steps)) (omega (arith, steps-length f (countsOf f), whole .within .steps)))
+      next-small (contextsFault b) (orNext (stepsFault b) claim)
+      (section-small (contextFault b) (λ i. failing-le (contextTests b i) (omega arith, (omega arith, tt))) (length (b .contexts))
+      (omega (arith, contexts-length f (countsOf f), whole .within .contexts)))
+      (next-small (stepsFault b) claim
+      (section-small (stepFault b) (λ i. failing-le (stepTests b i) (omega arith, (omega arith, (omega arith, tt)))) (length (b .steps))
+      (omega (arith, steps-length f (countsOf f), whole .within .steps)))
       (else-small (firstFailing (claimTests b)) 0 (fault 0 0) (failing-le (claimTests b) (omega arith, tt)) (omega arith) none-small))
     where
       b : Bundle
@@ -73,10 +79,17 @@ module _ (f : List ℕ) (whole : Whole f (countsOf f)) where
   pub sections-small : SmallFault (sectionsFault (bundleOf f))
   unfolding sectionsFault linksFault linkFault symbolsFault symbolFault variablesFault variableFault termsFault termFault bundleOf
   sections-small =
-      next-small (linksFault b) (orNext (symbolsFault b) (orNext (variablesFault b) (termsFault b))) (section-small (linkFault b) (λ i. failing-le (linkTests b i) (omega arith, tt)) (length (b .links)) (omega (arith, links-length f (countsOf f), whole .within .links)))
-      (next-small (symbolsFault b) (orNext (variablesFault b) (termsFault b)) (section-small (symbolFault b) (λ i. failing-le (symbolTests b i) (omega arith, tt)) (length (b .symbols)) (omega (arith, symbols-length f (countsOf f), whole .within .symbols)))
-      (next-small (variablesFault b) (termsFault b) (section-small (variableFault b) (λ i. failing-le (variableTests b i) (omega arith, tt)) (length (b .variables)) (omega (arith, variables-length f (countsOf f), whole .within .variables)))
-      (section-small (termFault b) (λ i. failing-le (termTests b i) (omega arith, (omega arith, (omega arith, tt)))) (length (b .terms)) (omega (arith, terms-length f (countsOf f), whole .within .terms)))))
+      next-small (linksFault b) (orNext (symbolsFault b) (orNext (variablesFault b) (termsFault b)))
+      (section-small (linkFault b) (λ i. failing-le (linkTests b i) (omega arith, tt)) (length (b .links))
+      (omega (arith, links-length f (countsOf f), whole .within .links)))
+      (next-small (symbolsFault b) (orNext (variablesFault b) (termsFault b))
+      (section-small (symbolFault b) (λ i. failing-le (symbolTests b i) (omega arith, tt)) (length (b .symbols))
+      (omega (arith, symbols-length f (countsOf f), whole .within .symbols)))
+      (next-small (variablesFault b) (termsFault b)
+      (section-small (variableFault b) (λ i. failing-le (variableTests b i) (omega arith, tt)) (length (b .variables))
+      (omega (arith, variables-length f (countsOf f), whole .within .variables)))
+      (section-small (termFault b) (λ i. failing-le (termTests b i) (omega arith, (omega arith, (omega arith, tt)))) (length (b .terms))
+      (omega (arith, terms-length f (countsOf f), whole .within .terms)))))
     where
       b : Bundle
       b = bundleAt f (countsOf f)

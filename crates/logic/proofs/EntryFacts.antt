@@ -39,7 +39,8 @@ module _ (b : Bundle) (k : ℕ) (good : contextRefers b k ≡ true) where
   pub fixes-number : contextOf b k .kind ≡ 1 → (1 ≤ contextOf b k .a) × (contextOf b k .a ≤ length (b .variables)) × (contextOf b k .parent < k)
   unfolding contextRefersAs entryOf
   fixes-number e =
-      let h = passed-each (numbers (length (b .variables)) (contextOf b k .a) ∷ eqb (contextOf b k .b) 0 ∷ ltb (contextOf b k .parent) k ∷ []) (as-kind fixing (rw e)) in
+      let h = passed-each (numbers (length (b .variables)) (contextOf b k .a) ∷ eqb (contextOf b k .b) 0 ∷ ltb (contextOf b k .parent) k ∷ [])
+      (as-kind fixing (rw e)) in
       let n = numbers-of (length (b .variables)) (contextOf b k .a) (h .0) in
       (n .0, n .1, ltb-true (contextOf b k .parent) k (h .1 .1 .0))
 

@@ -19,7 +19,8 @@ use Rattle.logic.specs.declared.Mention.the-variants.{Fixed, Replaced, A
 use Rattle.logic.specs.declared.Image.{Image}
 use Rattle.logic.specs.Lists.{Among}
 use Rattle.logic.specs.Table.{table, below}
-use Rattle.logic.specs.Contexts.{Entry, fixing, replacing, noEntry, entryOf, lookup, mentionAs, mention, first, imageBy, ownImage, image, orAbove, foundAs, foundBy, notFound, found, asImage, Mentioned, by-fixing, by-replacing, by-parent}
+use Rattle.logic.specs.Contexts.{Entry, fixing, replacing, noEntry, entryOf, lookup, mentionAs, mention, first, imageBy, ownImage, image, orAbove}
+use Rattle.logic.specs.Contexts.{foundAs, foundBy, notFound, found, asImage, Mentioned, by-fixing, by-replacing, by-parent}
 use Rattle.logic.specs.WellFormed.{sortOfTerm, ContextFormed, fixes, replaces, WellFormed}
 use Rattle.logic.proofs.Tables.{table-below, table-step, table-map, everywhere}
 use Rattle.logic.proofs.Images.{formed-context, parent-lower}
@@ -64,7 +65,8 @@ module _ (b : Bundle) where
   found-here c k x e lower =
       ap (λ (f : ℕ → Mention). f x)
       (table-step (foundBy b) notFound noContext (λ f. refl) (b .contexts) c
-      (λ f g h. ap {B = ℕ → Mention} (λ (m : ℕ → Mention) (y : ℕ). foundAs b (entryOf (contextOf b c .kind)) (contextOf b c) y (m y)) (h (contextOf b c .parent) lower)))
+      (λ f g h. ap {B = ℕ → Mention} (λ (m : ℕ → Mention) (y : ℕ). foundAs b (entryOf (contextOf b c .kind)) (contextOf b c) y (m y))
+      (h (contextOf b c .parent) lower)))
       ∙ ap (λ (n : ℕ). foundAs b (entryOf n) (contextOf b c) x (found b (contextOf b c .parent) x)) e
 
   pub found-fixes : (c : ℕ) → contextOf b c .kind ≡ 1 → contextOf b c .parent < c → (x : ℕ)
@@ -164,7 +166,8 @@ module _ (b : Bundle) (c : ℕ) where
       go : (q : Bool) → eqb y x ≡ q → Told (cond q Fixed Absent) → Mentioned b c x
       go true q h = by-fixing {c = c} {x = x} (rw e) (rw e (eqb-true y x q))
       go false q h = absurd (h refl)
-  told-mentioned x (replaces vs ts p e i vars j terms ls l s) h = by-replacing {c = c} {x = x} (rw e) (rw e (told-lookup (items b vs) (items b ts) x (rw e at h)))
+  told-mentioned x (replaces vs ts p e i vars j terms ls l s) h =
+      by-replacing {c = c} {x = x} (rw e) (rw e (told-lookup (items b vs) (items b ts) x (rw e at h)))
 
 module _ (b : Bundle) (wf : WellFormed b) where
   formed : (c : ℕ) → (contextOf b c ≡ noContext) ⊎ ContextFormed b c

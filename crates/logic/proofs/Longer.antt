@@ -16,11 +16,13 @@ use lib.Dec.{ltb, leb}
 use lib.ListN.{length, getD, length-append, List·getD-append}
 use lib.Seq.{getD-append-seam}
 use borrow.Author.Tests.{lt-ltb, le-leb}
-use Rattle.bundle.specs.Bundle.{Bundle, Symbol, Link, TermRecord, Context, Step, at, noSymbol, noLink, noTerm, noContext, noStep, symbolOf, sortOfVariable, termOf, contextOf, stepOf}
+use Rattle.bundle.specs.Bundle.{Bundle, Symbol, Link, TermRecord, Context, Step, at, noSymbol, noLink, noTerm, noContext, noStep, symbolOf, sortOfVariable}
+use Rattle.bundle.specs.Bundle.{termOf, contextOf, stepOf}
 use Rattle.bundle.specs.Links.{chain, follows, items}
 use Rattle.bundle.proofs.Chains.{chain-nil, chain-cons}
 use Rattle.logic.specs.Lists.{Number}
-use Rattle.logic.specs.Longer.{Prefix, Longer, withSymbols, withVariables, withTerms, withLinks, withContexts, withSteps, startOf, consecutive, addList, listStart}
+use Rattle.logic.specs.Longer.{Prefix, Longer, withSymbols, withVariables, withTerms, withLinks, withContexts, withSteps, startOf, consecutive}
+use Rattle.logic.specs.Longer.{addList, listStart}
 
 -- ---- lists that begin alike
 
@@ -91,32 +93,86 @@ module _ (b : Bundle) where
   pub symbols-longer : (xs : List Symbol) → Longer b (withSymbols b xs)
   symbols-longer xs =
       let same = longer-refl b in
-      record { version = refl; symbols = (xs, refl); variables = same .variables; terms = same .terms; links = same .links; contexts = same .contexts; steps = same .steps }
+      record {
+        version = refl;
+        symbols = (xs, refl);
+        variables = same .variables;
+        terms = same .terms;
+        links = same .links;
+        contexts = same .contexts;
+        steps =
+            same .steps;
+      }
 
   pub variables-longer : (xs : List ℕ) → Longer b (withVariables b xs)
   variables-longer xs =
       let same = longer-refl b in
-      record { version = refl; symbols = same .symbols; variables = (xs, refl); terms = same .terms; links = same .links; contexts = same .contexts; steps = same .steps }
+      record {
+        version = refl;
+        symbols = same .symbols;
+        variables = (xs, refl);
+        terms = same .terms;
+        links = same .links;
+        contexts = same .contexts;
+        steps =
+            same .steps;
+      }
 
   pub terms-longer : (xs : List TermRecord) → Longer b (withTerms b xs)
   terms-longer xs =
       let same = longer-refl b in
-      record { version = refl; symbols = same .symbols; variables = same .variables; terms = (xs, refl); links = same .links; contexts = same .contexts; steps = same .steps }
+      record {
+        version = refl;
+        symbols = same .symbols;
+        variables = same .variables;
+        terms = (xs, refl);
+        links = same .links;
+        contexts = same .contexts;
+        steps =
+            same .steps;
+      }
 
   pub links-longer : (xs : List Link) → Longer b (withLinks b xs)
   links-longer xs =
       let same = longer-refl b in
-      record { version = refl; symbols = same .symbols; variables = same .variables; terms = same .terms; links = (xs, refl); contexts = same .contexts; steps = same .steps }
+      record {
+        version = refl;
+        symbols = same .symbols;
+        variables = same .variables;
+        terms = same .terms;
+        links = (xs, refl);
+        contexts = same .contexts;
+        steps =
+            same .steps;
+      }
 
   pub contexts-longer : (xs : List Context) → Longer b (withContexts b xs)
   contexts-longer xs =
       let same = longer-refl b in
-      record { version = refl; symbols = same .symbols; variables = same .variables; terms = same .terms; links = same .links; contexts = (xs, refl); steps = same .steps }
+      record {
+        version = refl;
+        symbols = same .symbols;
+        variables = same .variables;
+        terms = same .terms;
+        links = same .links;
+        contexts = (xs, refl);
+        steps =
+            same .steps;
+      }
 
   pub steps-longer : (xs : List Step) → Longer b (withSteps b xs)
   steps-longer xs =
       let same = longer-refl b in
-      record { version = refl; symbols = same .symbols; variables = same .variables; terms = same .terms; links = same .links; contexts = same .contexts; steps = (xs, refl) }
+      record {
+        version = refl;
+        symbols = same .symbols;
+        variables = same .variables;
+        terms = same .terms;
+        links = same .links;
+        contexts =
+            same .contexts;
+        steps = (xs, refl);
+      }
 
   -- the record just appended, as every longer bundle B has it
   module _ {B : Bundle} where

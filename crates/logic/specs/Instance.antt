@@ -97,4 +97,5 @@ pub record StepHolds (b : Bundle) (k : ℕ) : Type 0 where
   pub right : Number (length (b .terms)) (stepOf b k .right)
   pub start : StartsList b (stepOf b k .premises)
   pub earlier : All (Lower k) (items b (stepOf b k .premises))
-  pub «instance» : Instance b (ruleOf (stepOf b k .rule)) (stepOf b k .context) (tree b (stepOf b k .left)) (tree b (stepOf b k .right)) (items b (stepOf b k .premises))
+  pub «instance» : Instance b (ruleOf (stepOf b k .rule)) (stepOf b k .context) (tree b (stepOf b k .left)) (tree b (stepOf b k .right))
+      (items b (stepOf b k .premises))

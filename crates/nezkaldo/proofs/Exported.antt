@@ -32,7 +32,8 @@ use Rattle.expansion.proofs.JobSizes.{refused-job-small}
 use Rattle.expansion.proofs.JobChecks.{job-exactly, job-answer, job-room, refused-job-where}
 use Rattle.expansion.proofs.Demands.{refused-job-exactly, written-exactly, areas-left, expansion-right}
 use Rattle.nezkaldo.specs.Packed.{packed, packedReply}
-use Rattle.nezkaldo.specs.Exported.{Tells, TellsOne, CheckSays, CheckNumber, ExpandSays, ExpandNumber, LeavesExactly, ExportedZeros, ExportedEqual, ExportedAccepted, ExportedDemandThree}
+use Rattle.nezkaldo.specs.Exported.{Tells, TellsOne, CheckSays, CheckNumber, ExpandSays, ExpandNumber, LeavesExactly, ExportedZeros, ExportedEqual}
+use Rattle.nezkaldo.specs.Exported.{ExportedAccepted, ExportedDemandThree}
 
 -- ---- number · 2^32 + record
 

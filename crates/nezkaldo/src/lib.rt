@@ -38,10 +38,14 @@ pub extern "C" fn nezkaldo_expand(
     words: &mut [u32],
     sets: &mut [u64],
 ) -> u64
-    ensures { λ r. ⌜ r ≡ packedReply (expansion (now (job .entry)) (length (now (out .entry))) (length (now (words .entry))) (length (now (sets .entry))) .answer) ⌝ }
-    ensures { λ _. ⌜ now (out .exit) ≡ expansion (now (job .entry)) (length (now (out .entry))) (length (now (words .entry))) (length (now (sets .entry))) .out ⌝ }
-    ensures { λ _. ⌜ now (words .exit) ≡ expansion (now (job .entry)) (length (now (out .entry))) (length (now (words .entry))) (length (now (sets .entry))) .words ⌝ }
-    ensures { λ _. ⌜ now (sets .exit) ≡ expansion (now (job .entry)) (length (now (out .entry))) (length (now (words .entry))) (length (now (sets .entry))) .sets ⌝ }
+    ensures { λ r. ⌜ r ≡ packedReply
+        (expansion (now (job .entry)) (length (now (out .entry))) (length (now (words .entry))) (length (now (sets .entry))) .answer) ⌝ }
+    ensures { λ _. ⌜ now (out .exit) ≡ expansion (now (job .entry)) (length (now (out .entry))) (length (now (words .entry))) (length (now (sets .entry))) .out
+        ⌝ }
+    ensures { λ _. ⌜ now (words .exit) ≡ expansion (now (job .entry)) (length (now (out .entry))) (length (now (words .entry)))
+        (length (now (sets .entry))) .words ⌝ }
+    ensures { λ _. ⌜ now (sets .exit) ≡ expansion (now (job .entry)) (length (now (out .entry))) (length (now (words .entry)))
+        (length (now (sets .entry))) .sets ⌝ }
 {
     let reply = writer::expand(job, out, words, sets);
     match reply {

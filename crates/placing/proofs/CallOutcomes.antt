@@ -32,11 +32,13 @@ use Rattle.placing.specs.declared.Visited.{Visited}
 use Rattle.placing.specs.declared.Recorded.{Recorded}
 use Rattle.placing.specs.declared.Opened.{Opened}
 use Rattle.expansion.specs.Nodes.{leaf}
-use Rattle.expansion.specs.Visit.{Visit, placed, placeVariable, placeApplication, placeBinder, concluded, replacing, fixing, newVariable, fresh, renaming, openBinder, visit}
+use Rattle.expansion.specs.Visit.{Visit, placed, placeVariable, placeApplication, placeBinder, concluded, replacing, fixing, newVariable, fresh, renaming}
+use Rattle.expansion.specs.Visit.{openBinder, visit}
 use Rattle.expansion.specs.Visit as unlimited
 use Rattle.placing.specs.Outcomes.{TooMuch, VisitOutcome, OpenOutcome, BinderOutcome, PlaceOutcome, AddOutcome}
 use Rattle.expansion.proofs.Grown.{variable-longer, concluded-longer, listed-longer, fixed-longer, renaming-longer}
-use Rattle.placing.proofs.ScratchOutcomes.{add-is, place-is, add-done, place-done, open-done, add-full, place-full, open-full, variable-over, longer-over, start-word, placed-word}
+use Rattle.placing.proofs.ScratchOutcomes.{add-is, place-is, add-done, place-done, open-done, add-full, place-full, open-full, variable-over}
+use Rattle.placing.proofs.ScratchOutcomes.{longer-over, start-word, placed-word}
 
 -- ---- one record appended
 
@@ -157,7 +159,14 @@ module _ (b : Bundle) (y v : ℕ) {w : List ℕ} {a : Recorded} (o : OpenOutcome
     fixed-asks =
         let k = open-done o e in (
           k .0 .ready,
-          omega (arith, k .1, k .0 .ready .room .within .contexts, sized-as w c (k .0 .bundle) .contexts, length-append (b .contexts) (record { kind = 1; a = y; b = 0; parent = v } ∷ [])),
+          omega (
+            arith,
+            k .1,
+            k .0 .ready .room .within .contexts,
+            sized-as w c (k .0 .bundle) .contexts,
+            length-append (b .contexts)
+                (record { kind = 1; a = y; b = 0; parent = v } ∷ []),
+          ),
         )
 
     -- w₂, d and s are what the list of x left
@@ -186,42 +195,64 @@ module _ (b : Bundle) (x v : ℕ) {w : List ℕ} {a : Recorded} (o : PlaceOutcom
   pub binder-full : a ≡ Recorded.Full → BinderOutcome (openBinder b x v) w′ Opened.Full
   binder-full e = BinderOutcome.full (longer-over (renaming-longer (fresh b x .bundle) x (newVariable b) (fresh b x .term) v) (place-full o e)) refl
 
-  module _ {c : Counts} {t y : ℕ} (e : a ≡ Recorded.Done c t) (new : y ≡ newVariable b) {g : Recorded} (q : OpenOutcome (renaming (bundleIn w c) x y t v) w′ g) where
-    renamed : OpenOutcome (renaming (fresh b x .bundle) x (newVariable b) (fresh b x .term) v) w′ g
-    renamed =
-        let k = place-done o e in
-        subst (λ (r : unlimited.OpenedContext). OpenOutcome r w′ g) (λ i. renaming (k .0 .bundle i) x (new i) (k .1 i) v) q
+  module _ {c : Counts} {t y : ℕ} (e : a ≡ Recorded.Done c t) (new : y ≡ newVariable b) {g : Recorded} (q : OpenOutcome (renaming (bundleIn w c) x y t v) w′ g)
+    where
+      renamed : OpenOutcome (renaming (fresh b x .bundle) x (newVariable b) (fresh b x .term) v) w′ g
+      renamed =
+          let k = place-done o e in
+          subst (λ (r : unlimited.OpenedContext). OpenOutcome r w′ g) (λ i. renaming (k .0 .bundle i) x (new i) (k .1 i) v) q
 
-    pub binder-over : g ≡ Recorded.Full → BinderOutcome (openBinder b x v) w′ Opened.Full
-    binder-over z = BinderOutcome.full (open-full renamed z) refl
+      pub binder-over : g ≡ Recorded.Full → BinderOutcome (openBinder b x v) w′ Opened.Full
+      binder-over z = BinderOutcome.full (open-full renamed z) refl
 
-    pub binder-on : {d : Counts} {n : ℕ} → g ≡ Recorded.Done d n → BinderOutcome (openBinder b x v) w′ (Opened.Done d n y)
-    binder-on z = go renamed z
-      where
-        go : {d : Counts} {n : ℕ} → OpenOutcome (renaming (fresh b x .bundle) x (newVariable b) (fresh b x .term) v) w′ g → g ≡ Recorded.Done d n
-            → BinderOutcome (openBinder b x v) w′ (Opened.Done d n y)
-        go (OpenOutcome.done h k) z = BinderOutcome.done h (cc)
-        go (OpenOutcome.full h k) z = let z : _≡_ {A = ℕ} 0 1 = cc in absurd (omega arith)
+      pub binder-on : {d : Counts} {n : ℕ} → g ≡ Recorded.Done d n → BinderOutcome (openBinder b x v) w′ (Opened.Done d n y)
+      binder-on z = go renamed z
+        where
+          go : {d : Counts} {n : ℕ} → OpenOutcome (renaming (fresh b x .bundle) x (newVariable b) (fresh b x .term) v) w′ g → g ≡ Recorded.Done d n
+              → BinderOutcome (openBinder b x v) w′ (Opened.Done d n y)
+          go (OpenOutcome.done h k) z = BinderOutcome.done h (cc)
+          go (OpenOutcome.full h k) z = let z : _≡_ {A = ℕ} 0 1 = cc in absurd (omega arith)
 
 -- ---- terms placed are words of 32 bits
 
 module _ (b : Bundle) {w : List ℕ} {a : Recorded} {c : Counts} {n : ℕ} where
   pub application-asks : (f : ℕ) (vs : List ℕ) → PlaceOutcome (placeApplication b f vs) w a → a ≡ Recorded.Done c n → Ready w c × (n ≤ 4294967295)
   application-asks f vs o e =
-      let k = place-done o e in
-      (k .0 .ready, omega (arith, k .1, placed-word w c b vs (λ s. record { kind = 2; a = f; b = s; c = 0 }) (seek (sameApplication b f vs) (b .terms)) (seek-le (sameApplication b f vs) (b .terms)) (k .0)))
+      let k = place-done o e in (
+        k .0 .ready,
+        omega (
+          arith,
+          k .1,
+          placed-word w c b vs (λ s. record { kind = 2; a = f; b = s; c = 0 }) (seek (sameApplication b f vs) (b .terms))
+              (seek-le (sameApplication b f vs) (b .terms)) (k .0),
+        ),
+      )
 
   pub binder-asks : (q : Binder) (y t : ℕ) → PlaceOutcome (placeBinder b q y t) w a → a ≡ Recorded.Done c n → Ready w c × (n ≤ 4294967295)
   binder-asks q y t o e =
-      let k = place-done o e in
-      (k .0 .ready, omega (arith, k .1, placed-word w c b [] (λ s. record { kind = numberOf (binder q); a = y; b = t; c = 0 }) (seek (sameBinder q y t) (b .terms)) (seek-le (sameBinder q y t) (b .terms)) (k .0)))
+      let k = place-done o e in (
+        k .0 .ready,
+        omega (
+          arith,
+          k .1,
+          placed-word w c b [] (λ s. record { kind = numberOf (binder q); a = y; b = t; c = 0 }) (seek (sameBinder q y t) (b .terms))
+              (seek-le (sameBinder q y t) (b .terms)) (k .0),
+        ),
+      )
 
   pub fresh-asks : (x : ℕ) → PlaceOutcome (fresh b x) w a → a ≡ Recorded.Done c n → Ready w c × (n ≤ 4294967295)
   fresh-asks x o e =
       let k = place-done o e in
       let v : Bundle = withVariables b (sortOfVariable b x ∷ []) in
-      let p = sameVariable (newVariable b) in
-      (k .0 .ready, omega (arith, k .1, placed-word w c v [] (λ s. record { kind = 1; a = newVariable b; b = 0; c = 0 }) (seek p (b .terms)) (seek-le p (b .terms)) (k .0)))
+      let p = sameVariable (newVariable b) in (
+        k .0 .ready,
+        omega (
+          arith,
+          k .1,
+          placed-word w c v [] (λ s. record { kind = 1; a = newVariable b; b = 0; c = 0 }) (seek p (b .terms)) (seek-le p (b .terms))
+              (k .0),
+        ),
+      )
 
 -- the binder of a kind
 pub binder-of : (k : ℕ) → 3 ≤ k → k ≤ 4 → (q : Binder) × (k ≡ numberOf (binder q))

@@ -111,7 +111,8 @@ module _ {w : List ℕ} where
 
 list-length : (b : Bundle) (vs : List ℕ) → length (addList b vs .links) ≡ length (b .links) + length vs
 list-length b vs =
-    length-append (b .links) (consecutive (suc (length (b .links))) vs) ∙ ap (λ (n : ℕ). length (b .links) + n) (consecutive-length (suc (length (b .links))) vs)
+    length-append (b .links) (consecutive (suc (length (b .links))) vs)
+    ∙ ap (λ (n : ℕ). length (b .links) + n) (consecutive-length (suc (length (b .links))) vs)
 
 module _ (w : List ℕ) (c : Counts) where
   pub list-over : (vs : List ℕ) → 2048 < c .links + length vs → TooMuch (addList (bundleIn w c) vs)

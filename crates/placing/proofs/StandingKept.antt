@@ -62,7 +62,8 @@ module _ {b b′ : Bundle} (longer : Longer b b′) where
     stand-all-on nil o l h = h
     stand-all-on (cons τ ns) o l h =
         let k = subst
-        (λ (r : Link). (r .value < o) × ((r .next ≡ 0) ⊎ ((l < r .next) × (r .next ≤ length (b′ .links)))) × Stands b′ (r .value) τ × StandAll b′ o (r .next) ns)
+        (λ (r : Link). (r .value < o) × ((r .next ≡ 0) ⊎ ((l < r .next) × (r .next ≤ length (b′ .links)))) × Stands b′ (r .value) τ
+        × StandAll b′ o (r .next) ns)
         (link-same l (h .0)) (h .1, order-on (h .2), stands-on τ (linkOf b l .value) (h .3), stand-all-on ns o (linkOf b l .next) (h .4)) in
         ((h .0 .0, omega (arith, h .0 .1, sizes longer .links)), k .0, k .1, k .2, k .3)
 

@@ -78,7 +78,8 @@ pub fn add_halves(
     to: usize,
 ) -> Recorded
     requires { ⌜ Ready (now words) c × (from ≤ to) × (to ≤ length (now stack)) ⌝ }
-    ensures { λ r. ⌜ (length (now (words .exit)) ≡ length (now (words .entry))) × AddOutcome (bundleIn (now (words .entry)) c) (halves upper (now (stack .entry)) from to) (now (words .exit)) r ⌝ }
+    ensures { λ r. ⌜ (length (now (words .exit)) ≡ length (now (words .entry)))
+        × AddOutcome (bundleIn (now (words .entry)) c) (halves upper (now (stack .entry)) from to) (now (words .exit)) r ⌝ }
 {
     let n = to - from;
     let links = c.links;
@@ -96,7 +97,8 @@ pub fn add_halves(
 // One value, as a list.
 pub fn add_value(words: &mut [u32], c: Bundle, value: usize) -> Recorded
     requires { ⌜ Ready (now words) c × (value ≤ 4294967295) ⌝ }
-    ensures { λ r. ⌜ (length (now (words .exit)) ≡ length (now (words .entry))) × AddOutcome (bundleIn (now (words .entry)) c) (value ∷ []) (now (words .exit)) r ⌝ }
+    ensures { λ r. ⌜ (length (now (words .exit)) ≡ length (now (words .entry)))
+        × AddOutcome (bundleIn (now (words .entry)) c) (value ∷ []) (now (words .exit)) r ⌝ }
 {
     let links = c.links;
     if links >= Bundle::LINKS {
@@ -119,8 +121,15 @@ pub fn add_term(
     index: &mut [u16; DIGESTS + Bundle::TERMS + 1],
     d: usize,
 ) -> Recorded
-    requires { ⌜ Ready (now words) c × (kind ≤ 4294967295) × (first ≤ 4294967295) × (second ≤ 4294967295) × Indexed (bundleIn (now words) c) (now index) × (d < digests) × Digested (bundleIn (now words) c) (record { kind = kind; a = first; b = second; c = 0 }) d ⌝ }
-    ensures { λ r. ⌜ (length (now (words .exit)) ≡ length (now (words .entry))) × PlaceOutcome (record { bundle = withTerms (bundleIn (now (words .entry)) c) (record { kind = kind; a = first; b = second; c = 0 } ∷ []); term = suc (length (bundleIn (now (words .entry)) c .terms)) }) (now (words .exit)) r × RecordIndexed (now (words .exit)) (now (index .exit)) r ⌝ }
+    requires { ⌜ Ready (now words) c × (kind ≤ 4294967295) × (first ≤ 4294967295) × (second ≤ 4294967295) × Indexed (bundleIn (now words) c) (now index)
+        × (d < digests) × Digested (bundleIn (now words) c) (record { kind = kind; a = first; b = second; c = 0 }) d ⌝ }
+    ensures { λ r. ⌜ (length (now (words .exit)) ≡ length (now (words .entry)))
+        × PlaceOutcome
+        (record {
+          bundle = withTerms (bundleIn (now (words .entry)) c) (record { kind = kind; a = first; b = second; c = 0 } ∷ []);
+          term =
+              suc (length (bundleIn (now (words .entry)) c .terms));
+        }) (now (words .exit)) r × RecordIndexed (now (words .exit)) (now (index .exit)) r ⌝ }
 {
     let terms = c.terms;
     if terms >= Bundle::TERMS {
@@ -143,7 +152,13 @@ pub fn add_context(
     parent: usize,
 ) -> Recorded
     requires { ⌜ Ready (now words) c × (kind ≤ 4294967295) × (first ≤ 4294967295) × (second ≤ 4294967295) × (parent ≤ 4294967295) ⌝ }
-    ensures { λ r. ⌜ (length (now (words .exit)) ≡ length (now (words .entry))) × OpenOutcome (record { bundle = withContexts (bundleIn (now (words .entry)) c) (record { kind = kind; a = first; b = second; parent = parent } ∷ []); context = suc (length (bundleIn (now (words .entry)) c .contexts)) }) (now (words .exit)) r ⌝ }
+    ensures { λ r. ⌜ (length (now (words .exit)) ≡ length (now (words .entry)))
+        × OpenOutcome
+        (record {
+          bundle = withContexts (bundleIn (now (words .entry)) c) (record { kind = kind; a = first; b = second; parent = parent } ∷ []);
+          context =
+              suc (length (bundleIn (now (words .entry)) c .contexts));
+        }) (now (words .exit)) r ⌝ }
 {
     let contexts = c.contexts;
     if contexts >= Bundle::CONTEXTS {
@@ -166,7 +181,15 @@ pub fn add_step(
     premises: usize,
 ) -> Visited
     requires { ⌜ Ready (now words) c × (rule ≤ 4294967295) × (context ≤ 4294967295) × (left ≤ 4294967295) × (right ≤ 4294967295) × (premises ≤ 4294967295) ⌝ }
-    ensures { λ r. ⌜ (length (now (words .exit)) ≡ length (now (words .entry))) × VisitOutcome (record { bundle = withSteps (bundleIn (now (words .entry)) c) (record { rule = rule; context = context; left = left; right = right; premises = premises } ∷ []); result = right; step = suc (length (bundleIn (now (words .entry)) c .steps)) }) (now (words .exit)) r ⌝ }
+    ensures { λ r. ⌜ (length (now (words .exit)) ≡ length (now (words .entry)))
+        × VisitOutcome
+        (record {
+          bundle = withSteps (bundleIn (now (words .entry)) c)
+              (record { rule = rule; context = context; left = left; right = right; premises = premises } ∷ []);
+          result = right;
+          step =
+              suc (length (bundleIn (now (words .entry)) c .steps));
+        }) (now (words .exit)) r ⌝ }
 {
     let steps = c.steps;
     if steps >= Bundle::STEPS {
@@ -191,7 +214,9 @@ pub fn place_application(
     index: &mut [u16; DIGESTS + Bundle::TERMS + 1],
 ) -> Recorded
     requires { ⌜ Ready (now words) c × (symbol ≤ 4294967295) × (from ≤ to) × (to ≤ length (now stack)) × Indexed (bundleIn (now words) c) (now index) ⌝ }
-    ensures { λ r. ⌜ (length (now (words .exit)) ≡ length (now (words .entry))) × PlaceOutcome (placeApplication (bundleIn (now (words .entry)) c) symbol (halves true (now (stack .entry)) from to)) (now (words .exit)) r × RecordIndexed (now (words .exit)) (now (index .exit)) r ⌝ }
+    ensures { λ r. ⌜ (length (now (words .exit)) ≡ length (now (words .entry)))
+        × PlaceOutcome (placeApplication (bundleIn (now (words .entry)) c) symbol (halves true (now (stack .entry)) from to)) (now (words .exit)) r
+        × RecordIndexed (now (words .exit)) (now (index .exit)) r ⌝ }
 {
     let root = root_digest(APPLICATION, symbol);
     let d = mixed_results(root, stack, from, to);
@@ -220,7 +245,8 @@ pub fn place_fresh(
     index: &mut [u16; DIGESTS + Bundle::TERMS + 1],
 ) -> Recorded
     requires { ⌜ Ready (now words) c × Indexed (bundleIn (now words) c) (now index) ⌝ }
-    ensures { λ r. ⌜ (length (now (words .exit)) ≡ length (now (words .entry))) × PlaceOutcome (fresh (bundleIn (now (words .entry)) c) x) (now (words .exit)) r × RecordIndexed (now (words .exit)) (now (index .exit)) r ⌝ }
+    ensures { λ r. ⌜ (length (now (words .exit)) ≡ length (now (words .entry))) × PlaceOutcome (fresh (bundleIn (now (words .entry)) c) x) (now (words .exit)) r
+        × RecordIndexed (now (words .exit)) (now (index .exit)) r ⌝ }
 {
     let sort = variable_sort(words, c, x);
     let variables = c.variables;
@@ -250,7 +276,9 @@ pub fn place_binder(
     index: &mut [u16; DIGESTS + Bundle::TERMS + 1],
 ) -> Recorded
     requires { ⌜ Ready (now words) c × (3 ≤ kind) × (kind ≤ 4) × (y ≤ 4294967295) × (body ≤ 4294967295) × Indexed (bundleIn (now words) c) (now index) ⌝ }
-    ensures { λ r. ⌜ (length (now (words .exit)) ≡ length (now (words .entry))) × ((q : Binder) → kind ≡ numberOf (binder q) → PlaceOutcome (placeBinder (bundleIn (now (words .entry)) c) q y body) (now (words .exit)) r) × RecordIndexed (now (words .exit)) (now (index .exit)) r ⌝ }
+    ensures { λ r. ⌜ (length (now (words .exit)) ≡ length (now (words .entry)))
+        × ((q : Binder) → kind ≡ numberOf (binder q) → PlaceOutcome (placeBinder (bundleIn (now (words .entry)) c) q y body) (now (words .exit)) r)
+        × RecordIndexed (now (words .exit)) (now (index .exit)) r ⌝ }
 {
     let d = root_digest(kind, y);
     let found = find_binder(words, c, index, d, kind, y, body);

@@ -76,7 +76,8 @@ pub fn all_prove(
     premises: usize,
 ) -> bool
     requires { ⌜ Whole (now file) b ⌝ }
-    ensures { λ x. ⌜ x ≡ allProveBy (stepIn (bundleAt (now (file .entry)) b) (now (bed .entry))) body context (items (bundleAt (now (file .entry)) b) lefts) (items (bundleAt (now (file .entry)) b) rights) (items (bundleAt (now (file .entry)) b) premises) ⌝ }
+    ensures { λ x. ⌜ x ≡ allProveBy (stepIn (bundleAt (now (file .entry)) b) (now (bed .entry))) body context (items (bundleAt (now (file .entry)) b) lefts)
+        (items (bundleAt (now (file .entry)) b) rights) (items (bundleAt (now (file .entry)) b) premises) ⌝ }
 {
     let mut i = first_link(b, lefts);
     let mut j = first_link(b, rights);
@@ -108,7 +109,8 @@ fn key(context: usize, i: usize, j: usize) -> u32
     ((context * (Bundle::LINKS + 1) + i) * (Bundle::LINKS + 1) + j) as u32
 }
 
-// The same with no premise more, for the batch check. `carried` has at a premise's link the key at which the premises from there on were last found to carry the
+// The same with no premise more, for the batch check. `carried` has at a premise's link the key at which the premises from there on were last found to carry
+// the
 // terms: there the walk ends. A key is written before the rest is known; where the rest fails, so does the step, and no key is read again.
 pub fn all_carried(
     file: &[u8],
@@ -121,7 +123,8 @@ pub fn all_carried(
     premises: usize,
 ) -> bool
     requires { ⌜ Whole (now file) b × Carried (now file) b (now bed) (now carried) × (context ≤ limits .contexts) ⌝ }
-    ensures { λ x. ⌜ x ≡ allProveBy (stepIn (bundleAt (now (file .entry)) b) (now (bed .entry))) false context (items (bundleAt (now (file .entry)) b) lefts) (items (bundleAt (now (file .entry)) b) rights) (items (bundleAt (now (file .entry)) b) premises) ⌝ }
+    ensures { λ x. ⌜ x ≡ allProveBy (stepIn (bundleAt (now (file .entry)) b) (now (bed .entry))) false context (items (bundleAt (now (file .entry)) b) lefts)
+        (items (bundleAt (now (file .entry)) b) rights) (items (bundleAt (now (file .entry)) b) premises) ⌝ }
     ensures { λ x. ⌜ (x ≡ true → Carried (now (file .entry)) b (now (bed .entry)) (now (carried .exit))) ⌝ }
 {
     let mut i = first_link(b, lefts);

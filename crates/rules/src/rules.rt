@@ -6,7 +6,8 @@ ghost use lib.ListN.{length};
 ghost use Rattle.bundle.specs.Limits.{limits};
 ghost use Rattle.bundle.specs.File.{Whole, bundleAt};
 ghost use Rattle.logic.specs.Tests.{passed};
-ghost use Rattle.logic.specs.Rules.{carries, isImage, reflHoldsBy, congWhere, transTestsBy, transSideBy, bindTermsBy, bindContextsBy, freeInImageBy, bindSidesBy, letTestsBy};
+ghost use Rattle.logic.specs.Rules.{carries, isImage, reflHoldsBy, congWhere, transTestsBy, transSideBy, bindTermsBy, bindContextsBy, freeInImageBy};
+ghost use Rattle.logic.specs.Rules.{bindSidesBy, letTestsBy};
 ghost use Rattle.rules.specs.StepWords.{asStep};
 ghost use Rattle.images.specs.LentReading.{Lent, freeIn, stepIn, imagesIn, allSettledIn};
 use super::StepWords;
@@ -54,7 +55,8 @@ pub fn refl_holds(
     s: StepWords,
 ) -> bool
     requires { ⌜ Whole (now file) b × Lent b (now area) (now images) (now moved) n × (s .context ≤ b .contexts) ⌝ }
-    ensures { λ r. ⌜ r ≡ reflHoldsBy (allSettledIn b (now (area .entry)) (now (moved .entry)) n) (imagesIn b (now (images .entry))) (bundleAt (now (file .entry)) b) (asStep s) ⌝ }
+    ensures { λ r. ⌜ r ≡ reflHoldsBy (allSettledIn b (now (area .entry)) (now (moved .entry)) n) (imagesIn b (now (images .entry)))
+        (bundleAt (now (file .entry)) b) (asStep s) ⌝ }
 {
     let context = s.context;
     let left = s.left;
@@ -119,7 +121,8 @@ pub fn trans_side(
     s: StepWords,
 ) -> bool
     requires { ⌜ Whole (now file) b × (n * b .terms ≤ length (now area)) × (n * (b .contexts + 1) ≤ length (now moved)) × (s .context ≤ b .contexts) ⌝ }
-    ensures { λ r. ⌜ r ≡ transSideBy (allSettledIn b (now (area .entry)) (now (moved .entry)) n) (stepIn (bundleAt (now (file .entry)) b) (now (bed .entry))) (bundleAt (now (file .entry)) b) (asStep s) ⌝ }
+    ensures { λ r. ⌜ r ≡ transSideBy (allSettledIn b (now (area .entry)) (now (moved .entry)) n) (stepIn (bundleAt (now (file .entry)) b) (now (bed .entry)))
+        (bundleAt (now (file .entry)) b) (asStep s) ⌝ }
 {
     let context = s.context;
     let premises = s.premises;
@@ -206,8 +209,10 @@ pub fn bind_sides(
     images: &[u16],
     s: StepWords,
 ) -> bool
-    requires { ⌜ Whole (now file) b × (n * b .terms ≤ length (now area)) × (limits .variables * (b .contexts + 1) ≤ length (now images)) × (s .context ≤ b .contexts) ⌝ }
-    ensures { λ r. ⌜ r ≡ bindSidesBy (freeIn (b .terms) (now (area .entry)) n) (imagesIn b (now (images .entry))) (bundleAt (now (file .entry)) b) (asStep s) ⌝ }
+    requires { ⌜ Whole (now file) b × (n * b .terms ≤ length (now area)) × (limits .variables * (b .contexts + 1) ≤ length (now images))
+        × (s .context ≤ b .contexts) ⌝ }
+    ensures { λ r. ⌜ r ≡ bindSidesBy (freeIn (b .terms) (now (area .entry)) n) (imagesIn b (now (images .entry))) (bundleAt (now (file .entry)) b) (asStep s)
+        ⌝ }
 {
     let context = s.context;
     let left = s.left;

@@ -104,10 +104,12 @@ module _ (w v : List ℕ) (c : Counts) where
 abbrev bundle : ℕ → List Symbol → List ℕ → List TermRecord → List Link → List Context → List Step → ℕ → ℕ → Bundle
 bundle n ss vs ts ls cs ps l r = record { version = n; symbols = ss; variables = vs; terms = ts; links = ls; contexts = cs; steps = ps; left = l; right = r }
 
-pub bundle-path : {n : ℕ} {ss ss′ : List Symbol} {vs vs′ : List ℕ} {ts ts′ : List TermRecord} {ls ls′ : List Link} {cs cs′ : List Context} {ps ps′ : List Step} {l l′ r r′ : ℕ}
+pub bundle-path : {n : ℕ} {ss ss′ : List Symbol} {vs vs′ : List ℕ} {ts ts′ : List TermRecord} {ls ls′ : List Link} {cs cs′ : List Context} {ps ps′ : List Step}
+    {l l′ r r′ : ℕ}
     → ss ≡ ss′ → vs ≡ vs′ → ts ≡ ts′ → ls ≡ ls′ → cs ≡ cs′ → ps ≡ ps′ → l ≡ l′ → r ≡ r′
     → bundle n ss vs ts ls cs ps l r ≡ bundle n ss′ vs′ ts′ ls′ cs′ ps′ l′ r′
-bundle-path {n} s v t k c p l r = λ i. record { version = n; symbols = s i; variables = v i; terms = t i; links = k i; contexts = c i; steps = p i; left = l i; right = r i }
+bundle-path {n} s v t k c p l r =
+    λ i. record { version = n; symbols = s i; variables = v i; terms = t i; links = k i; contexts = c i; steps = p i; left = l i; right = r i }
 
 -- the counts with those of the sections that can be appended to as they are given
 abbrev pub counted : Counts → ℕ → ℕ → ℕ → ℕ → ℕ → Counts
@@ -156,7 +158,8 @@ module _ (w v : List ℕ) (c : Counts) (g : Roomy w c) where
   )
 
   pub term-appended : {kind a b d : ℕ} → c .terms < 1024 → Written w v (termsAt limits + 4 * c .terms) (kind ∷ a ∷ b ∷ d ∷ [])
-      → Grows w v c (counted c (c .variables) (c .terms + 1) (c .links) (c .contexts) (c .steps)) (withTerms (bundleIn w c) (record { kind = kind; a = a; b = b; c = d } ∷ []))
+      → Grows w v c (counted c (c .variables) (c .terms + 1) (c .links) (c .contexts) (c .steps))
+      (withTerms (bundleIn w c) (record { kind = kind; a = a; b = b; c = d } ∷ []))
   unfolding bundleBy
   term-appended {kind} {a} {b} {d} l o = (
     record {
@@ -184,7 +187,8 @@ module _ (w v : List ℕ) (c : Counts) (g : Roomy w c) where
   )
 
   pub link-appended : {value next : ℕ} → c .links < 2048 → Written w v (linksAt limits + 2 * c .links) (value ∷ next ∷ [])
-      → Grows w v c (counted c (c .variables) (c .terms) (c .links + 1) (c .contexts) (c .steps)) (withLinks (bundleIn w c) (record { value = value; next = next } ∷ []))
+      → Grows w v c (counted c (c .variables) (c .terms) (c .links + 1) (c .contexts) (c .steps))
+      (withLinks (bundleIn w c) (record { value = value; next = next } ∷ []))
   unfolding bundleBy
   link-appended {value} {next} l o = (
     record {
@@ -212,7 +216,8 @@ module _ (w v : List ℕ) (c : Counts) (g : Roomy w c) where
   )
 
   pub context-appended : {kind a b parent : ℕ} → c .contexts < 256 → Written w v (contextsAt limits + 4 * c .contexts) (kind ∷ a ∷ b ∷ parent ∷ [])
-      → Grows w v c (counted c (c .variables) (c .terms) (c .links) (c .contexts + 1) (c .steps)) (withContexts (bundleIn w c) (record { kind = kind; a = a; b = b; parent = parent } ∷ []))
+      → Grows w v c (counted c (c .variables) (c .terms) (c .links) (c .contexts + 1) (c .steps))
+      (withContexts (bundleIn w c) (record { kind = kind; a = a; b = b; parent = parent } ∷ []))
   unfolding bundleBy
   context-appended {kind} {a} {b} {parent} l o = (
     record {
@@ -239,8 +244,10 @@ module _ (w v : List ℕ) (c : Counts) (g : Roomy w c) where
     refl,
   )
 
-  pub step-appended : {rule context left right premises : ℕ} → c .steps < 1024 → Written w v (stepsAt limits + 5 * c .steps) (rule ∷ context ∷ left ∷ right ∷ premises ∷ [])
-      → Grows w v c (counted c (c .variables) (c .terms) (c .links) (c .contexts) (c .steps + 1)) (withSteps (bundleIn w c) (record { rule = rule; context = context; left = left; right = right; premises = premises } ∷ []))
+  pub step-appended : {rule context left right premises : ℕ} → c .steps < 1024
+      → Written w v (stepsAt limits + 5 * c .steps) (rule ∷ context ∷ left ∷ right ∷ premises ∷ [])
+      → Grows w v c (counted c (c .variables) (c .terms) (c .links) (c .contexts) (c .steps + 1))
+      (withSteps (bundleIn w c) (record { rule = rule; context = context; left = left; right = right; premises = premises } ∷ []))
   unfolding bundleBy
   step-appended {rule} {context} {left} {right} {premises} l o = (
     record {
@@ -261,7 +268,8 @@ module _ (w v : List ℕ) (c : Counts) (g : Roomy w c) where
         (terms-kept w v c (λ j a b. o .below j (omega (arith, g .within))))
         (links-kept w v c (λ j a b. o .below j (omega (arith, g .within))))
         (contexts-kept w v c (λ j a b. o .below j (omega (arith, g .within))))
-        (rows-more stepFrom 5 step-same w v (stepsAt limits) (c .steps) (λ j a b. o .below j (omega arith)) (rule ∷ context ∷ left ∷ right ∷ premises ∷ []) (o .new))
+        (rows-more stepFrom 5 step-same w v (stepsAt limits) (c .steps) (λ j a b. o .below j (omega arith)) (rule ∷ context ∷ left ∷ right ∷ premises ∷ [])
+        (o .new))
         (o .below 7 (omega arith))
         (o .below 8 (omega arith)),
     refl,

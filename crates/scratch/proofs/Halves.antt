@@ -38,7 +38,8 @@ module _ (u : Bool) (s : List ℕ) (from to : ℕ) where
       length-map (take (to - from) (drop from s)) (halfOf u)
       ∙ length-take-le (to - from) (drop from s) (simp length-drop (omega arith))
 
-  pub halves-same : (s′ : List ℕ) → length s′ ≡ length s → to ≤ length s → ((i : ℕ) → from ≤ i → i < to → getD s′ i 0 ≡ getD s i 0) → halves u s′ from to ≡ halves u s from to
+  pub halves-same : (s′ : List ℕ) → length s′ ≡ length s → to ≤ length s → ((i : ℕ) → from ≤ i → i < to → getD s′ i 0 ≡ getD s i 0)
+      → halves u s′ from to ≡ halves u s from to
   halves-same s′ e k same =
       let l : to - from ≤ length (drop from s) = simp length-drop (omega arith) in
       let l′ : to - from ≤ length (drop from s′) = simp length-drop (omega arith) in

@@ -20,13 +20,26 @@ use Rattle.scratch.proofs.Halves.{halves-none, halves-more}
 
 pub add-none : (b : Bundle) → addList b [] ≡ b
 unfolding consecutive
-add-none b = ap (λ (ls : List Link). record { version = b .version; symbols = b .symbols; variables = b .variables; terms = b .terms; links = ls; contexts = b .contexts; steps = b .steps; left = b .left; right = b .right }) (append-nil (b .links))
+add-none b =
+    ap (λ (ls : List Link). record {
+      version = b .version;
+      symbols = b .symbols;
+      variables = b .variables;
+      terms = b .terms;
+      links = ls;
+      contexts =
+          b .contexts;
+      steps = b .steps;
+      left = b .left;
+      right = b .right;
+    }) (append-nil (b .links))
 
 pub add-more : (b : Bundle) (v next : ℕ) (vs : List ℕ) → next ≡ startOf (suc (suc (length (b .links)))) vs
     → addList (withLinks b (record { value = v; next = next } ∷ [])) vs ≡ addList b (v ∷ vs)
 unfolding consecutive
 add-more b v next vs e =
-    let l : length (b .links ++ (record { value = v; next = next } ∷ [])) ≡ suc (length (b .links)) = length-append (b .links) (record { value = v; next = next } ∷ []) ∙ omega arith in
+    let l : length (b .links ++ (record { value = v; next = next } ∷ [])) ≡ suc (length (b .links)) =
+    length-append (b .links) (record { value = v; next = next } ∷ []) ∙ omega arith in
     rw (l, append-assoc, ← e)
 
 -- the next of a link, where m is the link after it and the pairs that are left are those from `from` to before `to`
@@ -46,7 +59,8 @@ pub push-more : (w w′ : List ℕ) (c r : Counts) (u : Bool) (s : List ℕ) (fr
 push-more w w′ c r u s from to v next h k p more none e =
     let b = bundleIn w c in
     let n : length (b .links) ≡ c .links = sized-in w c .links in
-    let l : length (b .links ++ (record { value = v; next = next } ∷ [])) ≡ length (b .links) + 1 = length-append (b .links) (record { value = v; next = next } ∷ []) in (
+    let l : length (b .links ++ (record { value = v; next = next } ∷ [])) ≡ length (b .links) + 1 =
+    length-append (b .links) (record { value = v; next = next } ∷ []) in (
       sym (sized-as w′ r e .links) ∙ l ∙ ap (λ (x : ℕ). x + 1) n,
       ap (λ (x : Bundle). addList x (halves u s (from + 1) to)) e
           ∙ add-more b v next (halves u s (from + 1) to)
@@ -55,6 +69,7 @@ push-more w w′ c r u s from to v next h k p more none e =
     )
 
 -- where a list of n values starts that is appended next
-pub start-is : (w : List ℕ) (c : Counts) (vs : List ℕ) (n r : ℕ) → length vs ≡ n → (n ≡ 0 → r ≡ 0) → ((n ≡ 0 → ⊥) → r ≡ suc (c .links)) → r ≡ listStart (bundleIn w c) vs
+pub start-is : (w : List ℕ) (c : Counts) (vs : List ℕ) (n r : ℕ) → length vs ≡ n → (n ≡ 0 → r ≡ 0) → ((n ≡ 0 → ⊥) → r ≡ suc (c .links))
+    → r ≡ listStart (bundleIn w c) vs
 start-is w c [] n r e none some = none (sym e)
 start-is w c (v ∷ vs) n r e none some = some (λ z. omega arith) ∙ ap suc (sym (sized-in w c .links))

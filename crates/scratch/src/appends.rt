@@ -11,7 +11,8 @@ use bundle::words::as_word;
 
 pub fn append_variable(words: &mut [u32], c: Bundle, sort: usize) -> Bundle
     requires { ⌜ Roomy (now words) c × (c .variables < limits .variables) × (sort ≤ 4294967295) ⌝ }
-    ensures { λ r. ⌜ Roomy (now (words .exit)) r × (length (now (words .exit)) ≡ length (now (words .entry))) × (bundleIn (now (words .exit)) r ≡ withVariables (bundleIn (now (words .entry)) c) (sort ∷ [])) × (r .version ≡ c .version) ⌝ }
+    ensures { λ r. ⌜ Roomy (now (words .exit)) r × (length (now (words .exit)) ≡ length (now (words .entry)))
+        × (bundleIn (now (words .exit)) r ≡ withVariables (bundleIn (now (words .entry)) c) (sort ∷ [])) × (r .version ≡ c .version) ⌝ }
 {
     let mut after = c;
     let count = c.variables;
@@ -29,8 +30,11 @@ pub fn append_term(
     second: usize,
     third: usize,
 ) -> Bundle
-    requires { ⌜ Roomy (now words) c × (c .terms < limits .terms) × (kind ≤ 4294967295) × (first ≤ 4294967295) × (second ≤ 4294967295) × (third ≤ 4294967295) ⌝ }
-    ensures { λ r. ⌜ Roomy (now (words .exit)) r × (length (now (words .exit)) ≡ length (now (words .entry))) × (bundleIn (now (words .exit)) r ≡ withTerms (bundleIn (now (words .entry)) c) (record { kind = kind; a = first; b = second; c = third } ∷ [])) × (r .version ≡ c .version) ⌝ }
+    requires { ⌜ Roomy (now words) c × (c .terms < limits .terms) × (kind ≤ 4294967295) × (first ≤ 4294967295) × (second ≤ 4294967295)
+        × (third ≤ 4294967295) ⌝ }
+    ensures { λ r. ⌜ Roomy (now (words .exit)) r × (length (now (words .exit)) ≡ length (now (words .entry)))
+        × (bundleIn (now (words .exit)) r ≡ withTerms (bundleIn (now (words .entry)) c) (record { kind = kind; a = first; b = second; c = third } ∷ []))
+        × (r .version ≡ c .version) ⌝ }
 {
     let mut after = c;
     let count = c.terms;
@@ -45,7 +49,9 @@ pub fn append_term(
 
 pub fn append_link(words: &mut [u32], c: Bundle, value: usize, next: usize) -> Bundle
     requires { ⌜ Roomy (now words) c × (c .links < limits .links) × (value ≤ 4294967295) × (next ≤ 4294967295) ⌝ }
-    ensures { λ r. ⌜ Roomy (now (words .exit)) r × (length (now (words .exit)) ≡ length (now (words .entry))) × (bundleIn (now (words .exit)) r ≡ withLinks (bundleIn (now (words .entry)) c) (record { value = value; next = next } ∷ [])) × (r .version ≡ c .version) ⌝ }
+    ensures { λ r. ⌜ Roomy (now (words .exit)) r × (length (now (words .exit)) ≡ length (now (words .entry)))
+        × (bundleIn (now (words .exit)) r ≡ withLinks (bundleIn (now (words .entry)) c) (record { value = value; next = next } ∷ []))
+        × (r .version ≡ c .version) ⌝ }
 {
     let mut after = c;
     let count = c.links;
@@ -64,8 +70,11 @@ pub fn append_context(
     second: usize,
     parent: usize,
 ) -> Bundle
-    requires { ⌜ Roomy (now words) c × (c .contexts < limits .contexts) × (kind ≤ 4294967295) × (first ≤ 4294967295) × (second ≤ 4294967295) × (parent ≤ 4294967295) ⌝ }
-    ensures { λ r. ⌜ Roomy (now (words .exit)) r × (length (now (words .exit)) ≡ length (now (words .entry))) × (bundleIn (now (words .exit)) r ≡ withContexts (bundleIn (now (words .entry)) c) (record { kind = kind; a = first; b = second; parent = parent } ∷ [])) × (r .version ≡ c .version) ⌝ }
+    requires { ⌜ Roomy (now words) c × (c .contexts < limits .contexts) × (kind ≤ 4294967295) × (first ≤ 4294967295) × (second ≤ 4294967295)
+        × (parent ≤ 4294967295) ⌝ }
+    ensures { λ r. ⌜ Roomy (now (words .exit)) r × (length (now (words .exit)) ≡ length (now (words .entry)))
+        × (bundleIn (now (words .exit)) r ≡ withContexts (bundleIn (now (words .entry)) c)
+        (record { kind = kind; a = first; b = second; parent = parent } ∷ [])) × (r .version ≡ c .version) ⌝ }
 {
     let mut after = c;
     let count = c.contexts;
@@ -87,8 +96,11 @@ pub fn append_step(
     right: usize,
     premises: usize,
 ) -> Bundle
-    requires { ⌜ Roomy (now words) c × (c .steps < limits .steps) × (rule ≤ 4294967295) × (context ≤ 4294967295) × (left ≤ 4294967295) × (right ≤ 4294967295) × (premises ≤ 4294967295) ⌝ }
-    ensures { λ r. ⌜ Roomy (now (words .exit)) r × (length (now (words .exit)) ≡ length (now (words .entry))) × (bundleIn (now (words .exit)) r ≡ withSteps (bundleIn (now (words .entry)) c) (record { rule = rule; context = context; left = left; right = right; premises = premises } ∷ [])) × (r .version ≡ c .version) ⌝ }
+    requires { ⌜ Roomy (now words) c × (c .steps < limits .steps) × (rule ≤ 4294967295) × (context ≤ 4294967295) × (left ≤ 4294967295) × (right ≤ 4294967295)
+        × (premises ≤ 4294967295) ⌝ }
+    ensures { λ r. ⌜ Roomy (now (words .exit)) r × (length (now (words .exit)) ≡ length (now (words .entry)))
+        × (bundleIn (now (words .exit)) r ≡ withSteps (bundleIn (now (words .entry)) c)
+        (record { rule = rule; context = context; left = left; right = right; premises = premises } ∷ [])) × (r .version ≡ c .version) ⌝ }
 {
     let mut after = c;
     let count = c.steps;

@@ -94,7 +94,9 @@ pub fn push_halves(
     to: usize,
 ) -> Bundle
     requires { ⌜ Roomy (now words) c × (from ≤ to) × (to ≤ length (now stack)) × (c .links + (to - from) ≤ limits .links) ⌝ }
-    ensures { λ r. ⌜ Roomy (now (words .exit)) r × (length (now (words .exit)) ≡ length (now (words .entry))) × (bundleIn (now (words .exit)) r ≡ addList (bundleIn (now (words .entry)) c) (halves upper (now (stack .entry)) from to)) × (r .version ≡ c .version) ⌝ }
+    ensures { λ r. ⌜ Roomy (now (words .exit)) r × (length (now (words .exit)) ≡ length (now (words .entry)))
+        × (bundleIn (now (words .exit)) r ≡ addList (bundleIn (now (words .entry)) c) (halves upper (now (stack .entry)) from to))
+        × (r .version ≡ c .version) ⌝ }
 {
     let mut after = c;
     let mut at = from;
@@ -112,7 +114,8 @@ pub fn push_halves(
 // Appends a list of one value.
 pub fn push_one(words: &mut [u32], c: Bundle, value: usize) -> Bundle
     requires { ⌜ Roomy (now words) c × (c .links < limits .links) × (value ≤ 4294967295) ⌝ }
-    ensures { λ r. ⌜ Roomy (now (words .exit)) r × (length (now (words .exit)) ≡ length (now (words .entry))) × (bundleIn (now (words .exit)) r ≡ addList (bundleIn (now (words .entry)) c) (value ∷ [])) × (r .version ≡ c .version) ⌝ }
+    ensures { λ r. ⌜ Roomy (now (words .exit)) r × (length (now (words .exit)) ≡ length (now (words .entry)))
+        × (bundleIn (now (words .exit)) r ≡ addList (bundleIn (now (words .entry)) c) (value ∷ [])) × (r .version ≡ c .version) ⌝ }
 {
     append_link(words, c, value, 0)
 }

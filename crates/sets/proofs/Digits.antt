@@ -52,7 +52,8 @@ pub bit-and : (a b k : ℕ) → bitAt (bitAnd a b) k ≡ (bitAt a k && bitAt b k
 bit-and a b k = rw (and-shr a b k) (odd-op bitAnd min _&&_ and-step refl refl (omega arith) refl (omega arith) refl (omega arith) refl (a / 2 ^ k) (b / 2 ^ k))
 
 bit-xor : (a b k : ℕ) → bitAt (bitXor a b) k ≡ unlike (bitAt a k) (bitAt b k)
-bit-xor a b k = rw (xor-shr a b k) (odd-op bitXor differ unlike xor-step refl refl (omega arith) refl (omega arith) refl (omega arith) refl (a / 2 ^ k) (b / 2 ^ k))
+bit-xor a b k =
+    rw (xor-shr a b k) (odd-op bitXor differ unlike xor-step refl refl (omega arith) refl (omega arith) refl (omega arith) refl (a / 2 ^ k) (b / 2 ^ k))
 
 -- 2 ^ j has bit j and no other
 odd-power : (m : ℕ) → odd (2 ^ m) ≡ eqb m 0

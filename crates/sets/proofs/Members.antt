@@ -67,7 +67,8 @@ module _ (g : ℕ → ℕ → ℕ) (h : Bool → Bool → Bool) (bit : (x k j : 
       bits (no ne) d p = ne-eqb ((u - 1) % 64) ((v - 1) % 64) (λ z. ne (omega arith)) ∙ sym (ne-eqb u v ne)
 
       go : Dec ((u - 1) / 64 ≡ (v - 1) / 64) → (0 < v) × ((v - 1) / 64 < n)
-          → bitAt (getD (set w (at + (v - 1) / 64) (g x ((v - 1) % 64))) (at + (u - 1) / 64) 0) ((u - 1) % 64) ≡ h (eqb u v) (bitAt (getD w (at + (u - 1) / 64) 0) ((u - 1) % 64))
+          → bitAt (getD (set w (at + (v - 1) / 64) (g x ((v - 1) % 64))) (at + (u - 1) / 64) 0) ((u - 1) % 64) ≡ h (eqb u v)
+          (bitAt (getD w (at + (u - 1) / 64) 0) ((u - 1) % 64))
       go (yes e) p =
           let same : eqb ((u - 1) % 64) ((v - 1) % 64) ≡ eqb u v = bits (ℕ-discrete u v) e (p .0) in
           rw (e, getD-set-same w (at + (v - 1) / 64) (g x ((v - 1) % 64)) 0 (omega arith), ← same) (bit x ((v - 1) % 64) ((u - 1) % 64))
@@ -81,19 +82,22 @@ module _ (g : ℕ → ℕ → ℕ) (h : Bool → Bool → Bool) (bit : (x k j : 
   member-changed u = go (holds n u) refl
     where
       go : (p : Bool) → holds n u ≡ p
-          → cond p (bitAt (getD (changed g w at n v) (at + (u - 1) / 64) 0) ((u - 1) % 64)) false ≡ h (eqb u v) (cond p (bitAt (getD w (at + (u - 1) / 64) 0) ((u - 1) % 64)) false)
+          → cond p (bitAt (getD (changed g w at n v) (at + (u - 1) / 64) 0) ((u - 1) % 64)) false ≡ h (eqb u v)
+          (cond p (bitAt (getD w (at + (u - 1) / 64) 0) ((u - 1) % 64)) false)
       go true e = word-changed u (held n u e .0) (held n u e .1)
       go false e =
           let other : eqb u v ≡ false = ne-eqb u v (λ q. false≢true (sym e ∙ ap (holds n) q ∙ has)) in
           rw other (sym (keep false))
 
-pub member-inserted : (w : List ℕ) (at n v : ℕ) → at + n ≤ length w → holds n v ≡ true → (u : ℕ) → member (inserted w at n v) at n u ≡ (eqb u v || member w at n u)
+pub member-inserted : (w : List ℕ) (at n v : ℕ) → at + n ≤ length w → holds n v ≡ true → (u : ℕ)
+    → member (inserted w at n v) at n u ≡ (eqb u v || member w at n u)
 member-inserted w at n v fits has u = member-changed withBit _||_ bit-with (λ q. refl) w at n v fits has u
 
 abbrev but : Bool → Bool → Bool
 but p q = not p && q
 
-pub member-removed : (w : List ℕ) (at n v : ℕ) → at + n ≤ length w → holds n v ≡ true → (u : ℕ) → member (removed w at n v) at n u ≡ (not (eqb u v) && member w at n u)
+pub member-removed : (w : List ℕ) (at n v : ℕ) → at + n ≤ length w → holds n v ≡ true → (u : ℕ)
+    → member (removed w at n v) at n u ≡ (not (eqb u v) && member w at n u)
 member-removed w at n v fits has u = member-changed withoutBit but bit-without (λ q. refl) w at n v fits has u
 
 -- ---- words outside, and other sets

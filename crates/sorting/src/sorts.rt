@@ -142,7 +142,10 @@ fn far_sorts(
     terms: usize,
 ) -> bool
     requires { ⌜ Whole (now file) b × Sorted (now file) b (now sorts) × Fitting (now file) b (now fitting) × (list ≤ b .links) × (terms ≤ b .links) ⌝ }
-    ensures { λ r. ⌜ (r ≡ sameList (items (bundleAt (now (file .entry)) b) list) (map (sortAt (bundleAt (now (file .entry)) b)) (items (bundleAt (now (file .entry)) b) terms))) × (r ≡ true → Fitting (now (file .entry)) b (now (fitting .exit))) ⌝ }
+    ensures { λ r. ⌜
+        (r ≡ sameList (items (bundleAt (now (file .entry)) b) list)
+        (map (sortAt (bundleAt (now (file .entry)) b)) (items (bundleAt (now (file .entry)) b) terms)))
+        × (r ≡ true → Fitting (now (file .entry)) b (now (fitting .exit))) ⌝ }
 {
     let mut i = list;
     let mut j = terms;
@@ -176,7 +179,10 @@ fn same_sorts(
     terms: usize,
 ) -> bool
     requires { ⌜ Whole (now file) b × Sorted (now file) b (now sorts) × Fitting (now file) b (now fitting) ⌝ }
-    ensures { λ r. ⌜ (r ≡ sameList (items (bundleAt (now (file .entry)) b) list) (map (sortAt (bundleAt (now (file .entry)) b)) (items (bundleAt (now (file .entry)) b) terms))) × (r ≡ true → Fitting (now (file .entry)) b (now (fitting .exit))) ⌝ }
+    ensures { λ r. ⌜
+        (r ≡ sameList (items (bundleAt (now (file .entry)) b) list)
+        (map (sortAt (bundleAt (now (file .entry)) b)) (items (bundleAt (now (file .entry)) b) terms)))
+        × (r ≡ true → Fitting (now (file .entry)) b (now (fitting .exit))) ⌝ }
 {
     let mut i = first_link(b, list);
     let mut j = first_link(b, terms);
@@ -211,7 +217,10 @@ pub fn arguments_fit(
     terms: usize,
 ) -> bool
     requires { ⌜ Whole (now file) b × Sorted (now file) b (now sorts) × Fitting (now file) b (now fitting) ⌝ }
-    ensures { λ r. ⌜ (r ≡ sameList (argumentSorts (bundleAt (now (file .entry)) b) s) (map (sortAt (bundleAt (now (file .entry)) b)) (items (bundleAt (now (file .entry)) b) terms))) × (r ≡ true → Fitting (now (file .entry)) b (now (fitting .exit))) ⌝ }
+    ensures { λ r. ⌜
+        (r ≡ sameList (argumentSorts (bundleAt (now (file .entry)) b) s)
+        (map (sortAt (bundleAt (now (file .entry)) b)) (items (bundleAt (now (file .entry)) b) terms)))
+        × (r ≡ true → Fitting (now (file .entry)) b (now (fitting .exit))) ⌝ }
 {
     match s {
         Signature::BuiltIn {
@@ -230,7 +239,8 @@ pub fn arguments_fit(
 // Whether the terms of a list have the sorts of the variables of another, one each.
 fn variables_fit(file: &[u8], b: Bundle, sorts: &[usize], variables: usize, terms: usize) -> bool
     requires { ⌜ Whole (now file) b × Sorted (now file) b (now sorts) ⌝ }
-    ensures { λ r. ⌜ r ≡ sameList (map (sortOfVariable (bundleAt (now (file .entry)) b)) (items (bundleAt (now (file .entry)) b) variables)) (map (sortAt (bundleAt (now (file .entry)) b)) (items (bundleAt (now (file .entry)) b) terms)) ⌝ }
+    ensures { λ r. ⌜ r ≡ sameList (map (sortOfVariable (bundleAt (now (file .entry)) b)) (items (bundleAt (now (file .entry)) b) variables))
+        (map (sortAt (bundleAt (now (file .entry)) b)) (items (bundleAt (now (file .entry)) b) terms)) ⌝ }
 {
     let mut i = first_link(b, variables);
     let mut j = first_link(b, terms);
@@ -254,7 +264,8 @@ fn variables_fit(file: &[u8], b: Bundle, sorts: &[usize], variables: usize, term
 // Whether the lists of a let or of a replacing context agree: at least one variable, all different, as many terms, of the same sorts.
 pub fn lists_agree(file: &[u8], b: Bundle, sorts: &[usize], variables: usize, terms: usize) -> bool
     requires { ⌜ Whole (now file) b × Sorted (now file) b (now sorts) ⌝ }
-    ensures { λ r. ⌜ r ≡ listsAgree (bundleAt (now (file .entry)) b) (items (bundleAt (now (file .entry)) b) variables) (items (bundleAt (now (file .entry)) b) terms) ⌝ }
+    ensures { λ r. ⌜ r ≡ listsAgree (bundleAt (now (file .entry)) b) (items (bundleAt (now (file .entry)) b) variables)
+        (items (bundleAt (now (file .entry)) b) terms) ⌝ }
 {
     let some = first_link(b, variables) != 0;
     let different = all_different(file, b, variables);

@@ -55,7 +55,13 @@ same-digest b r s e =
     ) e in
     let k : r .kind ≡ s .kind = eqb-true _ _ (p .0) in
     let c : r .c ≡ s .c = eqb-true _ _ (p .1 .1 .1 .0) in
-    rw (← k, field-digest b (firstIsList (r .kind)) (mix 0 (r .kind)) (r .a) (s .a) (p .1 .0), field-digest b (secondIsList (r .kind)) _ (r .b) (s .b) (p .1 .1 .0), c)
+    rw (
+      ← k,
+      field-digest b (firstIsList (r .kind)) (mix 0 (r .kind)) (r .a) (s .a) (p .1 .0),
+      field-digest b (secondIsList (r .kind)) _ (r .b) (s .b)
+          (p .1 .1 .0),
+      c,
+    )
 
 -- ---- filing
 

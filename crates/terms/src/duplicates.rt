@@ -115,7 +115,8 @@ pub fn is_new(
     i: usize,
     d: usize,
 ) -> bool
-    requires { ⌜ Whole (now file) b × FiledBelow (bundleAt (now file) b) (now heads) (now next) i × (i < length (now next)) × (d < digests) × (d ≡ termDigest (bundleAt (now file) b) (termOf (bundleAt (now file) b) i)) ⌝ }
+    requires { ⌜ Whole (now file) b × FiledBelow (bundleAt (now file) b) (now heads) (now next) i × (i < length (now next)) × (d < digests)
+        × (d ≡ termDigest (bundleAt (now file) b) (termOf (bundleAt (now file) b) i)) ⌝ }
     ensures { λ r. ⌜ r ≡ isNew (bundleAt (now (file .entry)) b) i ⌝ }
 {
     let mut j = wide(heads[d]);

@@ -100,8 +100,10 @@ fn term_fault(
     d: usize,
 ) -> usize
     requires { ⌜ Whole (now file) b × Sorted (now file) b (now sorts) × LowerNoted (now file) b (i - 1) (now lower) × Fitting (now file) b (now fitting) ⌝ }
-    requires { ⌜ FiledBelow (bundleAt (now file) b) (now heads) (now next) i × (1 ≤ i) × (i < length (now next)) × (d < digests) × (d ≡ termDigest (bundleAt (now file) b) (termOf (bundleAt (now file) b) i)) ⌝ }
-    ensures { λ r. ⌜ (r ≡ termFault (bundleAt (now (file .entry)) b) i) × (r ≡ 0 → LowerNoted (now (file .entry)) b (i - 1) (now (lower .exit)) × Fitting (now (file .entry)) b (now (fitting .exit))) ⌝ }
+    requires { ⌜ FiledBelow (bundleAt (now file) b) (now heads) (now next) i × (1 ≤ i) × (i < length (now next)) × (d < digests)
+        × (d ≡ termDigest (bundleAt (now file) b) (termOf (bundleAt (now file) b) i)) ⌝ }
+    ensures { λ r. ⌜ (r ≡ termFault (bundleAt (now (file .entry)) b) i)
+        × (r ≡ 0 → LowerNoted (now (file .entry)) b (i - 1) (now (lower .exit)) × Fitting (now (file .entry)) b (now (fitting .exit))) ⌝ }
 {
     if !term_refers(file, b, lower, i) {
         return 7;
@@ -124,7 +126,8 @@ fn noted_fault(
     fitting: &mut [u16],
     next: &mut [u16],
 ) -> Fault
-    requires { ⌜ Whole (now file) b × Sorted (now file) b (now sorts) × (b .links < length (now lower)) × Zeros (now lower) × (b .links < length (now fitting)) × Zeros (now fitting) × (b .terms < length (now next)) × Zeros (now next) ⌝ }
+    requires { ⌜ Whole (now file) b × Sorted (now file) b (now sorts) × (b .links < length (now lower)) × Zeros (now lower) × (b .links < length (now fitting))
+        × Zeros (now fitting) × (b .terms < length (now next)) × Zeros (now next) ⌝ }
     ensures { λ r. ⌜ r ≡ termsFault (bundleAt (now (file .entry)) b) ⌝ }
 {
     let terms = b.terms;

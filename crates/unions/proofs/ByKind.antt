@@ -189,12 +189,14 @@ free-below : (b : Bundle) (t : ℕ) → freeAt b t ≡ freeBy b (below nothingFr
 unfolding freeAt freeBy
 free-below b t = table-below (freeBy b) nothingFree noTerm (λ f. refl) (b .terms) t
 
-pub so-on : (w v : List ℕ) (n t at : ℕ) (b : Bundle) → SetRoom w n t at → SoFar w n t b → Put w v n at (freeBy b (setBelow w n t) (termOf b t)) → SoFar v n (t + 1) b
+pub so-on : (w v : List ℕ) (n t at : ℕ) (b : Bundle) → SetRoom w n t at → SoFar w n t b → Put w v n at (freeBy b (setBelow w n t) (termOf b t))
+    → SoFar v n (t + 1) b
 so-on w v n t at b room so put i x one low = go (ℕ-discrete i t)
   where
     go : Dec (i ≡ t) → member v (n * (i - 1)) n x ≡ freeAt b i x
     go (yes e) =
-        rw (e, ← room .start) (put .members x ∙ ap (λ (f : ℕ → ℕ → Bool). freeBy b f (termOf b t) x) (so-below w n t b so) ∙ sym (ap (λ (f : ℕ → Bool). f x) (free-below b t)))
+        rw (e, ← room .start) (put .members x ∙ ap (λ (f : ℕ → ℕ → Bool). freeBy b f (termOf b t) x) (so-below w n t b so)
+        ∙ sym (ap (λ (f : ℕ → Bool). f x) (free-below b t)))
     go (no ne) =
         let below-t : i < t = omega arith in
         let fits : n * (i - 1) + n ≤ n * (t - 1) = record-within n (t - 1) i (λ z. omega arith) (omega arith) in

@@ -37,7 +37,8 @@ pub below-kept : (w v : List ℕ) (n t at : ℕ) → SetRoom w n t at → Kept w
 unfolding setBelow
 below-kept w v n t at room kept i x = go (ltb 0 i) refl (ltb i t) refl
   where
-    go : (p : Bool) → ltb 0 i ≡ p → (q : Bool) → ltb i t ≡ q → cond (p && q) (member v (n * (i - 1)) n x) false ≡ cond (p && q) (member w (n * (i - 1)) n x) false
+    go : (p : Bool) → ltb 0 i ≡ p → (q : Bool) → ltb i t ≡ q
+        → cond (p && q) (member v (n * (i - 1)) n x) false ≡ cond (p && q) (member w (n * (i - 1)) n x) false
     go true d true e =
         let pos : 0 < i = ltb-true 0 i d in
         let low : i < t = ltb-true i t e in
@@ -60,7 +61,8 @@ module _ (w : List ℕ) (n t at i : ℕ) where
   pub unite-high : t ≤ i → Put w w n at (λ x. member w at n x || setBelow w n t i x)
   unite-high h = none-below (rw (le-ltb i t h) (and-false (ltb 0 i)))
 
-  pub unite-low : (v : List ℕ) → SetRoom w n t at → (i ≡ 0 → ⊥) → i < t → v ≡ united w at (n * (i - 1)) n → Put w v n at (λ x. member w at n x || setBelow w n t i x)
+  pub unite-low : (v : List ℕ) → SetRoom w n t at → (i ≡ 0 → ⊥) → i < t → v ≡ united w at (n * (i - 1)) n
+      → Put w v n at (λ x. member w at n x || setBelow w n t i x)
   unfolding setBelow
   unite-low v room ne low e = rw e (record {
     kept = record {

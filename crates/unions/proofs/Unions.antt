@@ -162,59 +162,60 @@ known-put w v lists marks n t at k b room so unions e same =
 -- ---- a link made known
 
 module _ (area lists marks : List ℕ) (n t k term next : ℕ) (b : Bundle) (so : SetsBelow area n t b) (unions : Unions b n t lists marks)
-    (some : 1 ≤ k) (link : k ≤ length (b .links)) (here : items b k ≡ term ∷ items b next) (low : numbers (t - 1) term ≡ true) (then : known marks next ≡ true) where
-  written : List ℕ
-  written = joined area (n * (term - 1)) lists (n * next) lists (n * k) n
+    (some : 1 ≤ k) (link : k ≤ length (b .links)) (here : items b k ≡ term ∷ items b next) (low : numbers (t - 1) term ≡ true) (then : known marks next ≡ true)
+  where
+    written : List ℕ
+    written = joined area (n * (term - 1)) lists (n * next) lists (n * k) n
 
-  fits : n * k + n ≤ length lists
-  fits = link-fits n k (length (b .links)) (length lists) link (unions .room)
+    fits : n * k + n ≤ length lists
+    fits = link-fits n k (length (b .links)) (length lists) link (unions .room)
 
-  put : Put lists written n (n * k) (λ x. member area (n * (term - 1)) n x || member lists (n * next) n x)
-  unfolding written
-  put = joined-put area (n * (term - 1)) lists (n * next) lists (n * k) n fits
+    put : Put lists written n (n * k) (λ x. member area (n * (term - 1)) n x || member lists (n * next) n x)
+    unfolding written
+    put = joined-put area (n * (term - 1)) lists (n * next) lists (n * k) n fits
 
-  own-lower : each (numbers (t - 1)) (items b k) ≡ true
-  unfolding each
-  own-lower = rw here (and-both (numbers (t - 1) term) (each (numbers (t - 1)) (items b next)) low (unions .lower next then))
+    own-lower : each (numbers (t - 1)) (items b k) ≡ true
+    unfolding each
+    own-lower = rw here (and-both (numbers (t - 1) term) (each (numbers (t - 1)) (items b next)) low (unions .lower next then))
 
-  own-union : (x : ℕ) → member written (n * k) n x ≡ freesOf (freeAt b) (items b k) x
-  unfolding freesOf
-  own-union x =
-      let p : (1 ≤ term) × (term ≤ t - 1) = numbers-of (t - 1) term low in
-      put .members x
-      ∙ rw (here, so .sets term x (p .0) (omega (arith, so .one)), unions .union next x then)
+    own-union : (x : ℕ) → member written (n * k) n x ≡ freesOf (freeAt b) (items b k) x
+    unfolding freesOf
+    own-union x =
+        let p : (1 ≤ term) × (term ≤ t - 1) = numbers-of (t - 1) term low in
+        put .members x
+        ∙ rw (here, so .sets term x (p .0) (omega (arith, so .one)), unions .union next x then)
 
-  -- the unions of other links stay
-  other-union : (j x : ℕ) → (j < k) ⊎ (k < j) → member written (n * j) n x ≡ member lists (n * j) n x
-  other-union j x d = member-same written lists (n * j) n (λ i h. put .kept .others (n * j + i) (out (apart n j k d) i h)) x
-    where
-      out : (n * j + n ≤ n * k) ⊎ (n * k + n ≤ n * j) → (i : ℕ) → i < n → (n * j + i < n * k) ⊎ (n * k + n ≤ n * j + i)
-      out (inl l) i h = inl (omega arith)
-      out (inr l) i h = inr (omega arith)
+    -- the unions of other links stay
+    other-union : (j x : ℕ) → (j < k) ⊎ (k < j) → member written (n * j) n x ≡ member lists (n * j) n x
+    other-union j x d = member-same written lists (n * j) n (λ i h. put .kept .others (n * j + i) (out (apart n j k d) i h)) x
+      where
+        out : (n * j + n ≤ n * k) ⊎ (n * k + n ≤ n * j) → (i : ℕ) → i < n → (n * j + i < n * k) ⊎ (n * k + n ≤ n * j + i)
+        out (inl l) i h = inl (omega arith)
+        out (inr l) i h = inr (omega arith)
 
-  sides : (j : ℕ) → (j ≡ k → ⊥) → (j < k) ⊎ (k < j)
-  sides j ne = go (ltb j k) refl
-    where
-      go : (p : Bool) → ltb j k ≡ p → (j < k) ⊎ (k < j)
-      go true e = inl (omega (arith, ltb-true j k e))
-      go false e = inr (omega (arith, ltb-false j k e))
+    sides : (j : ℕ) → (j ≡ k → ⊥) → (j < k) ⊎ (k < j)
+    sides j ne = go (ltb j k) refl
+      where
+        go : (p : Bool) → ltb j k ≡ p → (j < k) ⊎ (k < j)
+        go true e = inl (omega (arith, ltb-true j k e))
+        go false e = inr (omega (arith, ltb-false j k e))
 
-  pub unions-learnt : (v m : List ℕ) → v ≡ joined area (n * (term - 1)) lists (n * next) lists (n * k) n → m ≡ set marks k 65535 → Unions b n t v m
-  unfolding written
-  unions-learnt v m ev em = rw (ev, em) (record {
-    marked = omega (arith, length-set marks k 65535, unions .marked);
-    room = omega (arith, put .kept .long, unions .room);
-    lower = λ j e. lower j e (ℕ-discrete j k);
-    union = λ j x e. union j x e (ℕ-discrete j k);
-  })
-    where
-      lower : (j : ℕ) → known (set marks k 65535) j ≡ true → Dec (j ≡ k) → each (numbers (t - 1)) (items b j) ≡ true
-      lower j e (yes q) = rw q own-lower
-      lower j e (no ne) = unions .lower j (sym (known-other marks k 65535 j ne) ∙ e)
+    pub unions-learnt : (v m : List ℕ) → v ≡ joined area (n * (term - 1)) lists (n * next) lists (n * k) n → m ≡ set marks k 65535 → Unions b n t v m
+    unfolding written
+    unions-learnt v m ev em = rw (ev, em) (record {
+      marked = omega (arith, length-set marks k 65535, unions .marked);
+      room = omega (arith, put .kept .long, unions .room);
+      lower = λ j e. lower j e (ℕ-discrete j k);
+      union = λ j x e. union j x e (ℕ-discrete j k);
+    })
+      where
+        lower : (j : ℕ) → known (set marks k 65535) j ≡ true → Dec (j ≡ k) → each (numbers (t - 1)) (items b j) ≡ true
+        lower j e (yes q) = rw q own-lower
+        lower j e (no ne) = unions .lower j (sym (known-other marks k 65535 j ne) ∙ e)
 
-      union : (j x : ℕ) → known (set marks k 65535) j ≡ true → Dec (j ≡ k) → member written (n * j) n x ≡ freesOf (freeAt b) (items b j) x
-      union j x e (yes q) = rw q (own-union x)
-      union j x e (no ne) = other-union j x (sides j ne) ∙ unions .union j x (sym (known-other marks k 65535 j ne) ∙ e)
+        union : (j x : ℕ) → known (set marks k 65535) j ≡ true → Dec (j ≡ k) → member written (n * j) n x ≡ freesOf (freeAt b) (items b j) x
+        union j x e (yes q) = rw q (own-union x)
+        union j x e (no ne) = other-union j x (sides j ne) ∙ unions .union j x (sym (known-other marks k 65535 j ne) ∙ e)
 
 -- ---- from the start, and from term to term
 
@@ -234,7 +235,8 @@ none-member p at n x = go (holds n x)
     go true = rw (zeros p .zero (at + (x - 1) / 64)) (bit-none ((x - 1) % 64))
     go false = refl
 
-pub unions-none : (b : Bundle) (n p q : ℕ) → items b 0 ≡ [] → length (b .links) < q → n * length (b .links) + n ≤ p → Unions b n 1 (replicate p 0) (replicate q 0)
+pub unions-none : (b : Bundle) (n p q : ℕ) → items b 0 ≡ [] → length (b .links) < q → n * length (b .links) + n ≤ p
+    → Unions b n 1 (replicate p 0) (replicate q 0)
 unfolding freesOf each
 unions-none b n p q nil links room = record {
   marked = omega (arith, length-replicate {A = ℕ} q 0);
@@ -272,7 +274,8 @@ below-same w v n t at b room kept so = record {
       );
 }
 
-pub below-on : (w v : List ℕ) (n t at : ℕ) (b : Bundle) → SetRoom w n t at → SetsBelow w n t b → Put w v n at (freeBy b (setBelow w n t) (termOf b t)) → SetsBelow v n (t + 1) b
+pub below-on : (w v : List ℕ) (n t at : ℕ) (b : Bundle) → SetRoom w n t at → SetsBelow w n t b → Put w v n at (freeBy b (setBelow w n t) (termOf b t))
+    → SetsBelow v n (t + 1) b
 below-on w v n t at b room so put =
     let start : at ≡ n * (t - 1) = room .start in
     let e : n * (t - 1 + 1) ≡ n * (t - 1) + n = rw (mul-add, mul-one) in

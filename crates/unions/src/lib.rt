@@ -44,7 +44,8 @@ pub fn unite_term(area: &mut [u64], n: usize, t: usize, at: usize, i: usize)
 // Adds the sets of the terms of a list, one by one.
 fn unite_each(file: &[u8], b: Bundle, area: &mut [u64], n: usize, t: usize, at: usize, list: usize)
     requires { ⌜ Whole (now file) b × SetRoom (now area) n t at ⌝ }
-    ensures { λ _. ⌜ Put (now (area .entry)) (now (area .exit)) n at (λ x. member (now (area .entry)) at n x || freesOf (setBelow (now (area .entry)) n t) (items (bundleAt (now (file .entry)) b) list) x) ⌝ }
+    ensures { λ _. ⌜ Put (now (area .entry)) (now (area .exit)) n at
+        (λ x. member (now (area .entry)) at n x || freesOf (setBelow (now (area .entry)) n t) (items (bundleAt (now (file .entry)) b) list) x) ⌝ }
 {
     let mut i = first_link(b, list);
     while i != 0 {
@@ -65,7 +66,8 @@ fn unite_first(
     list: usize,
 ) -> usize
     requires { ⌜ Whole (now file) b × SetRoom (now area) n t at ⌝ }
-    ensures { λ r. ⌜ (r ≤ b .links) × Partly (now (area .entry)) (now (area .exit)) n t at (items (bundleAt (now (file .entry)) b) list) (items (bundleAt (now (file .entry)) b) r) ⌝ }
+    ensures { λ r. ⌜ (r ≤ b .links) × Partly (now (area .entry)) (now (area .exit)) n t at (items (bundleAt (now (file .entry)) b) list)
+        (items (bundleAt (now (file .entry)) b) r) ⌝ }
 {
     let mut left = SHORT;
     let mut i = first_link(b, list);
@@ -100,7 +102,8 @@ fn is_lower(t: usize, x: usize) -> bool
 
 // Writes the union of the set at `first` of the area and the set at `second` of the lists to `to` in the lists.
 fn join(lists: &mut [u64], to: usize, area: &[u64], first: usize, second: usize, n: usize)
-    requires { ⌜ ((second + n ≤ to) ⊎ (to + n ≤ second)) × (first + n ≤ length (now area)) × (second + n ≤ length (now lists)) × (to + n ≤ length (now lists)) ⌝ }
+    requires { ⌜ ((second + n ≤ to) ⊎ (to + n ≤ second)) × (first + n ≤ length (now area)) × (second + n ≤ length (now lists))
+        × (to + n ≤ length (now lists)) ⌝ }
     ensures { λ _. ⌜ now (lists .exit) ≡ joined (now (area .entry)) first (now (lists .entry)) second (now (lists .entry)) to n ⌝ }
 {
     let mut k = 0;
@@ -152,7 +155,8 @@ fn learn_link(
     marks: &mut [u16],
     k: usize,
 ) -> usize
-    requires { ⌜ Whole (now file) b × SetsBelow (now area) n t (bundleAt (now file) b) × Unions (bundleAt (now file) b) n t (now lists) (now marks) × (1 ≤ k) × (k ≤ b .links) ⌝ }
+    requires { ⌜ Whole (now file) b × SetsBelow (now area) n t (bundleAt (now file) b) × Unions (bundleAt (now file) b) n t (now lists) (now marks) × (1 ≤ k)
+        × (k ≤ b .links) ⌝ }
     ensures { λ r. ⌜ (r < k) × Unions (bundleAt (now (file .entry)) b) n t (now (lists .exit)) (now (marks .exit)) ⌝ }
 {
     let term = link_field(file, b, k, 0);
@@ -183,7 +187,8 @@ fn walk_back(
     marks: &mut [u16],
     last: usize,
 )
-    requires { ⌜ Whole (now file) b × SetsBelow (now area) n t (bundleAt (now file) b) × Unions (bundleAt (now file) b) n t (now lists) (now marks) × (last ≤ b .links) ⌝ }
+    requires { ⌜ Whole (now file) b × SetsBelow (now area) n t (bundleAt (now file) b) × Unions (bundleAt (now file) b) n t (now lists) (now marks)
+        × (last ≤ b .links) ⌝ }
     ensures { λ _. ⌜ Unions (bundleAt (now (file .entry)) b) n t (now (lists .exit)) (now (marks .exit)) ⌝ }
 {
     let mut k = last;
@@ -205,8 +210,10 @@ fn unite_met(
     lists: &mut [u64],
     marks: &mut [u16],
 )
-    requires { ⌜ Whole (now file) b × SetRoom (now area) n t at × SetsBelow (now area) n t (bundleAt (now file) b) × Unions (bundleAt (now file) b) n t (now lists) (now marks) × (i ≤ b .links) ⌝ }
-    ensures { λ _. ⌜ Put (now (area .entry)) (now (area .exit)) n at (λ x. member (now (area .entry)) at n x || freesOf (setBelow (now (area .entry)) n t) (items (bundleAt (now (file .entry)) b) i) x) ⌝ }
+    requires { ⌜ Whole (now file) b × SetRoom (now area) n t at × SetsBelow (now area) n t (bundleAt (now file) b)
+        × Unions (bundleAt (now file) b) n t (now lists) (now marks) × (i ≤ b .links) ⌝ }
+    ensures { λ _. ⌜ Put (now (area .entry)) (now (area .exit)) n at
+        (λ x. member (now (area .entry)) at n x || freesOf (setBelow (now (area .entry)) n t) (items (bundleAt (now (file .entry)) b) i) x) ⌝ }
     ensures { λ _. ⌜ Unions (bundleAt (now (file .entry)) b) n t (now (lists .exit)) (now (marks .exit)) ⌝ }
 {
     let last = walk_out(file, b, marks, i);
@@ -240,7 +247,8 @@ fn unite_new(
     marks: &mut [u16],
 ) -> usize
     requires { ⌜ Whole (now file) b × SetRoom (now area) n t at × (b .links < length (now marks)) × (start ≤ b .links) ⌝ }
-    ensures { λ r. ⌜ (r ≤ b .links) × Partly (now (area .entry)) (now (area .exit)) n t at (items (bundleAt (now (file .entry)) b) start) (items (bundleAt (now (file .entry)) b) r) ⌝ }
+    ensures { λ r. ⌜ (r ≤ b .links) × Partly (now (area .entry)) (now (area .exit)) n t at (items (bundleAt (now (file .entry)) b) start)
+        (items (bundleAt (now (file .entry)) b) r) ⌝ }
     ensures { λ _. ⌜ Fewer (now (marks .entry)) (now (marks .exit)) ⌝ }
 {
     let mut i = start;
@@ -265,8 +273,10 @@ fn unite_rest(
     lists: &mut [u64],
     marks: &mut [u16],
 )
-    requires { ⌜ Whole (now file) b × SetRoom (now area) n t at × SetsBelow (now area) n t (bundleAt (now file) b) × Unions (bundleAt (now file) b) n t (now lists) (now marks) × (i ≤ b .links) ⌝ }
-    ensures { λ _. ⌜ Put (now (area .entry)) (now (area .exit)) n at (λ x. member (now (area .entry)) at n x || freesOf (setBelow (now (area .entry)) n t) (items (bundleAt (now (file .entry)) b) i) x) ⌝ }
+    requires { ⌜ Whole (now file) b × SetRoom (now area) n t at × SetsBelow (now area) n t (bundleAt (now file) b)
+        × Unions (bundleAt (now file) b) n t (now lists) (now marks) × (i ≤ b .links) ⌝ }
+    ensures { λ _. ⌜ Put (now (area .entry)) (now (area .exit)) n at
+        (λ x. member (now (area .entry)) at n x || freesOf (setBelow (now (area .entry)) n t) (items (bundleAt (now (file .entry)) b) i) x) ⌝ }
     ensures { λ _. ⌜ Unions (bundleAt (now (file .entry)) b) n t (now (lists .exit)) (now (marks .exit)) ⌝ }
 {
     let met = unite_new(file, b, area, n, t, at, i, marks);
@@ -287,8 +297,10 @@ pub fn unite_list(
     lists: &mut [u64],
     marks: &mut [u16],
 )
-    requires { ⌜ Whole (now file) b × SetRoom (now area) n t at × SetsBelow (now area) n t (bundleAt (now file) b) × Unions (bundleAt (now file) b) n t (now lists) (now marks) ⌝ }
-    ensures { λ _. ⌜ Put (now (area .entry)) (now (area .exit)) n at (λ x. member (now (area .entry)) at n x || freesOf (setBelow (now (area .entry)) n t) (items (bundleAt (now (file .entry)) b) list) x) ⌝ }
+    requires { ⌜ Whole (now file) b × SetRoom (now area) n t at × SetsBelow (now area) n t (bundleAt (now file) b)
+        × Unions (bundleAt (now file) b) n t (now lists) (now marks) ⌝ }
+    ensures { λ _. ⌜ Put (now (area .entry)) (now (area .exit)) n at
+        (λ x. member (now (area .entry)) at n x || freesOf (setBelow (now (area .entry)) n t) (items (bundleAt (now (file .entry)) b) list) x) ⌝ }
     ensures { λ _. ⌜ Unions (bundleAt (now (file .entry)) b) n t (now (lists .exit)) (now (marks .exit)) ⌝ }
 {
     let rest = unite_first(file, b, area, n, t, at, list);

@@ -150,7 +150,8 @@ module _ (f : List ℕ) (out words sets : ℕ) where
 
     pub refused-late : (m : ℕ) → m ≡ firstFailing (earlyTests (bundleOf f)) → (m ≡ 0 → ⊥) → Refused m 0 ≡ expansion f out words sets .answer
     refused-late m e ne =
-        refused-number m ne (failing-early (test 16 (withinOf (countsIn (visited (bundleOf f) .bundle))) ∷ []) (earlyTests (bundleOf f)) (λ z. ne (e ∙ z)) ∙ sym e)
+        refused-number m ne (failing-early (test 16 (withinOf (countsIn (visited (bundleOf f) .bundle))) ∷ []) (earlyTests (bundleOf f)) (λ z. ne (e ∙ z))
+        ∙ sym e)
 
 module _ {f : List ℕ} {out words sets : ℕ} {w : List ℕ} {c : Counts} {left : ℕ} (b : Begun f out words sets w c left) where
   last-is : firstFailing (jobTests (bundleOf f)) ≡ cond (withinOf (countsIn (visited (bundleOf f) .bundle))) 0 16
@@ -267,39 +268,53 @@ module _ (b : Bundle) (r : Fault) (out words sets : ℕ) where
   outcome-refused zero m i e = let z : _≡_ {A = ℕ} 0 1 = cc in absurd (omega arith)
   outcome-refused (suc k) m i e = refl
 
-  outcome-written : (k n : ℕ) → Written n ≡ outcomeOf b r k out words sets .answer → outcomeOf b r k out words sets .out ≡ fileOf (expanded b) ++ replicate (out - n) 0
+  outcome-written : (k n : ℕ) → Written n ≡ outcomeOf b r k out words sets .answer → outcomeOf b r k out words sets .out ≡ fileOf (expanded b)
+      ++ replicate (out - n) 0
   unfolding outcomeOf
   outcome-written zero n e = let l : n ≡ length (fileOf (expanded b)) = cc in rw l
   outcome-written (suc k) n e = let z : _≡_ {A = ℕ} 0 1 = cc in absurd (omega arith)
 
-module _ (f out words sets out′ words′ sets′ words″ sets″ : List ℕ) (w : words″ ≡ replicate (length words′) 0) (s : sets″ ≡ cleared sets′ 0 (length sets′)) where
-  module _ (r : Answer) (stored : Stored f out words sets out′ words′ sets′ r) where
-    scratch-zero : words″ ≡ expansion f (length out) (length words) (length sets) .words
+module _ (f out words sets out′ words′ sets′ words″ sets″ : List ℕ) (w : words″ ≡ replicate (length words′) 0) (s : sets″ ≡ cleared sets′ 0 (length sets′))
+  where
+    module _ (r : Answer) (stored : Stored f out words sets out′ words′ sets′ r) where
+      scratch-zero : words″ ≡ expansion f (length out) (length words) (length sets) .words
+      unfolding expansion
+      scratch-zero =
+          w ∙ rw (stored .scratch)
+          (sym (outcome-words (bundleOf f) (jobFault f (length out) (length words) (length sets)) (length out) (length words) (length sets)
+          (jobFault f (length out) (length words) (length sets) .number)))
+
+      stack-zero : sets″ ≡ expansion f (length out) (length words) (length sets) .sets
+      unfolding expansion
+      stack-zero =
+          s ∙ all-cleared sets′
+          ∙ rw (stored .stack)
+          (sym (outcome-sets (bundleOf f) (jobFault f (length out) (length words) (length sets)) (length out) (length words) (length sets)
+          (jobFault f (length out) (length words) (length sets) .number)))
+
+    pub left-refused : (m i : ℕ) (out″ : List ℕ) → Stored f out words sets out′ words′ sets′ (Refused m i) → out″ ≡ take 0 out′ ++ replicate (length out′ - 0) 0
+        → Left (expansion f (length out) (length words) (length sets)) (Refused m i) out″ words″ sets″
     unfolding expansion
-    scratch-zero = w ∙ rw (stored .scratch) (sym (outcome-words (bundleOf f) (jobFault f (length out) (length words) (length sets)) (length out) (length words) (length sets) (jobFault f (length out) (length words) (length sets) .number)))
+    left-refused m i out″ stored e =
+        let l : length out′ - 0 ≡ length out = omega (arith, stored .output) in
+        record {
+          answer = stored .answer;
+          output =
+              e ∙ rw l
+              (sym (outcome-refused (bundleOf f) (jobFault f (length out) (length words) (length sets)) (length out) (length words) (length sets)
+              (jobFault f (length out) (length words) (length sets) .number) m i (stored .answer)));
+          scratch = scratch-zero (Refused m i) stored;
+          stack = stack-zero (Refused m i) stored;
+        }
 
-    stack-zero : sets″ ≡ expansion f (length out) (length words) (length sets) .sets
+    pub left-written : (n : ℕ) (out″ : List ℕ) → Stored f out words sets out′ words′ sets′ (Written n) → out″ ≡ take n out′ ++ replicate (length out′ - n) 0
+        → Left (expansion f (length out) (length words) (length sets)) (Written n) out″ words″ sets″
     unfolding expansion
-    stack-zero = s ∙ all-cleared sets′ ∙ rw (stored .stack) (sym (outcome-sets (bundleOf f) (jobFault f (length out) (length words) (length sets)) (length out) (length words) (length sets) (jobFault f (length out) (length words) (length sets) .number)))
-
-  pub left-refused : (m i : ℕ) (out″ : List ℕ) → Stored f out words sets out′ words′ sets′ (Refused m i) → out″ ≡ take 0 out′ ++ replicate (length out′ - 0) 0
-      → Left (expansion f (length out) (length words) (length sets)) (Refused m i) out″ words″ sets″
-  unfolding expansion
-  left-refused m i out″ stored e =
-      let l : length out′ - 0 ≡ length out = omega (arith, stored .output) in
-      record {
-        answer = stored .answer;
-        output = e ∙ rw l (sym (outcome-refused (bundleOf f) (jobFault f (length out) (length words) (length sets)) (length out) (length words) (length sets) (jobFault f (length out) (length words) (length sets) .number) m i (stored .answer)));
-        scratch = scratch-zero (Refused m i) stored;
-        stack = stack-zero (Refused m i) stored;
-      }
-
-  pub left-written : (n : ℕ) (out″ : List ℕ) → Stored f out words sets out′ words′ sets′ (Written n) → out″ ≡ take n out′ ++ replicate (length out′ - n) 0
-      → Left (expansion f (length out) (length words) (length sets)) (Written n) out″ words″ sets″
-  unfolding expansion
-  left-written n out″ stored e = record {
-    answer = stored .answer;
-    output = e ∙ rw (stored .file n refl .1, stored .output) (sym (outcome-written (bundleOf f) (jobFault f (length out) (length words) (length sets)) (length out) (length words) (length sets) (jobFault f (length out) (length words) (length sets) .number) n (stored .answer)));
-    scratch = scratch-zero (Written n) stored;
-    stack = stack-zero (Written n) stored;
-  }
+    left-written n out″ stored e = record {
+      answer = stored .answer;
+      output = e ∙ rw (stored .file n refl .1, stored .output)
+          (sym (outcome-written (bundleOf f) (jobFault f (length out) (length words) (length sets)) (length out) (length words) (length sets)
+          (jobFault f (length out) (length words) (length sets) .number) n (stored .answer)));
+      scratch = scratch-zero (Written n) stored;
+      stack = stack-zero (Written n) stored;
+    }

@@ -30,8 +30,14 @@ loop-less c = simp length-set (omega arith)
 loop-again : tie.Need-loop-again Inv-loop μ-loop
 loop-again c =
     let l = c .before .loop in
-    let n : l .i + 1 - c .before .before .args .from ≡ l .i - c .before .before .args .from + 1 = omega arith in
-    (omega arith, simp length-set (omega arith), simp length-set (l .inv .2), rw n (zero-more (take (c .before .before .args .from) (c .before .before .args .out .now)) (l .out) (l .i) (l .i - c .before .before .args .from) (omega arith) (l .inv .3)))
+    let n : l .i + 1 - c .before .before .args .from ≡ l .i - c .before .before .args .from + 1 = omega arith in (
+      omega arith,
+      simp length-set (omega arith),
+      simp length-set (l .inv .2),
+      rw n
+          (zero-more (take (c .before .before .args .from) (c .before .before .args .out .now)) (l .out) (l .i) (l .i - c .before .before .args .from)
+          (omega arith) (l .inv .3)),
+    )
 
 same-length : tie.Need-same-length Inv-loop μ-loop
 same-length c = c .before .loop .inv .2
@@ -40,7 +46,8 @@ returns : tie.Need-returns Inv-loop μ-loop
 returns c =
     let l = c .before .loop in
     let all : l .i - c .before .before .args .from ≡ length (c .before .before .args .out .now) - c .before .before .args .from = omega arith in
-    zero-end (take (c .before .before .args .from) (c .before .before .args .out .now)) (l .out) (l .i) (length (c .before .before .args .out .now) - c .before .before .args .from) (omega arith) (rw all at (l .inv .3))
+    zero-end (take (c .before .before .args .from) (c .before .before .args .out .now)) (l .out) (l .i)
+    (length (c .before .before .args .out .now) - c .before .before .args .from) (omega arith) (rw all at (l .inv .3))
 
 pub zero-bytes-spec : {M : Type 1} → statement M
 zero-bytes-spec =

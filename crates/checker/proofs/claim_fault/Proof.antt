@@ -27,14 +27,34 @@ unfolding firstFailing passed
 returns c =
     let w = c .before in
     let s = w .before .before in
-    rw (steps-length, left-is, right-is, ← s .before .before .step-field .ensures, ← s .before .step-field2 .ensures, ← s .step-field3 .ensures, ← w .before .claim-left .ensures .0, ← w .claim-right .ensures .0, c .if1 .taken)
+    rw (
+      steps-length,
+      left-is,
+      right-is,
+      ← s .before .before .step-field .ensures,
+      ← s .before .step-field2 .ensures,
+      ← s .step-field3 .ensures,
+      ← w .before .claim-left .ensures .0,
+      ← w .claim-right .ensures .0,
+      c .if1 .taken,
+    )
 
 returns-2 : tie.Need-returns-2
 unfolding firstFailing passed
 returns-2 c =
     let w = c .before in
     let s = w .before .before in
-    rw (steps-length, left-is, right-is, ← s .before .before .step-field .ensures, ← s .before .step-field2 .ensures, ← s .step-field3 .ensures, ← w .before .claim-left .ensures .0, ← w .claim-right .ensures .0, c .if1 .left)
+    rw (
+      steps-length,
+      left-is,
+      right-is,
+      ← s .before .before .step-field .ensures,
+      ← s .before .step-field2 .ensures,
+      ← s .step-field3 .ensures,
+      ← w .before .claim-left .ensures .0,
+      ← w .claim-right .ensures .0,
+      c .if1 .left,
+    )
 
 pub claim-fault-spec : {M : Type 1} → statement M
 claim-fault-spec =

@@ -44,7 +44,14 @@ same-length-4 c = search needs
 
 returns-2 : tie.Need-returns-2
 unfolding lateFault
-returns-2 c = rw (← c .before .before .before .before .before .before .before .before .before .before .before .contexts-fault .ensures .0, orElse-on _ _ _ (c .before .before .before .before .before .if1 .left), ← c .before .before .steps-fault .ensures, orElse-here _ _ _ (c .if2 .taken))
+returns-2 c =
+    rw (
+      ← c .before .before .before .before .before .before .before .before .before .before .before .contexts-fault .ensures .0,
+      orElse-on _ _ _
+          (c .before .before .before .before .before .if1 .left),
+      ← c .before .before .steps-fault .ensures,
+      orElse-here _ _ _ (c .if2 .taken),
+    )
 
 claim-fault-requires : tie.Need-claim-fault-requires
 claim-fault-requires c κs = search needs
@@ -57,7 +64,15 @@ same-length-6 c = search needs
 
 returns-3 : tie.Need-returns-3
 unfolding lateFault
-returns-3 c = rw (← c .before .before .before .before .before .before .before .before .before .before .before .before .contexts-fault .ensures .0, orElse-on _ _ _ (c .before .before .before .before .before .before .if1 .left), ← c .before .before .before .steps-fault .ensures, orElse-on _ _ _ (c .before .if2 .left), ← c .claim-fault .ensures) (sym (orElse-last _))
+returns-3 c =
+    rw (
+      ← c .before .before .before .before .before .before .before .before .before .before .before .before .contexts-fault .ensures .0,
+      orElse-on _ _ _
+          (c .before .before .before .before .before .before .if1 .left),
+      ← c .before .before .before .steps-fault .ensures,
+      orElse-on _ _ _ (c .before .if2 .left),
+      ← c .claim-fault .ensures,
+    ) (sym (orElse-last _))
 
 pub late-fault-in-spec : {M : Type 1} → statement M
 late-fault-in-spec =

@@ -48,8 +48,10 @@ returns-2 c =
     let p = c .before .before .before .before .before .before .before .before .before .place-application in
     let t = c .before .before .conclude in (
       t .ensures .0 ∙ p .ensures .0,
-      concluded-on (p .ensures .1) (c .before .before .before .before .before .placed .given .1) 2 (a .context) (a .term) (halves false (a .stack .now) (a .from) (a .to)) (t .ensures .1),
-      step-indexed (p .ensures .2 .held _ _ (c .before .before .before .before .before .placed .given .1)) 2 (a .context) (a .term) _ (halves false (a .stack .now) (a .from) (a .to)) (t .ensures .1),
+      concluded-on (p .ensures .1) (c .before .before .before .before .before .placed .given .1) 2 (a .context) (a .term)
+          (halves false (a .stack .now) (a .from) (a .to)) (t .ensures .1),
+      step-indexed (p .ensures .2 .held _ _ (c .before .before .before .before .before .placed .given .1)) 2 (a .context) (a .term) _
+          (halves false (a .stack .now) (a .from) (a .to)) (t .ensures .1),
     )
 
 pub close-application-spec : {M : Type 1} → statement M

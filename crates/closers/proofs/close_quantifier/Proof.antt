@@ -23,7 +23,8 @@ conclude-one-requires c κs =
     let s = c .before .before .before .before .before .before .before .before .before .before in
     let a = s .args in
     let q = binder-of (a .kind) (s .pre .3) (s .pre .4) in
-    let k = binder-asks (bundleIn (a .words .now) (a .c)) (q .0) (a .y) (a .result) (c .before .before .before .before .before .before .place-binder .ensures .1 (q .0) (q .1))
+    let k = binder-asks (bundleIn (a .words .now) (a .c)) (q .0) (a .y) (a .result)
+    (c .before .before .before .before .before .before .place-binder .ensures .1 (q .0) (q .1))
     (c .before .before .placed .given .1) in
     (k .0, omega arith, s .pre .1, s .pre .2, k .1, s .pre .7)
 
@@ -48,8 +49,10 @@ returns-2 c =
     let p = c .before .before .before .before .before .before .before .before .before .place-binder in
     let t = c .before .before .conclude-one in (
       t .ensures .0 ∙ p .ensures .0,
-      λ q e. concluded-on (p .ensures .1 q e) (c .before .before .before .before .before .placed .given .1) 4 (a .context) (a .term) (a .step ∷ []) (t .ensures .1),
-      step-indexed (p .ensures .2 .held _ _ (c .before .before .before .before .before .placed .given .1)) 4 (a .context) (a .term) _ (a .step ∷ []) (t .ensures .1),
+      λ q e. concluded-on (p .ensures .1 q e) (c .before .before .before .before .before .placed .given .1) 4 (a .context) (a .term) (a .step ∷ [])
+          (t .ensures .1),
+      step-indexed (p .ensures .2 .held _ _ (c .before .before .before .before .before .placed .given .1)) 4 (a .context) (a .term) _ (a .step ∷ [])
+          (t .ensures .1),
     )
 
 pub close-quantifier-spec : {M : Type 1} → statement M

@@ -30,7 +30,8 @@ conclude-alone-requires-2 c κs =
       omega arith,
       s .pre .1,
       s .pre .2,
-      given-word (a .words .now) (a .c) (s .pre .0 .version) (λ j. omega (arith, c .before .before .before .before .before .before .slice-known .given j)) (a .context) (a .x) _ (sym (i .ensures) ∙ g .1),
+      given-word (a .words .now) (a .c) (s .pre .0 .version) (λ j. omega (arith, c .before .before .before .before .before .before .slice-known .given j))
+          (a .context) (a .x) _ (sym (i .ensures) ∙ g .1),
     )
 
 same-length : tie.Need-same-length
@@ -41,7 +42,8 @@ returns c =
     let a = c .before .before .before .before .before .before .before .before .before .args in
     let t = c .before .before .conclude-alone in (
       t .ensures .0,
-      leaf-own (bundleIn (a .words .now) (a .c)) (a .context) (a .term) (a .x) (sym (c .before .before .before .before .before .before .image-in .ensures) ∙ c .before .before .before .before .enum-told .given .1)
+      leaf-own (bundleIn (a .words .now) (a .c)) (a .context) (a .term) (a .x)
+          (sym (c .before .before .before .before .before .before .image-in .ensures) ∙ c .before .before .before .before .enum-told .given .1)
           (t .ensures .1),
     )
 
@@ -53,7 +55,8 @@ returns-2 c =
     let a = c .before .before .before .before .before .before .before .before .before .before .args in
     let t = c .before .before .conclude-alone2 in (
       t .ensures .0,
-      leaf-gives (bundleIn (a .words .now) (a .c)) (a .context) (a .term) (a .x) _ (sym (c .before .before .before .before .before .before .before .image-in .ensures) ∙ c .before .before .before .before .before .image .given .1)
+      leaf-gives (bundleIn (a .words .now) (a .c)) (a .context) (a .term) (a .x) _
+          (sym (c .before .before .before .before .before .before .before .image-in .ensures) ∙ c .before .before .before .before .before .image .given .1)
           (t .ensures .1),
     )
 

@@ -37,8 +37,11 @@ returns-2 : tie.Need-returns-2
 returns-2 c =
     let a = c .before .before .before .before .before .before .before .before .before .before .before .before .before .args in
     let l = c .before .before .before .before .before .before .before .before .before .add-halves in
-    let t = c .before .before .add-context in
-    (t .ensures .0 ∙ l .ensures .0, context-on (l .ensures .1) (c .before .before .before .before .before .listed .given .1) (a .variables) (a .parent) (t .ensures .1))
+    let t = c .before .before .add-context in (
+      t .ensures .0 ∙ l .ensures .0,
+      context-on (l .ensures .1) (c .before .before .before .before .before .listed .given .1) (a .variables) (a .parent)
+          (t .ensures .1),
+    )
 
 pub open-let-spec : {M : Type 1} → statement M
 open-let-spec =

@@ -34,7 +34,8 @@ open-renaming-requires : tie.Need-open-renaming-requires
 open-renaming-requires c κs =
     let s = c .before .before .before .before .before .before .before .before .before .before .before in
     let a = s .args in
-    let k = fresh-asks (bundleIn (a .words .now) (a .c)) (a .x) (c .before .before .before .before .before .before .place-fresh .ensures .1) (c .before .before .placed .given .1) in
+    let k = fresh-asks (bundleIn (a .words .now) (a .c)) (a .x) (c .before .before .before .before .before .before .place-fresh .ensures .1)
+    (c .before .before .placed .given .1) in
     (k .0, s .pre .1, omega (arith, s .pre .0 .room .within .variables), k .1, s .pre .2)
 
 enum-told-2 : tie.Need-enum-told-2
@@ -61,7 +62,8 @@ returns-2 c =
     let p = c .before .before .before .before .before .before .before .before .before .before .before .place-fresh in
     let t = c .before .before .before .before .open-renaming in (
       t .ensures .0 ∙ p .ensures .0,
-      binder-over (bundleIn (a .words .now) (a .c)) (a .x) (a .context) (p .ensures .1) (c .before .before .before .before .before .before .before .placed .given .1) (new (a .words .now) (a .c)) (t .ensures .1) (c .enum-told2 .given .1),
+      binder-over (bundleIn (a .words .now) (a .c)) (a .x) (a .context) (p .ensures .1)
+          (c .before .before .before .before .before .before .before .placed .given .1) (new (a .words .now) (a .c)) (t .ensures .1) (c .enum-told2 .given .1),
       full-binder,
     )
 
@@ -74,8 +76,11 @@ returns-3 c =
     let p = c .before .before .before .before .before .before .before .before .before .before .before .before .place-fresh in
     let t = c .before .before .before .before .before .open-renaming in (
       t .ensures .0 ∙ p .ensures .0,
-      binder-on (bundleIn (a .words .now) (a .c)) (a .x) (a .context) (p .ensures .1) (c .before .before .before .before .before .before .before .before .placed .given .1) (new (a .words .now) (a .c)) (t .ensures .1) (c .before .renamed .given .1),
-      renaming-indexed (p .ensures .2 .held _ _ (c .before .before .before .before .before .before .before .before .placed .given .1)) (a .x) (a .c .variables + 1) _ (a .context) (t .ensures .1) (c .before .renamed .given .1),
+      binder-on (bundleIn (a .words .now) (a .c)) (a .x) (a .context) (p .ensures .1)
+          (c .before .before .before .before .before .before .before .before .placed .given .1) (new (a .words .now) (a .c)) (t .ensures .1)
+          (c .before .renamed .given .1),
+      renaming-indexed (p .ensures .2 .held _ _ (c .before .before .before .before .before .before .before .before .placed .given .1)) (a .x)
+          (a .c .variables + 1) _ (a .context) (t .ensures .1) (c .before .renamed .given .1),
     )
 
 pub open-quantifier-spec : {M : Type 1} → statement M

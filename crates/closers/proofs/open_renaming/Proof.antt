@@ -19,7 +19,8 @@ add-value-requires : tie.Need-add-value-requires
 add-value-requires c κs =
     let s = c .before .before .before .before .before .before .before .before .before in
     let a = s .args in
-    let k = fixed-asks (bundleIn (a .words .now) (a .c)) (a .y) (a .parent) (c .before .before .before .before .before .before .add-context .ensures .1) (c .before .before .fixed .given .1) in
+    let k = fixed-asks (bundleIn (a .words .now) (a .c)) (a .y) (a .parent) (c .before .before .before .before .before .before .add-context .ensures .1)
+    (c .before .before .fixed .given .1) in
     (k .0, s .pre .1)
 
 enum-told-2 : tie.Need-enum-told-2
@@ -32,7 +33,9 @@ open-one-requires : tie.Need-open-one-requires
 open-one-requires c κs =
     let s = c .before .before .before .before .before .before .before .before .before .before .before .before .before .before .before .before in
     let a = s .args in
-    let k = fixed-asks (bundleIn (a .words .now) (a .c)) (a .y) (a .parent) (c .before .before .before .before .before .before .before .before .before .before .before .before .before .add-context .ensures .1) (c .before .before .before .before .before .before .before .before .before .fixed .given .1) in
+    let k = fixed-asks (bundleIn (a .words .now) (a .c)) (a .y) (a .parent)
+    (c .before .before .before .before .before .before .before .before .before .before .before .before .before .add-context .ensures .1)
+    (c .before .before .before .before .before .before .before .before .before .fixed .given .1) in
     let l = add-asks (c .before .before .before .before .before .before .add-value .ensures .1) (c .before .before .listed .given .1) in
     (l .0, l .1, k .1, s .pre .3)
 
@@ -56,7 +59,8 @@ returns-2 c =
     let f = c .before .before .before .before .before .before .before .before .before .before .before .add-context in
     let l = c .before .before .before .before .add-value in (
       l .ensures .0 ∙ f .ensures .0,
-      listed-full (bundleIn (a .words .now) (a .c)) (a .y) (a .parent) (f .ensures .1) (c .before .before .before .before .before .before .before .fixed .given .1) (a .x) (a .t) (l .ensures .1)
+      listed-full (bundleIn (a .words .now) (a .c)) (a .y) (a .parent) (f .ensures .1)
+          (c .before .before .before .before .before .before .before .fixed .given .1) (a .x) (a .t) (l .ensures .1)
           (c .enum-told2 .given .1),
     )
 
@@ -65,12 +69,14 @@ same-length-3 c = search needs
 
 returns-3 : tie.Need-returns-3
 returns-3 c =
-    let a = c .before .before .before .before .before .before .before .before .before .before .before .before .before .before .before .before .before .before .before .args in
+    let a = c .before .before .before .before .before .before .before .before .before .before .before .before .before .before .before .before .before .before
+    .before .args in
     let f = c .before .before .before .before .before .before .before .before .before .before .before .before .before .before .before .before .add-context in
     let l = c .before .before .before .before .before .before .before .before .before .add-value in
     let t = c .before .before .open-one in (
       t .ensures .0 ∙ (l .ensures .0 ∙ f .ensures .0),
-      opened-on (bundleIn (a .words .now) (a .c)) (a .y) (a .parent) (f .ensures .1) (c .before .before .before .before .before .before .before .before .before .before .before .before .fixed .given .1) (a .x) (a .t) (l .ensures .1)
+      opened-on (bundleIn (a .words .now) (a .c)) (a .y) (a .parent) (f .ensures .1)
+          (c .before .before .before .before .before .before .before .before .before .before .before .before .fixed .given .1) (a .x) (a .t) (l .ensures .1)
           (c .before .before .before .before .before .listed .given .1) (t .ensures .1),
     )
 

@@ -18,12 +18,35 @@ use Rattle.unions.proofs.unite_term.Reads as unite-term-reads
 
 -- the place after the call of `clear`
 abbrev Place : Type 0
-Place = lts.After-clear (term-field-reads.Asked, term-field-reads.Learnt, clear-reads.Asked, clear-reads.Learnt, insert-reads.Asked, insert-reads.Learnt, is-binder-reads.Asked, is-binder-reads.Learnt, unite-term-reads.Asked, unite-term-reads.Learnt, remove-reads.Asked, remove-reads.Learnt, remove-list-reads.Asked, remove-list-reads.Learnt) reads.Pre reads.Post
+Place = lts.After-clear (
+  term-field-reads.Asked,
+  term-field-reads.Learnt,
+  clear-reads.Asked,
+  clear-reads.Learnt,
+  insert-reads.Asked,
+  insert-reads.Learnt,
+  is-binder-reads.Asked,
+  is-binder-reads.Learnt,
+  unite-term-reads.Asked,
+  unite-term-reads.Learnt,
+  remove-reads.Asked,
+  remove-reads.Learnt,
+  remove-list-reads.Asked,
+  remove-list-reads.Learnt,
+) reads.Pre reads.Post
 
-ready : (s : Place) → Ready (bundleAt (s .before .before .before .before .before .before .before .before .args .file .now) (s .before .before .before .before .before .before .before .before .args .b)) (s .before .before .before .before .before .before .before .before .args .b .variables) (s .before .before .before .before .before .before .before .before .args .area .now) (s .clear .last .0) (s .before .before .before .before .before .before .before .before .args .n) (s .before .before .before .before .before .before .before .before .args .t) (s .before .before .before .before .before .before .before .before .args .at)
-    (s .before .before .before .before .before .term-field .result) (s .before .before .before .before .term-field2 .result) (s .before .before .before .term-field3 .result) (s .before .before .term-field4 .result)
+ready : (s : Place)
+    → Ready (bundleAt (s .before .before .before .before .before .before .before .before .args .file .now)
+    (s .before .before .before .before .before .before .before .before .args .b))
+    (s .before .before .before .before .before .before .before .before .args .b .variables)
+    (s .before .before .before .before .before .before .before .before .args .area .now) (s .clear .last .0)
+    (s .before .before .before .before .before .before .before .before .args .n) (s .before .before .before .before .before .before .before .before .args .t)
+    (s .before .before .before .before .before .before .before .before .args .at)
+    (s .before .before .before .before .before .term-field .result) (s .before .before .before .before .term-field2 .result)
+    (s .before .before .before .term-field3 .result) (s .before .before .term-field4 .result)
 ready s = record {
-  variables = variables-length (s .before .before .before .before .before .before .before .before .args .file .now) (s .before .before .before .before .before .before .before .before .args .b);
+  variables = variables-length (s .before .before .before .before .before .before .before .before .args .file .now)
+      (s .before .before .before .before .before .before .before .before .args .b);
   enough = s .before .before .before .before .before .before .before .before .pre .2;
   room = s .before .before .before .before .before .before .before .before .pre .1;
   kind = s .before .before .before .before .before .term-field .ensures;
@@ -61,7 +84,8 @@ same-length-2 : tie.Need-same-length-2
 same-length-2 c = search needs
 
 returns-2 : tie.Need-returns-2
-returns-2 c = by-variable (ready (c .before .before .before .before .before .before .before .before .before .before)) (c .before .before .insert .last .0) (c .before .before .before .before .before .before .if2 .taken) (c .before .before .before .before .if3 .taken) (c .before .before .insert .ensures)
+returns-2 c = by-variable (ready (c .before .before .before .before .before .before .before .before .before .before)) (c .before .before .insert .last .0)
+    (c .before .before .before .before .before .before .if2 .taken) (c .before .before .before .before .if3 .taken) (c .before .before .insert .ensures)
 
 same-length-3 : tie.Need-same-length-3
 same-length-3 c = search needs
@@ -82,7 +106,11 @@ same-length-4 : tie.Need-same-length-4
 same-length-4 c = search needs
 
 returns-4 : tie.Need-returns-4
-returns-4 c = by-quantifier (ready (c .before .before .before .before .before .before .before .before .before .before .before .before .before .before)) (c .before .before .before .before .before .before .unite-term .last .0) (c .before .before .remove .last .0) (sym (c .before .before .before .before .before .before .before .before .before .is-binder .ensures) ∙ c .before .before .before .before .before .before .before .before .if4 .taken) (c .before .before .before .before .before .before .unite-term .ensures) (c .before .before .remove .ensures)
+returns-4 c = by-quantifier (ready (c .before .before .before .before .before .before .before .before .before .before .before .before .before .before))
+    (c .before .before .before .before .before .before .unite-term .last .0) (c .before .before .remove .last .0)
+    (sym (c .before .before .before .before .before .before .before .before .before .is-binder .ensures)
+    ∙ c .before .before .before .before .before .before .before .before .if4 .taken) (c .before .before .before .before .before .before .unite-term .ensures)
+    (c .before .before .remove .ensures)
 
 unite-term-requires-2 : tie.Need-unite-term-requires-2
 unite-term-requires-2 c κs = search needs
@@ -94,13 +122,17 @@ same-length-5 : tie.Need-same-length-5
 same-length-5 c = search needs
 
 returns-5 : tie.Need-returns-5
-returns-5 c = by-let (ready (c .before .before .before .before .before .before .before .before .before .before .before .before .before .before .before)) (c .before .before .before .before .before .before .unite-term2 .last .0) (c .before .before .remove-list .last .1 .1 .0) (c .before .before .before .before .before .before .before .before .if5 .taken) (c .before .before .before .before .before .before .unite-term2 .ensures) (c .before .before .remove-list .ensures)
+returns-5 c = by-let (ready (c .before .before .before .before .before .before .before .before .before .before .before .before .before .before .before))
+    (c .before .before .before .before .before .before .unite-term2 .last .0) (c .before .before .remove-list .last .1 .1 .0)
+    (c .before .before .before .before .before .before .before .before .if5 .taken) (c .before .before .before .before .before .before .unite-term2 .ensures)
+    (c .before .before .remove-list .ensures)
 
 same-length-6 : tie.Need-same-length-6
 same-length-6 c = search needs
 
 returns-6 : tie.Need-returns-6
-returns-6 c = by-other (ready (c .before .before .before .before .before .before .before)) (c .before .before .before .if2 .left) (c .before .before .before .before .if1 .left) (sym (c .before .before .is-binder .ensures) ∙ c .before .if4 .left) (c .if5 .left)
+returns-6 c = by-other (ready (c .before .before .before .before .before .before .before)) (c .before .before .before .if2 .left)
+    (c .before .before .before .before .if1 .left) (sym (c .before .before .is-binder .ensures) ∙ c .before .if4 .left) (c .if5 .left)
 
 pub free-own-spec : {M : Type 1} → statement M
 free-own-spec =

@@ -28,8 +28,11 @@ returns : tie.Need-returns
 returns c =
     let a = c .before .before .before .before .before .before .before .before .before .before .before .args in
     let f = c .before .before .before .before .before .before .before .fitting in
-    area-is (bundleAt (a .file .now) (a .b)) (a .n) (length (a .area .now)) (c .before .before .before .before .before .before .before .before .before .before .before .pre .1) (f .last .1 .1 .0) (c .before .before .clear .last .0) (a .b .terms) (terms-length (a .file .now) (a .b)) (f .ensures .0)
-    (omega (arith, c .before .before .before .before .before .before .before .before .before .before .before .pre .3, f .ensures .0)) (f .ensures .1 .sets) (c .before .before .clear .ensures) (λ j. omega (arith, c .slice-known3 .given j))
+    area-is (bundleAt (a .file .now) (a .b)) (a .n) (length (a .area .now))
+    (c .before .before .before .before .before .before .before .before .before .before .before .pre .1) (f .last .1 .1 .0)
+    (c .before .before .clear .last .0) (a .b .terms) (terms-length (a .file .now) (a .b)) (f .ensures .0)
+    (omega (arith, c .before .before .before .before .before .before .before .before .before .before .before .pre .3, f .ensures .0)) (f .ensures .1 .sets)
+    (c .before .before .clear .ensures) (λ j. omega (arith, c .slice-known3 .given j))
 
 pub free-sets-spec : {M : Type 1} → statement M
 free-sets-spec =

@@ -22,7 +22,15 @@ abbrev μ-loop : tie.MeasureT-loop
 μ-loop file b area₀ n lists₀ marks₀ terms t₀ area lists marks t = b .terms + 1 - t
 
 loop-holds : tie.Need-loop-holds Inv-loop μ-loop
-loop-holds c = (omega arith, refl, refl, refl, below-none (c .before .before .before .before .args .area .now) (c .before .before .before .before .args .n) (bundleAt (c .before .before .before .before .args .file .now) (c .before .before .before .before .args .b)), c .before .before .before .before .pre .4)
+loop-holds c = (
+  omega arith,
+  refl,
+  refl,
+  refl,
+  below-none (c .before .before .before .before .args .area .now) (c .before .before .before .before .args .n)
+      (bundleAt (c .before .before .before .before .args .file .now) (c .before .before .before .before .args .b)),
+  c .before .before .before .before .pre .4,
+)
 
 sub-free-term : tie.Need-sub-free-term Inv-loop μ-loop
 sub-free-term c = c .before .before .loop .inv .4 .one
@@ -30,21 +38,40 @@ sub-free-term c = c .before .before .loop .inv .4 .one
 mul-free-term : tie.Need-mul-free-term Inv-loop μ-loop
 mul-free-term c =
     let a = c .before .before .before .before .before .before .before .args in
-    record { fits = lt-of-le-of-lt {m = a .n * a .b .terms} (mul-le-mul-left (a .n) (omega (arith, c .before .loop-test .taken))) (omega (arith, c .before .before .before .before .before .before .before .pre .2)) }
+    record {
+      fits = lt-of-le-of-lt {m = a .n * a .b .terms} (mul-le-mul-left (a .n) (omega (arith, c .before .loop-test .taken)))
+          (omega (arith, c .before .before .before .before .before .before .before .pre .2));
+    }
 
 free-term-requires : tie.Need-free-term-requires Inv-loop μ-loop
 free-term-requires c κs =
     let a = c .before .before .before .before .before .before .before .before .before .args in
     let l = c .before .before .before .before .loop in (
       c .before .before .before .before .before .before .before .before .before .pre .0,
-      record { one = l .inv .4 .one; start = refl; room = omega (arith, record-within (a .n) (a .b .terms) (l .t) (λ z. omega (arith, l .inv .4 .one)) (c .before .before .before .loop-test .taken), c .before .before .before .before .before .before .before .before .before .pre .2, l .inv .1) },
+      record {
+        one = l .inv .4 .one;
+        start = refl;
+        room =
+            omega (
+              arith,
+              record-within (a .n) (a .b .terms) (l .t) (λ z. omega (arith, l .inv .4 .one)) (c .before .before .before .loop-test .taken),
+              c .before .before .before .before .before .before .before .before .before .pre .2,
+              l .inv .1,
+            );
+      },
       c .before .before .before .before .before .before .before .before .before .pre .3,
       l .inv .4,
       l .inv .5,
     )
 
 add-t : tie.Need-add-t Inv-loop μ-loop
-add-t c = omega (arith, c .before .before .before .before .before .before .before .before .before .before .before .before .before .before .before .before .pre .0 .within .terms, c .before .before .before .before .before .before .before .before .before .before .loop-test .taken)
+add-t c =
+    omega (
+      arith,
+      c .before .before .before .before .before .before .before .before .before .before .before .before .before .before .before .before .pre .0
+          .within .terms,
+      c .before .before .before .before .before .before .before .before .before .before .loop-test .taken,
+    )
 
 loop-less : tie.Need-loop-less Inv-loop μ-loop
 loop-less c = omega (arith, c .before .before .before .before .before .before .before .before .before .before .loop-test .taken)
@@ -55,7 +82,19 @@ loop-again c =
     let l = c .before .before .before .before .before .before .before .before .before .before .before .loop in
     let B = bundleAt (a .file .now) (a .b) in
     let put = c .before .before .before .before .before .before .free-term .ensures .0 in
-    let room : SetRoom (l .area) (a .n) (l .t) (a .n * (l .t - 1)) = record { one = l .inv .4 .one; start = refl; room = omega (arith, record-within (a .n) (a .b .terms) (l .t) (λ z. omega (arith, l .inv .4 .one)) (c .before .before .before .before .before .before .before .before .before .before .loop-test .taken), c .before .before .before .before .before .before .before .before .before .before .before .before .before .before .before .before .pre .2, l .inv .1) } in (
+    let room : SetRoom (l .area) (a .n) (l .t) (a .n * (l .t - 1)) =
+    record {
+      one = l .inv .4 .one;
+      start = refl;
+      room =
+          omega (
+            arith,
+            record-within (a .n) (a .b .terms) (l .t) (λ z. omega (arith, l .inv .4 .one))
+                (c .before .before .before .before .before .before .before .before .before .before .loop-test .taken),
+            c .before .before .before .before .before .before .before .before .before .before .before .before .before .before .before .before .pre .2,
+            l .inv .1,
+          );
+    } in (
       omega (arith, c .before .before .before .before .before .before .before .before .before .before .loop-test .taken),
       put .kept .long ∙ l .inv .1,
       search needs,

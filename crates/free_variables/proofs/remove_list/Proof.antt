@@ -42,19 +42,29 @@ next-link-requires c κs = c .before .before .before .before .before .before .be
 loop-less : tie.Need-loop-less Inv-loop μ-loop
 loop-less c =
     let a = c .before .before .before .before .before .before .before .before .before .before .before .args in
-    omega (arith, walk-length (a .file .now) (a .b) (c .before .before .before .before .before .before .before .loop .i) (c .next-link .result) (c .before .before .before .before .before .before .loop-test .taken) (c .before .before .before .before .before .before .before .loop .inv .0) (c .next-link .ensures))
+    omega (
+      arith,
+      walk-length (a .file .now) (a .b) (c .before .before .before .before .before .before .before .loop .i) (c .next-link .result)
+          (c .before .before .before .before .before .before .loop-test .taken) (c .before .before .before .before .before .before .before .loop .inv .0)
+          (c .next-link .ensures),
+    )
 
 loop-again : tie.Need-loop-again Inv-loop μ-loop
 loop-again c =
     let a = c .before .before .before .before .before .before .before .before .before .before .before .args in
     let l = c .before .before .before .before .before .before .before .loop in
     let b = bundleAt (a .file .now) (a .b) in
-    let room : a .at + a .n ≤ length (l .area) = omega (arith, c .before .before .before .before .before .before .before .before .before .before .before .pre .1, l .inv .1 .long) in
-    let put = remove-put (l .area) (c .before .before .before .remove .last .0) (a .n) (a .at) (c .before .before .before .before .before .link-field .result) room (c .before .before .before .remove .ensures) in (
+    let room : a .at + a .n ≤ length (l .area) =
+    omega (arith, c .before .before .before .before .before .before .before .before .before .before .before .pre .1, l .inv .1 .long) in
+    let put = remove-put (l .area) (c .before .before .before .remove .last .0) (a .n) (a .at) (c .before .before .before .before .before .link-field .result)
+    room (c .before .before .before .remove .ensures) in (
       walk-le (a .file .now) (a .b) (l .i) (c .next-link .result) (c .next-link .ensures),
       kept-trans (a .area .now) (l .area) (c .before .before .before .remove .last .0) (a .n) (a .at) (l .inv .1) (put .kept),
-      removing-turn (a .area .now) (a .n) (a .at) (items b (a .list)) (l .area) (c .before .before .before .remove .last .0) (items b (l .i)) (items b (c .next-link .result)) (c .before .before .before .before .before .link-field .result) (l .inv .2)
-          (walk-cons (a .file .now) (a .b) (l .i) (c .before .before .before .before .before .link-field .result) (c .next-link .result) (c .before .before .before .before .before .before .loop-test .taken) (l .inv .0) (c .before .before .before .before .before .link-field .ensures) (c .next-link .ensures))
+      removing-turn (a .area .now) (a .n) (a .at) (items b (a .list)) (l .area) (c .before .before .before .remove .last .0) (items b (l .i))
+          (items b (c .next-link .result)) (c .before .before .before .before .before .link-field .result) (l .inv .2)
+          (walk-cons (a .file .now) (a .b) (l .i) (c .before .before .before .before .before .link-field .result) (c .next-link .result)
+          (c .before .before .before .before .before .before .loop-test .taken) (l .inv .0) (c .before .before .before .before .before .link-field .ensures)
+          (c .next-link .ensures))
           put,
     )
 
@@ -66,7 +76,8 @@ returns c =
     let a = c .before .before .before .before .before .args in
     let l = c .before .loop in
     let b = bundleAt (a .file .now) (a .b) in
-    removing-end (a .area .now) (a .n) (a .at) (items b (a .list)) (l .area) (items b (l .i)) (l .inv .1) (l .inv .2) (walk-nil (a .file .now) (a .b) (l .i) (c .loop-test .left))
+    removing-end (a .area .now) (a .n) (a .at) (items b (a .list)) (l .area) (items b (l .i)) (l .inv .1) (l .inv .2)
+    (walk-nil (a .file .now) (a .b) (l .i) (c .loop-test .left))
 
 pub remove-list-spec : {M : Type 1} → statement M
 remove-list-spec =

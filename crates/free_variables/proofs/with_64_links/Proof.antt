@@ -27,7 +27,8 @@ free-terms-requires c κs =
       c .before .before .before .before .before .pre .1,
       c .before .before .before .before .before .pre .3,
       c .before .before .before .before .before .pre .4,
-      unions-none B (a .n) (setWords * (64 + 1)) (64 + 1) (walk-nil (a .file .now) (a .b) 0 refl) (omega arith) (links-room (a .n) (length (B .links)) 64 (c .before .before .before .before .before .pre .2) few),
+      unions-none B (a .n) (setWords * (64 + 1)) (64 + 1) (walk-nil (a .file .now) (a .b) 0 refl) (omega arith)
+          (links-room (a .n) (length (B .links)) 64 (c .before .before .before .before .before .pre .2) few),
     )
 
 same-length : tie.Need-same-length

@@ -22,12 +22,14 @@ free-terms-requires : tie.Need-free-terms-requires
 free-terms-requires c κs =
     let a = c .before .before .before .before .before .args in
     let B = bundleAt (a .file .now) (a .b) in
-    let few : length (B .links) ≤ 2048 = omega (arith, links-length (a .file .now) (a .b), c .before .before .before .before .before .pre .0 .within .links) in (
+    let within = c .before .before .before .before .before .pre .0 .within in
+    let few : length (B .links) ≤ 2048 = omega (arith, links-length (a .file .now) (a .b), within .links) in (
       c .before .before .before .before .before .pre .0,
       c .before .before .before .before .before .pre .1,
       c .before .before .before .before .before .pre .3,
       c .before .before .before .before .before .pre .4,
-      unions-none B (a .n) (setWords * (2048 + 1)) (2048 + 1) (walk-nil (a .file .now) (a .b) 0 refl) (omega arith) (links-room (a .n) (length (B .links)) 2048 (c .before .before .before .before .before .pre .2) few),
+      unions-none B (a .n) (setWords * (2048 + 1)) (2048 + 1) (walk-nil (a .file .now) (a .b) 0 refl) (omega arith)
+          (links-room (a .n) (length (B .links)) 2048 (c .before .before .before .before .before .pre .2) few),
     )
 
 same-length : tie.Need-same-length

@@ -37,12 +37,15 @@ returns-2 : tie.Need-returns-2
 returns-2 c =
     let s = c .before .before .before .before .before .before .before .before in
     let a = s .args in
-    let next : a .c .terms + 1 ≡ suc (length (bundleIn (a .words .now) (a .c) .terms)) = add-one (a .c .terms) ∙ ap suc (sym (sized-in (a .words .now) (a .c) .terms)) in
+    let next : a .c .terms + 1 ≡ suc (length (bundleIn (a .words .now) (a .c) .terms)) =
+    add-one (a .c .terms) ∙ ap suc (sym (sized-in (a .words .now) (a .c) .terms)) in
     let p = c .before .before .before .before .append-term in (
       p .ensures .1,
       place-is (p .last .0) (p .result) (p .ensures .0) (p .ensures .3 ∙ s .pre .0 .version) _ _ (p .ensures .2)
           next,
-      place-holds (term-indexed (s .pre .4) (record { kind = a .kind; a = a .first; b = a .second; c = 0 }) (a .d) (s .pre .6) (s .pre .5) (omega (arith, sized-in (a .words .now) (a .c) .terms)) next (p .last .0) (p .result) (p .ensures .2) (c .file-term .ensures)),
+      place-holds
+          (term-indexed (s .pre .4) (record { kind = a .kind; a = a .first; b = a .second; c = 0 }) (a .d) (s .pre .6) (s .pre .5)
+          (omega (arith, sized-in (a .words .now) (a .c) .terms)) next (p .last .0) (p .result) (p .ensures .2) (c .file-term .ensures)),
     )
 
 pub add-term-spec : {M : Type 1} → statement M

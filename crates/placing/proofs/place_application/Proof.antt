@@ -18,8 +18,10 @@ mixed-results-requires : tie.Need-mixed-results-requires
 mixed-results-requires c κs = let s = c .before .before .before in (c .root-digest .ensures .1, s .pre .2, s .pre .3)
 
 -- the digest of the application
-own-digest : (c : tie.After-mixed-results) → let a = c .before .before .before .before .args in c .mixed-results .result ≡ mixAll (rootDigest 2 (a .symbol)) (halves true (a .stack .now) (a .from) (a .to))
-own-digest c = let a = c .before .before .before .before .args in c .mixed-results .ensures .0 ∙ ap (λ (n : ℕ). mixAll n (halves true (a .stack .now) (a .from) (a .to))) (c .before .root-digest .ensures .0)
+own-digest : (c : tie.After-mixed-results) → let a = c .before .before .before .before .args in
+    c .mixed-results .result ≡ mixAll (rootDigest 2 (a .symbol)) (halves true (a .stack .now) (a .from) (a .to))
+own-digest c = let a = c .before .before .before .before .args in
+    c .mixed-results .ensures .0 ∙ ap (λ (n : ℕ). mixAll n (halves true (a .stack .now) (a .from) (a .to))) (c .before .root-digest .ensures .0)
 
 find-application-requires : tie.Need-find-application-requires
 find-application-requires c κs =
@@ -61,7 +63,8 @@ add-term-requires c κs =
       k .1,
       list-indexed (s .pre .4) (l .ensures .1) (c .before .before .before .listed .given .1),
       m .ensures .1,
-      application-filed (l .ensures .1) (c .before .before .before .listed .given .1) (s .args .symbol) (m .result) (own-digest (c .before .before .before .before .before .before .before .before .before .before .before .before .before)),
+      application-filed (l .ensures .1) (c .before .before .before .listed .given .1) (s .args .symbol) (m .result)
+          (own-digest (c .before .before .before .before .before .before .before .before .before .before .before .before .before)),
     )
 
 same-length-2 : tie.Need-same-length-2
@@ -73,7 +76,8 @@ returns-2 c =
     let l = c .before .before .before .before .add-halves in
     let f = c .before .before .before .before .before .before .before .find-application in (
       l .ensures .0,
-      term-full (l .ensures .1) (c .enum-told .given .1) (λ s. record { kind = 2; a = a .symbol; b = s; c = 0 }) _ (f .result) (f .ensures) (c .before .before .before .before .before .before .if1 .left),
+      term-full (l .ensures .1) (c .enum-told .given .1) (λ s. record { kind = 2; a = a .symbol; b = s; c = 0 }) _ (f .result) (f .ensures)
+          (c .before .before .before .before .before .before .if1 .left),
       full-record,
     )
 
@@ -82,12 +86,15 @@ same-length-3 c = search needs
 
 returns-3 : tie.Need-returns-3
 returns-3 c =
-    let a = c .before .before .before .before .before .before .before .before .before .before .before .before .before .before .before .before .before .before .before .before .args in
+    let a = c .before .before .before .before .before .before .before .before .before .before .before .before .before .before .before .before .before .before
+    .before .before .args in
     let l = c .before .before .before .before .before .before .before .before .before .before .add-halves in
     let f = c .before .before .before .before .before .before .before .before .before .before .before .before .before .find-application in
     let t = c .before .before .add-term in (
       t .ensures .0 ∙ l .ensures .0,
-      term-on (l .ensures .1) (c .before .before .before .before .before .before .listed .given .1) (λ s. record { kind = 2; a = a .symbol; b = s; c = 0 }) _ (f .result) (f .ensures) (c .before .before .before .before .before .before .before .before .before .before .before .before .if1 .left) (t .ensures .1),
+      term-on (l .ensures .1) (c .before .before .before .before .before .before .listed .given .1) (λ s. record { kind = 2; a = a .symbol; b = s; c = 0 }) _
+          (f .result) (f .ensures) (c .before .before .before .before .before .before .before .before .before .before .before .before .if1 .left)
+          (t .ensures .1),
       t .ensures .2,
     )
 

@@ -28,15 +28,27 @@ returns : tie.Need-returns
 returns c =
     let s = c .before .before .before .before .before .before in
     let a = s .args in
-    let f = c .before .find-binder in
-    (refl, (λ q e. found-is (s .pre .0) [] (λ s. record { kind = numberOf (binder q); a = a .y; b = a .body; c = 0 }) _ (f .result) (f .ensures q e) (c .if1 .taken)), place-holds (s .pre .5))
+    let f = c .before .find-binder in (
+      refl,
+      (λ q e. found-is (s .pre .0) [] (λ s. record { kind = numberOf (binder q); a = a .y; b = a .body; c = 0 }) _ (f .result) (f .ensures q e)
+          (c .if1 .taken)),
+      place-holds (s .pre .5),
+    )
 
 add-term-requires : tie.Need-add-term-requires
 add-term-requires c κs =
     let s = c .before .before .before .before .before .before .before .before in
     let a = s .args in
-    let d = c .before .before .before .before .before .before .root-digest in
-    (s .pre .0, omega arith, s .pre .3, s .pre .4, s .pre .5, d .ensures .1, plain-filed (bundleIn (a .words .now) (a .c)) (a .kind) (a .y) (a .body) (d .result) (λ e. omega arith) (λ e. omega arith) (d .ensures .0))
+    let d = c .before .before .before .before .before .before .root-digest in (
+      s .pre .0,
+      omega arith,
+      s .pre .3,
+      s .pre .4,
+      s .pre .5,
+      d .ensures .1,
+      plain-filed (bundleIn (a .words .now) (a .c)) (a .kind) (a .y) (a .body)
+          (d .result) (λ e. omega arith) (λ e. omega arith) (d .ensures .0),
+    )
 
 same-length-2 : tie.Need-same-length-2
 same-length-2 c = search needs
@@ -49,8 +61,10 @@ returns-2 c =
     let t = c .before .before .add-term in (
       t .ensures .0,
       (λ q e.
-          term-on (no-list (s .pre .0)) refl (λ s. record { kind = numberOf (binder q); a = a .y; b = a .body; c = 0 }) _ (f .result) (f .ensures q e) (c .before .before .before .before .before .if1 .left)
-          (subst (λ (k : ℕ). PlaceOutcome (termed (bundleIn (a .words .now) (a .c)) (record { kind = k; a = a .y; b = a .body; c = 0 })) (t .last .0) (t .result)) e
+          term-on (no-list (s .pre .0)) refl (λ s. record { kind = numberOf (binder q); a = a .y; b = a .body; c = 0 }) _ (f .result) (f .ensures q e)
+          (c .before .before .before .before .before .if1 .left)
+          (subst (λ (k : ℕ). PlaceOutcome (termed (bundleIn (a .words .now) (a .c)) (record { kind = k; a = a .y; b = a .body; c = 0 })) (t .last .0)
+          (t .result)) e
           (t .ensures .1))),
       t .ensures .2,
     )

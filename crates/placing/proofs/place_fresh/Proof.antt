@@ -35,8 +35,13 @@ root-digest-requires c κs = search needs
 find-variable-requires : tie.Need-find-variable-requires
 find-variable-requires c κs =
     let d = c .before .before .root-digest in
-    let v = c .before .before .before .before .before .append-variable in
-    (v .ensures .0, variable-indexed (c .before .before .before .before .before .before .before .before .before .before .before .pre .1) (v .last .0) (v .result) _ (v .ensures .2), d .ensures .1, d .ensures .0)
+    let v = c .before .before .before .before .before .append-variable in (
+      v .ensures .0,
+      variable-indexed (c .before .before .before .before .before .before .before .before .before .before .before .pre .1) (v .last .0)
+          (v .result) _ (v .ensures .2),
+      d .ensures .1,
+      d .ensures .0,
+    )
 
 same-length-2 : tie.Need-same-length-2
 same-length-2 c = search needs
@@ -48,9 +53,11 @@ returns-2 c =
     let v = c .before .before .before .before .before .before .before .append-variable in
     let f = c .before .find-variable in (
       v .ensures .1,
-      fresh-on (v .last .0) (v .result) (bundleIn (a .words .now) (a .c)) (a .x) _ (a .c .variables + 1) (v .ensures .2) (c .before .before .before .before .before .before .before .before .before .before .variable-sort .ensures .0)
+      fresh-on (v .last .0) (v .result) (bundleIn (a .words .now) (a .c)) (a .x) _ (a .c .variables + 1) (v .ensures .2)
+          (c .before .before .before .before .before .before .before .before .before .before .variable-sort .ensures .0)
           (add-one (a .c .variables) ∙ ap suc (sym (sized-in (a .words .now) (a .c) .variables)))
-          (found-is (record { room = v .ensures .0; version = v .ensures .3 ∙ s .pre .0 .version }) [] (λ s. record { kind = 1; a = a .c .variables + 1; b = 0; c = 0 }) _ (f .result) (f .ensures) (c .if2 .taken)),
+          (found-is (record { room = v .ensures .0; version = v .ensures .3 ∙ s .pre .0 .version }) []
+          (λ s. record { kind = 1; a = a .c .variables + 1; b = 0; c = 0 }) _ (f .result) (f .ensures) (c .if2 .taken)),
       place-holds (variable-indexed (s .pre .1) (v .last .0) (v .result) _ (v .ensures .2)),
     )
 
@@ -80,9 +87,11 @@ returns-3 c =
     let f = c .before .before .before .before .before .before .find-variable in
     let t = c .before .before .add-term in (
       t .ensures .0 ∙ v .ensures .1,
-      fresh-on (v .last .0) (v .result) (bundleIn (a .words .now) (a .c)) (a .x) _ (a .c .variables + 1) (v .ensures .2) (c .before .before .before .before .before .before .before .before .before .before .before .before .before .before .before .variable-sort .ensures .0)
+      fresh-on (v .last .0) (v .result) (bundleIn (a .words .now) (a .c)) (a .x) _ (a .c .variables + 1) (v .ensures .2)
+          (c .before .before .before .before .before .before .before .before .before .before .before .before .before .before .before .variable-sort .ensures .0)
           (add-one (a .c .variables) ∙ ap suc (sym (sized-in (a .words .now) (a .c) .variables)))
-          (term-on (no-list (record { room = v .ensures .0; version = v .ensures .3 ∙ s .pre .0 .version })) refl (λ s. record { kind = 1; a = a .c .variables + 1; b = 0; c = 0 }) _ (f .result) (f .ensures)
+          (term-on (no-list (record { room = v .ensures .0; version = v .ensures .3 ∙ s .pre .0 .version })) refl
+          (λ s. record { kind = 1; a = a .c .variables + 1; b = 0; c = 0 }) _ (f .result) (f .ensures)
           (c .before .before .before .before .before .if2 .left) (t .ensures .1)),
       t .ensures .2,
     )

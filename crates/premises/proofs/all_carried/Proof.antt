@@ -23,7 +23,8 @@ use Rattle.premises.proofs.all_carried.Tie as tie
 abbrev Inv-loop : tie.InvT-loop
 Inv-loop file b bed carried₀ context lefts rights premises i₀ j₀ k₀ carried i j k =
     (i ≤ b .links) × (j ≤ b .links) × (k ≤ b .links)
-    × (allProveBy (stepIn (bundleAt file b) bed) false context (items (bundleAt file b) lefts) (items (bundleAt file b) rights) (items (bundleAt file b) premises)
+    × (allProveBy (stepIn (bundleAt file b) bed) false context (items (bundleAt file b) lefts) (items (bundleAt file b) rights)
+    (items (bundleAt file b) premises)
     ≡ allProveBy (stepIn (bundleAt file b) bed) false context (items (bundleAt file b) i) (items (bundleAt file b) j) (items (bundleAt file b) k))
     × (b .links < length carried) × OnWay (CarriedFrom (stepIn (bundleAt file b) bed) (bundleAt file b)) carried (keyOf context i j) k
 
@@ -48,7 +49,11 @@ loop-holds c =
       walk-start-le (a .file .now) (a .b) (a .lefts) (r .result) (r .ensures),
       walk-start-le (a .file .now) (a .b) (a .rights) (s .result) (s .ensures),
       walk-start-le (a .file .now) (a .b) (a .premises) (t .result) (t .ensures),
-      rw (walk-start (a .file .now) (a .b) (a .lefts) (r .result) (r .ensures), walk-start (a .file .now) (a .b) (a .rights) (s .result) (s .ensures), walk-start (a .file .now) (a .b) (a .premises) (t .result) (t .ensures)),
+      rw (
+        walk-start (a .file .now) (a .b) (a .lefts) (r .result) (r .ensures),
+        walk-start (a .file .now) (a .b) (a .rights) (s .result) (s .ensures),
+        walk-start (a .file .now) (a .b) (a .premises) (t .result) (t .ensures),
+      ),
       c .before .before .before .before .before .pre .1 .enough,
       way-start (CarriedFrom (stepIn (bundleAt (a .file .now) (a .b)) (a .bed .now)) (bundleAt (a .file .now) (a .b))) (a .b .links) (a .carried .now)
           (keyOf (a .context) (r .result) (s .result)) (t .result) (c .before .before .before .before .before .pre .1),
@@ -60,15 +65,19 @@ returns c =
     let l = c .before .before .loop in (
       rw (
         l .inv .3,
-        prove-short (a .file .now) (a .b) (stepIn (bundleAt (a .file .now) (a .b)) (a .bed .now)) false (a .context) (l .i) (l .j) (l .k) (c .before .loop-test .taken) (l .inv .0) (l .inv .1) (l .inv .2) (c .if1 .taken),
+        prove-short (a .file .now) (a .b) (stepIn (bundleAt (a .file .now) (a .b)) (a .bed .now)) false (a .context) (l .i) (l .j) (l .k)
+            (c .before .loop-test .taken) (l .inv .0) (l .inv .1) (l .inv .2) (c .if1 .taken),
       ),
       λ e. absurd (false≢true e),
     )
 
 key-requires : tie.Need-key-requires Inv-loop μ-loop
 key-requires c κs =
-    let l = c .before .before .loop in
-    (omega (arith, c .before .before .before .before .before .before .before .before .pre .2), omega (arith, l .inv .0, c .before .before .before .before .before .before .before .before .pre .0 .within .links), omega (arith, l .inv .1, c .before .before .before .before .before .before .before .before .pre .0 .within .links))
+    let l = c .before .before .loop in (
+      omega (arith, c .before .before .before .before .before .before .before .before .pre .2),
+      omega (arith, l .inv .0, c .before .before .before .before .before .before .before .before .pre .0 .within .links),
+      omega (arith, l .inv .1, c .before .before .before .before .before .before .before .before .pre .0 .within .links),
+    )
 
 mul-if2 : tie.Need-mul-if2 Inv-loop μ-loop
 mul-if2 c = search needs
@@ -112,7 +121,10 @@ returns-3 c =
     let l = c .before .before .before .before .before .before .before .before .before .before .loop in (
       rw (
         l .inv .3,
-        prove-on (a .file .now) (a .b) (stepIn (bundleAt (a .file .now) (a .b)) (a .bed .now)) false (a .context) (c .before .before .before .before .before .before .before .before .before .loop-test .taken) (l .inv .0) (l .inv .1) (l .inv .2) (c .before .before .before .before .before .before .before .before .if1 .left) (c .before .before .before .before .link-field .ensures) (c .before .before .before .link-field2 .ensures) (c .before .before .link-field3 .ensures) (c .before .step-carries .ensures),
+        prove-on (a .file .now) (a .b) (stepIn (bundleAt (a .file .now) (a .b)) (a .bed .now)) false (a .context)
+            (c .before .before .before .before .before .before .before .before .before .loop-test .taken) (l .inv .0) (l .inv .1) (l .inv .2)
+            (c .before .before .before .before .before .before .before .before .if1 .left) (c .before .before .before .before .link-field .ensures)
+            (c .before .before .before .link-field2 .ensures) (c .before .before .link-field3 .ensures) (c .before .step-carries .ensures),
         not-true (c .before .step-carries .result) (c .if3 .taken),
       ),
       λ e. absurd (false≢true e),
@@ -125,36 +137,55 @@ element-write-carried : tie.Need-element-write-carried Inv-loop μ-loop
 element-write-carried c = search needs
 
 next-link-requires : tie.Need-next-link-requires Inv-loop μ-loop
-next-link-requires c κs = c .before .before .before .before .before .before .before .before .before .before .before .before .before .before .before .before .pre .0
+next-link-requires c κs =
+    c .before .before .before .before .before .before .before .before .before .before .before .before .before .before .before .before .pre .0
 
 next-link-requires-2 : tie.Need-next-link-requires-2 Inv-loop μ-loop
-next-link-requires-2 c κs = c .before .before .before .before .before .before .before .before .before .before .before .before .before .before .before .before .before .pre .0
+next-link-requires-2 c κs =
+    c .before .before .before .before .before .before .before .before .before .before .before .before .before .before .before .before .before .pre .0
 
 next-link-requires-3 : tie.Need-next-link-requires-3 Inv-loop μ-loop
-next-link-requires-3 c κs = c .before .before .before .before .before .before .before .before .before .before .before .before .before .before .before .before .before .before .pre .0
+next-link-requires-3 c κs =
+    c .before .before .before .before .before .before .before .before .before .before .before .before .before .before .before .before .before .before .pre .0
 
 loop-less : tie.Need-loop-less Inv-loop μ-loop
 loop-less c =
-    let a = c .before .before .before .before .before .before .before .before .before .before .before .before .before .before .before .before .before .before .before .args in
+    let a = c .before .before .before .before .before .before .before .before .before .before .before .before .before .before .before .before .before .before
+    .before .args in
     let l = c .before .before .before .before .before .before .before .before .before .before .before .before .before .loop in
-    omega (arith, walk-length (a .file .now) (a .b) (l .i) (c .before .before .next-link .result) (c .before .before .before .before .before .before .before .before .before .before .before .before .loop-test .taken) (l .inv .0) (c .before .before .next-link .ensures))
+    omega (
+      arith,
+      walk-length (a .file .now) (a .b) (l .i) (c .before .before .next-link .result)
+          (c .before .before .before .before .before .before .before .before .before .before .before .before .loop-test .taken) (l .inv .0)
+          (c .before .before .next-link .ensures),
+    )
 
 loop-again : tie.Need-loop-again Inv-loop μ-loop
 loop-again c =
-    let a = c .before .before .before .before .before .before .before .before .before .before .before .before .before .before .before .before .before .before .before .args in
+    let a = c .before .before .before .before .before .before .before .before .before .before .before .before .before .before .before .before .before .before
+    .before .args in
     let l = c .before .before .before .before .before .before .before .before .before .before .before .before .before .loop in
     let b = bundleAt (a .file .now) (a .b) in
-    let w = c .before .before .before .before .before .before .before .before .before .before .before .before .before .before .before .before .before .before .before .pre .0 .within .links in
-    let k-some : l .k ≡ 0 → ⊥ = eqb-false (l .k) 0 (or-none (eqb (l .j) 0) (eqb (l .k) 0) (c .before .before .before .before .before .before .before .before .before .before .before .if1 .left) .1) in
+    let w = c .before .before .before .before .before .before .before .before .before .before .before .before .before .before .before .before .before .before
+    .before .pre .0 .within .links in
+    let k-some : l .k ≡ 0 → ⊥ =
+    eqb-false (l .k) 0
+    (or-none (eqb (l .j) 0) (eqb (l .k) 0) (c .before .before .before .before .before .before .before .before .before .before .before .if1 .left) .1) in
     let u = c .before .before .next-link in
     let v = c .before .next-link2 in
     let z = c .next-link3 in
     let u-le = walk-le (a .file .now) (a .b) (l .i) (u .result) (u .ensures) in
     let v-le = walk-le (a .file .now) (a .b) (l .j) (v .result) (v .ensures) in
     let room : l .k < length (l .carried) = omega (arith, l .inv .2, l .inv .4) in
-    let same : allProveBy (stepIn b (a .bed .now)) false (a .context) (items b (l .i)) (items b (l .j)) (items b (l .k)) ≡ allProveBy (stepIn b (a .bed .now)) false (a .context) (items b (u .result)) (items b (v .result)) (items b (z .result)) =
+    let same : allProveBy (stepIn b (a .bed .now)) false (a .context) (items b (l .i)) (items b (l .j)) (items b (l .k)) ≡ allProveBy (stepIn b (a .bed .now))
+    false (a .context) (items b (u .result)) (items b (v .result)) (items b (z .result)) =
     rw (
-      prove-on (a .file .now) (a .b) (stepIn (bundleAt (a .file .now) (a .b)) (a .bed .now)) false (a .context) (c .before .before .before .before .before .before .before .before .before .before .before .before .loop-test .taken) (l .inv .0) (l .inv .1) (l .inv .2) (c .before .before .before .before .before .before .before .before .before .before .before .if1 .left) (c .before .before .before .before .before .before .before .link-field .ensures) (c .before .before .before .before .before .before .link-field2 .ensures) (c .before .before .before .before .before .link-field3 .ensures) (c .before .before .before .before .step-carries .ensures),
+      prove-on (a .file .now) (a .b) (stepIn (bundleAt (a .file .now) (a .b)) (a .bed .now)) false (a .context)
+          (c .before .before .before .before .before .before .before .before .before .before .before .before .loop-test .taken) (l .inv .0) (l .inv .1)
+          (l .inv .2) (c .before .before .before .before .before .before .before .before .before .before .before .if1 .left)
+          (c .before .before .before .before .before .before .before .link-field .ensures)
+          (c .before .before .before .before .before .before .link-field2 .ensures) (c .before .before .before .before .before .link-field3 .ensures)
+          (c .before .before .before .before .step-carries .ensures),
       not-false (c .before .before .before .before .step-carries .result) (c .before .before .before .if3 .left),
       u .ensures,
       v .ensures,
@@ -166,7 +197,8 @@ loop-again c =
       l .inv .3 ∙ same,
       rw length-set (l .inv .4),
       rw (c .before .before .before .before .before .before .before .before .before .before .key .ensures)
-          (way-on (CarriedFrom (stepIn b (a .bed .now)) b) (l .carried) (keyOf (a .context) (l .i) (l .j)) (l .k) (keyOf (a .context) (u .result) (v .result)) (z .result)
+          (way-on (CarriedFrom (stepIn b (a .bed .now)) b) (l .carried) (keyOf (a .context) (l .i) (l .j)) (l .k) (keyOf (a .context) (u .result) (v .result))
+          (z .result)
           (l .inv .5) k-some room (walk-up (a .file .now) (a .b) (l .k) (z .result) (z .ensures))
           (λ e. carried-key (stepIn b (a .bed .now)) b (a .context) (l .i) (l .j) (l .k) (omega (arith, w, l .inv .0)) (omega (arith, w, l .inv .1))
           (same ∙ e (a .context) (u .result) (v .result) (omega (arith, w, u-le)) (omega (arith, w, v-le)) refl))),
@@ -186,7 +218,8 @@ returns-4 c =
     let w = c .before .before .before .before .before .before .before .pre .0 .within .links in (
       sym (l .inv .3 ∙ same),
       λ e. way-end (CarriedFrom (stepIn b (a .bed .now)) b) (a .b .links) (l .carried) (keyOf (a .context) (l .i) (l .j)) (l .k) (l .inv .5)
-          (carried-key (stepIn b (a .bed .now)) b (a .context) (l .i) (l .j) (l .k) (omega (arith, w, l .inv .0)) (omega (arith, w, l .inv .1)) (same ∙ e)) (l .inv .4),
+          (carried-key (stepIn b (a .bed .now)) b (a .context) (l .i) (l .j) (l .k) (omega (arith, w, l .inv .0)) (omega (arith, w, l .inv .1)) (same ∙ e))
+          (l .inv .4),
     )
 
 pub all-carried-spec : {M : Type 1} → statement M

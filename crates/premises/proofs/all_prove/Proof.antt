@@ -18,7 +18,8 @@ use Rattle.premises.proofs.all_prove.Tie as tie
 abbrev Inv-loop : tie.InvT-loop
 Inv-loop file b bed body context lefts rights premises i₀ j₀ k₀ i j k =
     (i ≤ b .links) × (j ≤ b .links) × (k ≤ b .links)
-    × (allProveBy (stepIn (bundleAt file b) bed) body context (items (bundleAt file b) lefts) (items (bundleAt file b) rights) (items (bundleAt file b) premises)
+    × (allProveBy (stepIn (bundleAt file b) bed) body context (items (bundleAt file b) lefts) (items (bundleAt file b) rights)
+    (items (bundleAt file b) premises)
     ≡ allProveBy (stepIn (bundleAt file b) bed) body context (items (bundleAt file b) i) (items (bundleAt file b) j) (items (bundleAt file b) k))
 
 abbrev μ-loop : tie.MeasureT-loop
@@ -42,7 +43,11 @@ loop-holds c =
       walk-start-le (a .file .now) (a .b) (a .lefts) (r .result) (r .ensures),
       walk-start-le (a .file .now) (a .b) (a .rights) (s .result) (s .ensures),
       walk-start-le (a .file .now) (a .b) (a .premises) (t .result) (t .ensures),
-      rw (walk-start (a .file .now) (a .b) (a .lefts) (r .result) (r .ensures), walk-start (a .file .now) (a .b) (a .rights) (s .result) (s .ensures), walk-start (a .file .now) (a .b) (a .premises) (t .result) (t .ensures)),
+      rw (
+        walk-start (a .file .now) (a .b) (a .lefts) (r .result) (r .ensures),
+        walk-start (a .file .now) (a .b) (a .rights) (s .result) (s .ensures),
+        walk-start (a .file .now) (a .b) (a .premises) (t .result) (t .ensures),
+      ),
     )
 
 returns : tie.Need-returns Inv-loop μ-loop
@@ -51,7 +56,8 @@ returns c =
     let l = c .before .before .loop in
     rw (
       l .inv .3,
-      prove-short (a .file .now) (a .b) (stepIn (bundleAt (a .file .now) (a .b)) (a .bed .now)) (a .body) (a .context) (l .i) (l .j) (l .k) (c .before .loop-test .taken) (l .inv .0) (l .inv .1) (l .inv .2) (c .if1 .taken),
+      prove-short (a .file .now) (a .b) (stepIn (bundleAt (a .file .now) (a .b)) (a .bed .now)) (a .body) (a .context) (l .i) (l .j) (l .k)
+          (c .before .loop-test .taken) (l .inv .0) (l .inv .1) (l .inv .2) (c .if1 .taken),
     )
 
 link-field-requires : tie.Need-link-field-requires Inv-loop μ-loop
@@ -72,7 +78,10 @@ returns-2 c =
     let l = c .before .before .before .before .before .before .before .loop in
     rw (
       l .inv .3,
-      prove-on (a .file .now) (a .b) (stepIn (bundleAt (a .file .now) (a .b)) (a .bed .now)) (a .body) (a .context) (c .before .before .before .before .before .before .loop-test .taken) (l .inv .0) (l .inv .1) (l .inv .2) (c .before .before .before .before .before .if1 .left) (c .before .before .before .before .link-field .ensures) (c .before .before .before .link-field2 .ensures) (c .before .before .link-field3 .ensures) (c .before .step-carries .ensures),
+      prove-on (a .file .now) (a .b) (stepIn (bundleAt (a .file .now) (a .b)) (a .bed .now)) (a .body) (a .context)
+          (c .before .before .before .before .before .before .loop-test .taken) (l .inv .0) (l .inv .1) (l .inv .2)
+          (c .before .before .before .before .before .if1 .left) (c .before .before .before .before .link-field .ensures)
+          (c .before .before .before .link-field2 .ensures) (c .before .before .link-field3 .ensures) (c .before .step-carries .ensures),
       not-true (c .before .step-carries .result) (c .if2 .taken),
     )
 
@@ -89,7 +98,11 @@ loop-less : tie.Need-loop-less Inv-loop μ-loop
 loop-less c =
     let a = c .before .before .before .before .before .before .before .before .before .before .before .before .before .before .before .before .args in
     let l = c .before .before .before .before .before .before .before .before .before .before .loop in
-    omega (arith, walk-length (a .file .now) (a .b) (l .i) (c .before .before .next-link .result) (c .before .before .before .before .before .before .before .before .before .loop-test .taken) (l .inv .0) (c .before .before .next-link .ensures))
+    omega (
+      arith,
+      walk-length (a .file .now) (a .b) (l .i) (c .before .before .next-link .result)
+          (c .before .before .before .before .before .before .before .before .before .loop-test .taken) (l .inv .0) (c .before .before .next-link .ensures),
+    )
 
 loop-again : tie.Need-loop-again Inv-loop μ-loop
 loop-again c =
@@ -100,7 +113,12 @@ loop-again c =
       walk-le (a .file .now) (a .b) (l .k) (c .next-link3 .result) (c .next-link3 .ensures),
       rw (
         l .inv .3,
-        prove-on (a .file .now) (a .b) (stepIn (bundleAt (a .file .now) (a .b)) (a .bed .now)) (a .body) (a .context) (c .before .before .before .before .before .before .before .before .before .loop-test .taken) (l .inv .0) (l .inv .1) (l .inv .2) (c .before .before .before .before .before .before .before .before .if1 .left) (c .before .before .before .before .before .before .before .link-field .ensures) (c .before .before .before .before .before .before .link-field2 .ensures) (c .before .before .before .before .before .link-field3 .ensures) (c .before .before .before .before .step-carries .ensures),
+        prove-on (a .file .now) (a .b) (stepIn (bundleAt (a .file .now) (a .b)) (a .bed .now)) (a .body) (a .context)
+            (c .before .before .before .before .before .before .before .before .before .loop-test .taken) (l .inv .0) (l .inv .1) (l .inv .2)
+            (c .before .before .before .before .before .before .before .before .if1 .left)
+            (c .before .before .before .before .before .before .before .link-field .ensures)
+            (c .before .before .before .before .before .before .link-field2 .ensures) (c .before .before .before .before .before .link-field3 .ensures)
+            (c .before .before .before .before .step-carries .ensures),
         not-false (c .before .before .before .before .step-carries .result) (c .before .before .before .if2 .left),
         c .before .before .next-link .ensures,
         c .before .next-link2 .ensures,

@@ -35,8 +35,12 @@ loop-less c = omega arith
 
 loop-again : tie.Need-loop-again Inv-loop μ-loop
 loop-again c =
-    let l = c .before .loop in
-    (omega arith, simp length-set (l .inv .1), filled-more (λ k. 0) (c .before .before .args .area .now) (c .before .before .args .at) (l .k) 0 (l .area) (l .inv .2) refl)
+    let l = c .before .loop in (
+      omega arith,
+      simp length-set (l .inv .1),
+      filled-more (λ k. 0) (c .before .before .args .area .now) (c .before .before .args .at) (l .k) 0 (l .area)
+          (l .inv .2) refl,
+    )
 
 same-length : tie.Need-same-length Inv-loop μ-loop
 same-length c = c .before .loop .inv .1

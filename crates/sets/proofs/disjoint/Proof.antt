@@ -49,8 +49,11 @@ loop-less c = omega arith
 loop-again : tie.Need-loop-again Inv-loop μ-loop
 loop-again c =
     let a = c .before .before .before .before .before .args in
-    let l = c .before .before .before .before .loop in
-    (omega arith, l .inv .1 ∙ disjoint-on (a .area .now) (a .first) (a .other .now) (a .second) (l .k) (c .before .before .before .loop-test .taken) (c .if1 .left))
+    let l = c .before .before .before .before .loop in (
+      omega arith,
+      l .inv .1 ∙ disjoint-on (a .area .now) (a .first) (a .other .now) (a .second) (l .k) (c .before .before .before .loop-test .taken)
+          (c .if1 .left),
+    )
 
 returns-2 : tie.Need-returns-2 Inv-loop μ-loop
 unfolding disjointOf

@@ -45,7 +45,12 @@ same-length c = search needs
 
 returns-3 : tie.Need-returns-3
 unfolding changed
-returns-3 c = rw (holds-word (c .before .before .before .before .before .args .n) (c .before .before .before .before .before .args .v) (c .before .before .before .if1 .left) (c .before .before .if2 .left), c .with-bit .ensures)
+returns-3 c =
+    rw (
+      holds-word (c .before .before .before .before .before .args .n) (c .before .before .before .before .before .args .v)
+          (c .before .before .before .if1 .left) (c .before .before .if2 .left),
+      c .with-bit .ensures,
+    )
 
 pub insert-spec : {M : Type 1} → statement M
 insert-spec =

@@ -33,7 +33,9 @@ bit-at-requires c κs = search needs
 
 returns-3 : tie.Need-returns-3
 unfolding member
-returns-3 c = rw (holds-word (c .before .before .before .before .before .args .n) (c .before .before .before .before .before .args .v) (c .before .before .before .if1 .left) (c .before .before .if2 .left)) (c .bit-at .ensures)
+returns-3 c =
+    rw (holds-word (c .before .before .before .before .before .args .n) (c .before .before .before .before .before .args .v)
+    (c .before .before .before .if1 .left) (c .before .before .if2 .left)) (c .bit-at .ensures)
 
 pub member-spec : {M : Type 1} → statement M
 member-spec =

@@ -66,7 +66,9 @@ loop-again c =
     let w = a .lists .now in
     let g : ℕ → ℕ = λ k. bitOr (getD (a .area .now) (a .first + k) 0) (getD w (a .second + k) 0) in
     let y : getD (l .lists) (a .second + l .k) 0 ≡ getD w (a .second + l .k) 0 =
-    rw (l .inv .2) (filled-out g w (a .to) (l .k) (a .second + l .k) (still (a .n) (l .k) (a .second) (a .to) (omega arith) (c .before .before .before .before .pre .0))) in
+    rw (l .inv .2)
+    (filled-out g w (a .to) (l .k) (a .second + l .k)
+    (still (a .n) (l .k) (a .second) (a .to) (omega arith) (c .before .before .before .before .pre .0))) in
     (omega arith, simp length-set (l .inv .1), filled-more g w (a .to) (l .k) _ (l .lists) (l .inv .2) (rw y))
 
 same-length : tie.Need-same-length Inv-loop μ-loop

@@ -26,7 +26,14 @@ mul-wide : tie.Need-mul-wide
 mul-wide c = search needs
 
 slice-read-wide : tie.Need-slice-read-wide
-slice-read-wide c = omega (arith, c .before .before .before .before .before .before .before .pre .2 .marked, c .before .before .before .before .before .before .before .pre .4, links-length (c .before .before .before .before .before .before .before .args .file .now) (c .before .before .before .before .before .before .before .args .b))
+slice-read-wide c =
+    omega (
+      arith,
+      c .before .before .before .before .before .before .before .pre .2 .marked,
+      c .before .before .before .before .before .before .before .pre .4,
+      links-length (c .before .before .before .before .before .before .before .args .file .now)
+          (c .before .before .before .before .before .before .before .args .b),
+    )
 
 wide-requires : tie.Need-wide-requires
 wide-requires c κs = search needs
@@ -41,7 +48,19 @@ returns-2 : tie.Need-returns-2
 returns-2 c = search needs
 
 is-known-requires : tie.Need-is-known-requires
-is-known-requires c κs = omega (arith, c .before .before .before .before .before .before .before .before .before .before .before .before .pre .2 .marked, links-length (c .before .before .before .before .before .before .before .before .before .before .before .before .args .file .now) (c .before .before .before .before .before .before .before .before .before .before .before .before .args .b), walk-le (c .before .before .before .before .before .before .before .before .before .before .before .before .args .file .now) (c .before .before .before .before .before .before .before .before .before .before .before .before .args .b) (c .before .before .before .before .before .before .before .before .before .before .before .before .args .k) (c .before .before .before .before .before .before .next-link .result) (c .before .before .before .before .before .before .next-link .ensures))
+is-known-requires c κs =
+    omega (
+      arith,
+      c .before .before .before .before .before .before .before .before .before .before .before .before .pre .2 .marked,
+      links-length
+          (c .before .before .before .before .before .before .before .before .before .before .before .before .args .file .now)
+          (c .before .before .before .before .before .before .before .before .before .before .before .before .args .b),
+      walk-le
+          (c .before .before .before .before .before .before .before .before .before .before .before .before .args .file .now)
+          (c .before .before .before .before .before .before .before .before .before .before .before .before .args .b)
+          (c .before .before .before .before .before .before .before .before .before .before .before .before .args .k)
+          (c .before .before .before .before .before .before .next-link .result) (c .before .before .before .before .before .before .next-link .ensures),
+    )
 
 same-length : tie.Need-same-length
 same-length c = search needs
@@ -53,52 +72,112 @@ mul-join : tie.Need-mul-join
 mul-join c =
     let a = c .before .before .before .before .before .before .before .before .before .before .before .before .before .before .before .args in
     let B = bundleAt (a .file .now) (a .b) in
-    let link : a .k ≤ length (B .links) = omega (arith, c .before .before .before .before .before .before .before .before .before .before .before .before .before .before .before .pre .4, links-length (a .file .now) (a .b)) in
-    let fits : a .n * a .k + a .n ≤ length (a .lists .now) = link-fits (a .n) (a .k) (length (B .links)) (length (a .lists .now)) link (c .before .before .before .before .before .before .before .before .before .before .before .before .before .before .before .pre .2 .room) in
+    let link : a .k ≤ length (B .links) =
+    omega (
+      arith,
+      c .before .before .before .before .before .before .before .before .before .before .before .before .before .before .before .pre .4,
+      links-length (a .file .now) (a .b),
+    ) in
+    let fits : a .n * a .k + a .n ≤ length (a .lists .now) =
+    link-fits (a .n) (a .k) (length (B .links)) (length (a .lists .now)) link
+    (c .before .before .before .before .before .before .before .before .before .before .before .before .before .before .before .pre .2 .room) in
     omega arith
 
 sub-join : tie.Need-sub-join
 sub-join c =
-    let low : numbers (c .before .before .before .before .before .before .before .before .before .before .before .before .before .before .before .args .t - 1) (c .before .before .before .before .before .before .before .before .before .before .link-field .result) ≡ true = sym (c .before .before .before .before .before .is-lower .ensures) ∙ not-false (c .before .before .before .before .before .is-lower .result) (c .before .before .before .before .if2 .left) in
-    numbers-of (c .before .before .before .before .before .before .before .before .before .before .before .before .before .before .before .args .t - 1) (c .before .before .before .before .before .before .before .before .before .before .link-field .result) low .0
+    let low : numbers (c .before .before .before .before .before .before .before .before .before .before .before .before .before .before .before .args .t - 1)
+    (c .before .before .before .before .before .before .before .before .before .before .link-field .result) ≡ true =
+    sym (c .before .before .before .before .before .is-lower .ensures)
+    ∙ not-false (c .before .before .before .before .before .is-lower .result) (c .before .before .before .before .if2 .left) in
+    numbers-of (c .before .before .before .before .before .before .before .before .before .before .before .before .before .before .before .args .t - 1)
+    (c .before .before .before .before .before .before .before .before .before .before .link-field .result) low .0
 
 mul-join-2 : tie.Need-mul-join-2
 mul-join-2 c =
     let a = c .before .before .before .before .before .before .before .before .before .before .before .before .before .before .before .args in
-    let low : numbers (a .t - 1) (c .before .before .before .before .before .before .before .before .before .before .link-field .result) ≡ true = sym (c .before .before .before .before .before .is-lower .ensures) ∙ not-false (c .before .before .before .before .before .is-lower .result) (c .before .before .before .before .if2 .left) in
+    let low : numbers (a .t - 1) (c .before .before .before .before .before .before .before .before .before .before .link-field .result) ≡ true =
+    sym (c .before .before .before .before .before .is-lower .ensures)
+    ∙ not-false (c .before .before .before .before .before .is-lower .result) (c .before .before .before .before .if2 .left) in
     let p = numbers-of (a .t - 1) (c .before .before .before .before .before .before .before .before .before .before .link-field .result) low in
-    let fits : a .n * (c .before .before .before .before .before .before .before .before .before .before .link-field .result - 1) + a .n ≤ a .n * (a .t - 1) = record-within (a .n) (a .t - 1) (c .before .before .before .before .before .before .before .before .before .before .link-field .result) (λ z. omega arith) (p .1) in
+    let fits : a .n * (c .before .before .before .before .before .before .before .before .before .before .link-field .result - 1) + a .n ≤ a .n * (a .t - 1) =
+    record-within (a .n) (a .t - 1) (c .before .before .before .before .before .before .before .before .before .before .link-field .result)
+    (λ z. omega arith) (p .1) in
     omega (arith, c .before .before .before .before .before .before .before .before .before .before .before .before .before .before .before .pre .1 .fits)
 
 mul-join-3 : tie.Need-mul-join-3
 mul-join-3 c =
     let a = c .before .before .before .before .before .before .before .before .before .before .before .before .before .before .before .args in
     let B = bundleAt (a .file .now) (a .b) in
-    let link : c .before .before .before .before .before .before .before .before .before .next-link .result ≤ length (B .links) = omega (arith, links-length (a .file .now) (a .b), walk-le (a .file .now) (a .b) (a .k) (c .before .before .before .before .before .before .before .before .before .next-link .result) (c .before .before .before .before .before .before .before .before .before .next-link .ensures)) in
-    let fits : a .n * c .before .before .before .before .before .before .before .before .before .next-link .result + a .n ≤ length (a .lists .now) = link-fits (a .n) (c .before .before .before .before .before .before .before .before .before .next-link .result) (length (B .links)) (length (a .lists .now)) link (c .before .before .before .before .before .before .before .before .before .before .before .before .before .before .before .pre .2 .room) in
+    let link : c .before .before .before .before .before .before .before .before .before .next-link .result ≤ length (B .links) =
+    omega (
+      arith,
+      links-length (a .file .now) (a .b),
+      walk-le (a .file .now) (a .b) (a .k)
+          (c .before .before .before .before .before .before .before .before .before .next-link .result)
+          (c .before .before .before .before .before .before .before .before .before .next-link .ensures),
+    ) in
+    let fits : a .n * c .before .before .before .before .before .before .before .before .before .next-link .result + a .n ≤ length (a .lists .now) =
+    link-fits (a .n) (c .before .before .before .before .before .before .before .before .before .next-link .result) (length (B .links))
+    (length (a .lists .now)) link
+    (c .before .before .before .before .before .before .before .before .before .before .before .before .before .before .before .pre .2 .room) in
     omega arith
 
 join-requires : tie.Need-join-requires
 join-requires c κs =
     let a = c .before .before .before .before .before .before .before .before .before .before .before .before .before .before .before .args in
     let B = bundleAt (a .file .now) (a .b) in
-    let link : a .k ≤ length (B .links) = omega (arith, c .before .before .before .before .before .before .before .before .before .before .before .before .before .before .before .pre .4, links-length (a .file .now) (a .b)) in
-    let next : c .before .before .before .before .before .before .before .before .before .next-link .result ≤ length (B .links) = omega (arith, links-length (a .file .now) (a .b), walk-le (a .file .now) (a .b) (a .k) (c .before .before .before .before .before .before .before .before .before .next-link .result) (c .before .before .before .before .before .before .before .before .before .next-link .ensures)) in
-    let low : numbers (a .t - 1) (c .before .before .before .before .before .before .before .before .before .before .link-field .result) ≡ true = sym (c .before .before .before .before .before .is-lower .ensures) ∙ not-false (c .before .before .before .before .before .is-lower .result) (c .before .before .before .before .if2 .left) in
+    let link : a .k ≤ length (B .links) =
+    omega (
+      arith,
+      c .before .before .before .before .before .before .before .before .before .before .before .before .before .before .before .pre .4,
+      links-length (a .file .now) (a .b),
+    ) in
+    let next : c .before .before .before .before .before .before .before .before .before .next-link .result ≤ length (B .links) =
+    omega (
+      arith,
+      links-length (a .file .now) (a .b),
+      walk-le (a .file .now) (a .b) (a .k)
+          (c .before .before .before .before .before .before .before .before .before .next-link .result)
+          (c .before .before .before .before .before .before .before .before .before .next-link .ensures),
+    ) in
+    let low : numbers (a .t - 1) (c .before .before .before .before .before .before .before .before .before .before .link-field .result) ≡ true =
+    sym (c .before .before .before .before .before .is-lower .ensures)
+    ∙ not-false (c .before .before .before .before .before .is-lower .result) (c .before .before .before .before .if2 .left) in
     let p = numbers-of (a .t - 1) (c .before .before .before .before .before .before .before .before .before .before .link-field .result) low in
-    let fits : a .n * (c .before .before .before .before .before .before .before .before .before .before .link-field .result - 1) + a .n ≤ a .n * (a .t - 1) = record-within (a .n) (a .t - 1) (c .before .before .before .before .before .before .before .before .before .before .link-field .result) (λ z. omega arith) (p .1) in
-    let within : a .n * (a .t - 1) ≤ length (a .area .now) = c .before .before .before .before .before .before .before .before .before .before .before .before .before .before .before .pre .1 .fits in (
-      apart (a .n) (c .before .before .before .before .before .before .before .before .before .next-link .result) (a .k) (next-side (a .k) (c .before .before .before .before .before .before .before .before .before .next-link .result) (c .before .before .before .before .before .before .before .before .before .before .before .before .before .before .before .pre .3) (walk-up (a .file .now) (a .b) (a .k) (c .before .before .before .before .before .before .before .before .before .next-link .result) (c .before .before .before .before .before .before .before .before .before .next-link .ensures))),
+    let fits : a .n * (c .before .before .before .before .before .before .before .before .before .before .link-field .result - 1) + a .n ≤ a .n * (a .t - 1) =
+    record-within (a .n) (a .t - 1) (c .before .before .before .before .before .before .before .before .before .before .link-field .result)
+    (λ z. omega arith) (p .1) in
+    let within : a .n * (a .t - 1) ≤ length (a .area .now) =
+    c .before .before .before .before .before .before .before .before .before .before .before .before .before .before .before .pre .1 .fits in (
+      apart (a .n) (c .before .before .before .before .before .before .before .before .before .next-link .result) (a .k)
+          (next-side (a .k) (c .before .before .before .before .before .before .before .before .before .next-link .result)
+          (c .before .before .before .before .before .before .before .before .before .before .before .before .before .before .before .pre .3)
+          (walk-up (a .file .now) (a .b) (a .k) (c .before .before .before .before .before .before .before .before .before .next-link .result)
+          (c .before .before .before .before .before .before .before .before .before .next-link .ensures))),
       omega arith,
-      link-fits (a .n) (c .before .before .before .before .before .before .before .before .before .next-link .result) (length (B .links)) (length (a .lists .now)) next (c .before .before .before .before .before .before .before .before .before .before .before .before .before .before .before .pre .2 .room),
-      link-fits (a .n) (a .k) (length (B .links)) (length (a .lists .now)) link (c .before .before .before .before .before .before .before .before .before .before .before .before .before .before .before .pre .2 .room),
+      link-fits (a .n) (c .before .before .before .before .before .before .before .before .before .next-link .result) (length (B .links))
+          (length (a .lists .now)) next
+          (c .before .before .before .before .before .before .before .before .before .before .before .before .before .before .before .pre .2 .room),
+      link-fits (a .n) (a .k) (length (B .links)) (length (a .lists .now)) link
+          (c .before .before .before .before .before .before .before .before .before .before .before .before .before .before .before .pre .2 .room),
     )
 
 mul-marks : tie.Need-mul-marks
 mul-marks c = search needs
 
 slice-write-marks : tie.Need-slice-write-marks
-slice-write-marks c = omega (arith, c .before .before .before .before .before .before .before .before .before .before .before .before .before .before .before .before .before .before .pre .2 .marked, c .before .before .before .before .before .before .before .before .before .before .before .before .before .before .before .before .before .before .pre .4, links-length (c .before .before .before .before .before .before .before .before .before .before .before .before .before .before .before .before .before .before .args .file .now) (c .before .before .before .before .before .before .before .before .before .before .before .before .before .before .before .before .before .before .args .b))
+slice-write-marks c =
+    omega (
+      arith,
+      c .before .before .before .before .before .before .before .before .before .before .before .before .before .before .before .before .before
+          .before .pre .2 .marked,
+      c .before .before .before .before .before .before .before .before .before .before .before .before .before .before .before .before .before .before .pre .4,
+      links-length (c .before .before .before .before .before .before .before .before .before .before .before .before .before .before .before .before .before
+          .before .args .file .now)
+          (c .before .before .before .before .before .before .before .before .before .before .before .before .before .before .before .before .before .before
+          .args
+          .b),
+    )
 
 same-length-2 : tie.Need-same-length-2
 same-length-2 c = search needs
@@ -108,15 +187,44 @@ same-length-3 c = search needs
 
 returns-4 : tie.Need-returns-4
 returns-4 c =
-    let a = c .before .before .before .before .before .before .before .before .before .before .before .before .before .before .before .before .before .before .args in
+    let a = c .before .before .before .before .before .before .before .before .before .before .before .before .before .before .before .before .before .before
+    .args in
     let B = bundleAt (a .file .now) (a .b) in
-    let link : a .k ≤ length (B .links) = omega (arith, c .before .before .before .before .before .before .before .before .before .before .before .before .before .before .before .before .before .before .pre .4, links-length (a .file .now) (a .b)) in
-    let some : a .k ≡ 0 → ⊥ = λ z. omega (arith, c .before .before .before .before .before .before .before .before .before .before .before .before .before .before .before .before .before .before .pre .3) in
-    let low : numbers (a .t - 1) (c .before .before .before .before .before .before .before .before .before .before .before .before .before .link-field .result) ≡ true = sym (c .before .before .before .before .before .before .before .before .is-lower .ensures) ∙ not-false (c .before .before .before .before .before .before .before .before .is-lower .result) (c .before .before .before .before .before .before .before .if2 .left) in
-    let then : known (a .marks .now) (c .before .before .before .before .before .before .before .before .before .before .before .before .next-link .result) ≡ true = sym (c .before .before .before .before .before .is-known .ensures) ∙ not-false (c .before .before .before .before .before .is-known .result) (c .before .before .before .before .if3 .left) in (
+    let link : a .k ≤ length (B .links) =
+    omega (
+      arith,
+      c .before .before .before .before .before .before .before .before .before .before .before .before .before .before .before .before .before
+          .before .pre .4,
+      links-length (a .file .now) (a .b),
+    ) in
+    let some : a .k ≡ 0 → ⊥ =
+    λ z. omega (
+      arith,
+      c .before .before .before .before .before .before .before .before .before .before .before .before .before .before .before .before
+          .before .before .pre .3,
+    ) in
+    let low : numbers (a .t - 1) (c .before .before .before .before .before .before .before .before .before .before .before .before .before .link-field .result)
+    ≡ true = sym (c .before .before .before .before .before .before .before .before .is-lower .ensures)
+    ∙ not-false (c .before .before .before .before .before .before .before .before .is-lower .result)
+    (c .before .before .before .before .before .before .before .if2 .left) in
+    let then : known (a .marks .now) (c .before .before .before .before .before .before .before .before .before .before .before .before .next-link .result)
+    ≡ true = sym (c .before .before .before .before .before .is-known .ensures)
+    ∙ not-false (c .before .before .before .before .before .is-known .result) (c .before .before .before .before .if3 .left) in (
       c .before .before .before .before .before .before .before .before .before .if1 .left,
-      unions-learnt (a .area .now) (a .lists .now) (a .marks .now) (a .n) (a .t) (a .k) (c .before .before .before .before .before .before .before .before .before .before .before .before .before .link-field .result) (c .before .before .before .before .before .before .before .before .before .before .before .before .next-link .result) B (c .before .before .before .before .before .before .before .before .before .before .before .before .before .before .before .before .before .before .pre .1) (c .before .before .before .before .before .before .before .before .before .before .before .before .before .before .before .before .before .before .pre .2) (c .before .before .before .before .before .before .before .before .before .before .before .before .before .before .before .before .before .before .pre .3) link
-          (walk-cons (a .file .now) (a .b) (a .k) (c .before .before .before .before .before .before .before .before .before .before .before .before .before .link-field .result) (c .before .before .before .before .before .before .before .before .before .before .before .before .next-link .result) some (c .before .before .before .before .before .before .before .before .before .before .before .before .before .before .before .before .before .before .pre .4) (c .before .before .before .before .before .before .before .before .before .before .before .before .before .link-field .ensures) (c .before .before .before .before .before .before .before .before .before .before .before .before .next-link .ensures))
+      unions-learnt (a .area .now) (a .lists .now) (a .marks .now) (a .n) (a .t) (a .k)
+          (c .before .before .before .before .before .before .before .before .before .before .before .before .before .link-field .result)
+          (c .before .before .before .before .before .before .before .before .before .before .before .before .next-link .result) B
+          (c .before .before .before .before .before .before .before .before .before .before .before .before .before .before .before .before .before .before
+          .pre .1) (c .before .before .before .before .before .before .before .before .before .before .before .before .before .before .before .before .before
+          .before .pre .2)
+          (c .before .before .before .before .before .before .before .before .before .before .before .before .before .before .before .before .before .before
+          .pre .3) link
+          (walk-cons (a .file .now) (a .b) (a .k)
+          (c .before .before .before .before .before .before .before .before .before .before .before .before .before .link-field .result)
+          (c .before .before .before .before .before .before .before .before .before .before .before .before .next-link .result) some
+          (c .before .before .before .before .before .before .before .before .before .before .before .before .before .before .before .before .before .before
+          .pre .4) (c .before .before .before .before .before .before .before .before .before .before .before .before .before .link-field .ensures)
+          (c .before .before .before .before .before .before .before .before .before .before .before .before .next-link .ensures))
           low then (c .before .before .join .last .0) _ (c .before .before .join .ensures) refl,
     )
 

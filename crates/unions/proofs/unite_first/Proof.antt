@@ -36,7 +36,9 @@ link-field-requires : tie.Need-link-field-requires Inv-loop μ-loop
 link-field-requires c κs = search needs
 
 unite-term-requires : tie.Need-unite-term-requires Inv-loop μ-loop
-unite-term-requires c κs = let a = c .before .before .before .before .before .before .before .args in room-kept (a .area .now) (c .before .before .before .loop .area) (a .n) (a .t) (a .at) (c .before .before .before .before .before .before .before .pre .1) (c .before .before .before .loop .inv .1 .kept)
+unite-term-requires c κs = let a = c .before .before .before .before .before .before .before .args in
+    room-kept (a .area .now) (c .before .before .before .loop .area) (a .n) (a .t) (a .at) (c .before .before .before .before .before .before .before .pre .1)
+    (c .before .before .before .loop .inv .1 .kept)
 
 next-link-requires : tie.Need-next-link-requires Inv-loop μ-loop
 next-link-requires c κs = c .before .before .before .before .before .before .before .before .before .before .pre .0
@@ -49,20 +51,31 @@ sub-left c =
 loop-less : tie.Need-loop-less Inv-loop μ-loop
 loop-less c =
     let a = c .before .before .before .before .before .before .before .before .before .before .before .args in
-    let some = both-some (c .before .before .before .before .before .before .before .loop .i) (c .before .before .before .before .before .before .before .loop .left) (c .before .before .before .before .before .before .loop-test .taken) .0 in
-    omega (arith, walk-length (a .file .now) (a .b) (c .before .before .before .before .before .before .before .loop .i) (c .next-link .result) some (c .before .before .before .before .before .before .before .loop .inv .0) (c .next-link .ensures))
+    let some = both-some (c .before .before .before .before .before .before .before .loop .i)
+    (c .before .before .before .before .before .before .before .loop .left) (c .before .before .before .before .before .before .loop-test .taken) .0 in
+    omega (
+      arith,
+      walk-length (a .file .now) (a .b) (c .before .before .before .before .before .before .before .loop .i) (c .next-link .result) some
+          (c .before .before .before .before .before .before .before .loop .inv .0) (c .next-link .ensures),
+    )
 
 loop-again : tie.Need-loop-again Inv-loop μ-loop
 loop-again c =
     let a = c .before .before .before .before .before .before .before .before .before .before .before .args in
-    let some = both-some (c .before .before .before .before .before .before .before .loop .i) (c .before .before .before .before .before .before .before .loop .left) (c .before .before .before .before .before .before .loop-test .taken) .0 in
+    let some = both-some (c .before .before .before .before .before .before .before .loop .i)
+    (c .before .before .before .before .before .before .before .loop .left) (c .before .before .before .before .before .before .loop-test .taken) .0 in
     let l = c .before .before .before .before .before .before .before .loop in
     let b = bundleAt (a .file .now) (a .b) in (
       walk-le (a .file .now) (a .b) (l .i) (c .next-link .result) (c .next-link .ensures),
       record {
-        kept = kept-trans (a .area .now) (l .area) (c .before .before .before .unite-term .last .0) (a .n) (a .at) (l .inv .1 .kept) (c .before .before .before .unite-term .ensures .kept);
-        members = adding-turn (a .area .now) (a .n) (a .t) (a .at) (c .before .before .before .before .before .before .before .before .before .before .before .pre .1) (items b (a .list)) (l .area) (c .before .before .before .unite-term .last .0) (items b (l .i)) (items b (c .next-link .result)) (c .before .before .before .before .before .link-field .result) (l .inv .1 .kept) (l .inv .1 .members)
-            (walk-cons (a .file .now) (a .b) (l .i) (c .before .before .before .before .before .link-field .result) (c .next-link .result) some (l .inv .0) (c .before .before .before .before .before .link-field .ensures) (c .next-link .ensures))
+        kept = kept-trans (a .area .now) (l .area) (c .before .before .before .unite-term .last .0) (a .n) (a .at) (l .inv .1 .kept)
+            (c .before .before .before .unite-term .ensures .kept);
+        members = adding-turn (a .area .now) (a .n) (a .t) (a .at)
+            (c .before .before .before .before .before .before .before .before .before .before .before .pre .1) (items b (a .list)) (l .area)
+            (c .before .before .before .unite-term .last .0) (items b (l .i)) (items b (c .next-link .result))
+            (c .before .before .before .before .before .link-field .result) (l .inv .1 .kept) (l .inv .1 .members)
+            (walk-cons (a .file .now) (a .b) (l .i) (c .before .before .before .before .before .link-field .result) (c .next-link .result) some (l .inv .0)
+            (c .before .before .before .before .before .link-field .ensures) (c .next-link .ensures))
             (c .before .before .before .unite-term .ensures);
       },
     )

@@ -17,8 +17,11 @@ unite-rest-requires c κs =
     let B = bundleAt (a .file .now) (a .b) in
     let part = c .before .before .before .before .before .before .unite-first .ensures .1 in (
       c .before .before .before .before .before .before .before .before .before .before .before .before .pre .0,
-      room-kept (a .area .now) (c .before .before .before .before .before .before .unite-first .last .1 .1 .0) (a .n) (a .t) (a .at) (c .before .before .before .before .before .before .before .before .before .before .before .before .pre .1) (part .kept),
-      below-same (a .area .now) (c .before .before .before .before .before .before .unite-first .last .1 .1 .0) (a .n) (a .t) (a .at) B (c .before .before .before .before .before .before .before .before .before .before .before .before .pre .1) (part .kept) (c .before .before .before .before .before .before .before .before .before .before .before .before .pre .2),
+      room-kept (a .area .now) (c .before .before .before .before .before .before .unite-first .last .1 .1 .0) (a .n) (a .t) (a .at)
+          (c .before .before .before .before .before .before .before .before .before .before .before .before .pre .1) (part .kept),
+      below-same (a .area .now) (c .before .before .before .before .before .before .unite-first .last .1 .1 .0) (a .n) (a .t) (a .at) B
+          (c .before .before .before .before .before .before .before .before .before .before .before .before .pre .1) (part .kept)
+          (c .before .before .before .before .before .before .before .before .before .before .before .before .pre .2),
       c .before .before .before .before .before .before .before .before .before .before .before .before .pre .3,
       c .before .before .before .before .before .before .unite-first .ensures .0,
     )
@@ -34,9 +37,16 @@ same-length-3 c = search needs
 
 returns : tie.Need-returns
 returns c =
-    let a = c .before .before .before .before .before .before .before .before .before .before .before .before .before .before .before .before .before .before .before .args in
+    let a = c .before .before .before .before .before .before .before .before .before .before .before .before .before .before .before .before .before .before
+    .before .args in
     let B = bundleAt (a .file .now) (a .b) in (
-      partly-put (a .area .now) (c .before .before .before .before .before .before .before .before .before .before .before .before .before .unite-first .last .1 .1 .0) (c .before .before .before .before .before .before .unite-rest .last .1 .1 .0) (a .n) (a .t) (a .at) (items B (a .list)) (items B (c .before .before .before .before .before .before .before .before .before .before .before .before .before .unite-first .result)) (c .before .before .before .before .before .before .before .before .before .before .before .before .before .before .before .before .before .before .before .pre .1) (c .before .before .before .before .before .before .before .before .before .before .before .before .before .unite-first .ensures .1) (c .before .before .before .before .before .before .unite-rest .ensures .0),
+      partly-put (a .area .now)
+          (c .before .before .before .before .before .before .before .before .before .before .before .before .before .unite-first .last .1 .1 .0)
+          (c .before .before .before .before .before .before .unite-rest .last .1 .1 .0) (a .n) (a .t) (a .at) (items B (a .list))
+          (items B (c .before .before .before .before .before .before .before .before .before .before .before .before .before .unite-first .result))
+          (c .before .before .before .before .before .before .before .before .before .before .before .before .before .before .before .before .before .before
+          .before .pre .1) (c .before .before .before .before .before .before .before .before .before .before .before .before .before .unite-first .ensures .1)
+          (c .before .before .before .before .before .before .unite-rest .ensures .0),
       c .before .before .before .before .before .before .unite-rest .ensures .1,
     )
 
@@ -48,7 +58,9 @@ returns-2 c =
     let a = c .before .before .before .before .before .before .before .before .before .args in
     let B = bundleAt (a .file .now) (a .b) in
     let part = c .before .before .before .unite-first .ensures .1 in (
-      adding-end (a .area .now) (a .n) (a .t) (a .at) (c .before .before .before .before .before .before .before .before .before .pre .1) (items B (a .list)) (c .before .before .before .unite-first .last .1 .1 .0) (items B (c .before .before .before .unite-first .result)) (part .kept) (part .members) (walk-nil (a .file .now) (a .b) (c .before .before .before .unite-first .result) (c .if1 .left)),
+      adding-end (a .area .now) (a .n) (a .t) (a .at) (c .before .before .before .before .before .before .before .before .before .pre .1) (items B (a .list))
+          (c .before .before .before .unite-first .last .1 .1 .0) (items B (c .before .before .before .unite-first .result)) (part .kept) (part .members)
+          (walk-nil (a .file .now) (a .b) (c .before .before .before .unite-first .result) (c .if1 .left)),
       c .before .before .before .before .before .before .before .before .before .pre .3,
     )
 

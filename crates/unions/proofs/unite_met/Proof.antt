@@ -11,30 +11,79 @@ use Rattle.unions.proofs.unite_met.Statement.{statement}
 use Rattle.unions.proofs.unite_met.Tie as tie
 
 walk-out-requires : tie.Need-walk-out-requires
-walk-out-requires c κs = (c .before .before .before .before .before .pre .0, omega (arith, c .before .before .before .before .before .pre .3 .marked, links-length (c .before .before .before .before .before .args .file .now) (c .before .before .before .before .before .args .b)), c .before .before .before .before .before .pre .4)
+walk-out-requires c κs = (
+  c .before .before .before .before .before .pre .0,
+  omega (
+    arith,
+    c .before .before .before .before .before .pre .3 .marked,
+    links-length (c .before .before .before .before .before .args .file .now)
+        (c .before .before .before .before .before .args .b),
+  ),
+  c .before .before .before .before .before .pre .4,
+)
 
 walk-back-requires : tie.Need-walk-back-requires
 walk-back-requires c κs =
-    let a = c .before .before .before .before .before .before .before .before .before .before .before .args in
-    (c .before .before .before .before .before .before .before .before .before .before .before .pre .0, c .before .before .before .before .before .before .before .before .before .before .before .pre .2, unions-fewer (bundleAt (a .file .now) (a .b)) (a .n) (a .t) (a .lists .now) (a .marks .now) _ (c .before .before .before .before .before .before .before .before .before .before .before .pre .3) (c .before .before .before .before .before .walk-out .ensures .1), c .before .before .before .before .before .walk-out .ensures .0)
+    let a = c .before .before .before .before .before .before .before .before .before .before .before .args in (
+      c .before .before .before .before .before .before .before .before .before .before .before .pre .0,
+      c .before .before .before .before .before .before .before .before .before .before .before .pre .2,
+      unions-fewer (bundleAt (a .file .now) (a .b)) (a .n)
+          (a .t) (a .lists .now) (a .marks .now) _ (c .before .before .before .before .before .before .before .before .before .before .before .pre .3)
+          (c .before .before .before .before .before .walk-out .ensures .1),
+      c .before .before .before .before .before .walk-out .ensures .0,
+    )
 
 is-known-requires : tie.Need-is-known-requires
-is-known-requires c κs = omega (arith, c .before .before .before .before .before .walk-back .ensures .marked, c .before .before .before .before .before .before .before .before .before .before .before .before .before .before .before .before .before .pre .4, links-length (c .before .before .before .before .before .before .before .before .before .before .before .before .before .before .before .before .before .args .file .now) (c .before .before .before .before .before .before .before .before .before .before .before .before .before .before .before .before .before .args .b))
+is-known-requires c κs =
+    omega (
+      arith,
+      c .before .before .before .before .before .walk-back .ensures .marked,
+      c .before .before .before .before .before .before .before .before .before .before .before .before .before .before .before .before .before .pre .4,
+      links-length (c .before .before .before .before .before .before .before .before .before .before .before .before .before .before .before .before .before
+          .args .file .now)
+          (c .before .before .before .before .before .before .before .before .before .before .before .before .before .before .before .before .before
+          .args .b),
+    )
 
 mul-unite-known : tie.Need-mul-unite-known
 mul-unite-known c =
-    let a = c .before .before .before .before .before .before .before .before .before .before .before .before .before .before .before .before .before .before .before .before .before .args in
+    let a = c .before .before .before .before .before .before .before .before .before .before .before .before .before .before .before .before .before .before
+    .before .before .before .args in
     let B = bundleAt (a .file .now) (a .b) in
-    let link : a .i ≤ length (B .links) = omega (arith, c .before .before .before .before .before .before .before .before .before .before .before .before .before .before .before .before .before .before .before .before .before .pre .4, links-length (a .file .now) (a .b)) in
-    let fits : a .n * a .i + a .n ≤ length (a .lists .now) = link-fits (a .n) (a .i) (length (B .links)) (length (a .lists .now)) link (c .before .before .before .before .before .before .before .before .before .before .before .before .before .before .before .before .before .before .before .before .before .pre .3 .room) in
-    omega (arith, c .before .before .before .before .before .before .before .before .before .before .before .before .before .before .before .before .before .before .before .before .before .good .1 .1 .1 .1 .1 .1 .1 .0 .0)
+    let link : a .i ≤ length (B .links) =
+    omega (
+      arith,
+      c .before .before .before .before .before .before .before .before .before .before .before .before .before .before .before .before .before
+          .before .before .before .before .pre .4,
+      links-length (a .file .now) (a .b),
+    ) in
+    let fits : a .n * a .i + a .n ≤ length (a .lists .now) =
+    link-fits (a .n) (a .i) (length (B .links)) (length (a .lists .now)) link
+    (c .before .before .before .before .before .before .before .before .before .before .before .before .before .before .before .before .before .before
+    .before .before .before .pre .3 .room) in
+    omega (
+      arith,
+      c .before .before .before .before .before .before .before .before .before .before .before .before .before .before .before .before .before
+          .before .before .before .before .good .1 .1 .1 .1 .1 .1 .1 .0 .0,
+    )
 
 unite-known-requires : tie.Need-unite-known-requires
 unite-known-requires c κs =
-    let a = c .before .before .before .before .before .before .before .before .before .before .before .before .before .before .before .before .before .before .before .before .before .args in
+    let a = c .before .before .before .before .before .before .before .before .before .before .before .before .before .before .before .before .before .before
+    .before .before .before .args in
     let B = bundleAt (a .file .now) (a .b) in
-    let link : a .i ≤ length (B .links) = omega (arith, c .before .before .before .before .before .before .before .before .before .before .before .before .before .before .before .before .before .before .before .before .before .pre .4, links-length (a .file .now) (a .b)) in
-    (c .before .before .before .before .before .before .before .before .before .before .before .before .before .before .before .before .before .before .before .before .before .pre .1 .room, link-fits (a .n) (a .i) (length (B .links)) _ link (c .before .before .before .before .before .before .before .before .before .walk-back .ensures .room))
+    let link : a .i ≤ length (B .links) =
+    omega (
+      arith,
+      c .before .before .before .before .before .before .before .before .before .before .before .before .before .before .before .before .before
+          .before .before .before .before .pre .4,
+      links-length (a .file .now) (a .b),
+    ) in (
+      c .before .before .before .before .before .before .before .before .before .before .before .before .before .before .before .before .before .before .before
+          .before .before .pre .1 .room,
+      link-fits (a .n) (a .i) (length (B .links)) _ link
+          (c .before .before .before .before .before .before .before .before .before .walk-back .ensures .room),
+    )
 
 same-length : tie.Need-same-length
 same-length c = search needs
@@ -47,9 +96,17 @@ same-length-3 c = search needs
 
 returns : tie.Need-returns
 returns c =
-    let a = c .before .before .before .before .before .before .before .before .before .before .before .before .before .before .before .before .before .before .before .before .before .before .before .before .args in
+    let a = c .before .before .before .before .before .before .before .before .before .before .before .before .before .before .before .before .before .before
+    .before .before .before .before .before .before .args in
     let B = bundleAt (a .file .now) (a .b) in (
-      known-put (a .area .now) (c .before .before .unite-known .last .0) _ _ (a .n) (a .t) (a .at) (a .i) B (c .before .before .before .before .before .before .before .before .before .before .before .before .before .before .before .before .before .before .before .before .before .before .before .before .pre .1 .room) (c .before .before .before .before .before .before .before .before .before .before .before .before .before .before .before .before .before .before .before .before .before .before .before .before .pre .2) (c .before .before .before .before .before .before .before .before .before .before .before .before .walk-back .ensures) (sym (c .before .before .before .before .before .before .is-known .ensures) ∙ c .before .before .before .before .before .if1 .taken) (c .before .before .unite-known .ensures),
+      known-put (a .area .now) (c .before .before .unite-known .last .0) _ _ (a .n) (a .t) (a .at) (a .i) B
+          (c .before .before .before .before .before .before .before .before .before .before .before .before .before .before .before .before .before .before
+          .before .before .before .before .before .before .pre .1 .room)
+          (c .before .before .before .before .before .before .before .before .before .before .before .before .before .before .before .before .before .before
+          .before .before .before .before .before .before .pre .2)
+          (c .before .before .before .before .before .before .before .before .before .before .before .before .walk-back .ensures)
+          (sym (c .before .before .before .before .before .before .is-known .ensures) ∙ c .before .before .before .before .before .if1 .taken)
+          (c .before .before .unite-known .ensures),
       c .before .before .before .before .before .before .before .before .before .before .before .before .walk-back .ensures,
     )
 

@@ -15,7 +15,8 @@ use Rattle.unions.proofs.unite_new.Statement.{statement}
 use Rattle.unions.proofs.unite_new.Tie as tie
 
 abbrev Inv-loop : tie.InvT-loop
-Inv-loop file b area₀ n t at start marks₀ i₀ area marks i = (i ≤ b .links) × Partly area₀ area n t at (items (bundleAt file b) start) (items (bundleAt file b) i) × Fewer marks₀ marks
+Inv-loop file b area₀ n t at start marks₀ i₀ area marks i = (i ≤ b .links)
+    × Partly area₀ area n t at (items (bundleAt file b) start) (items (bundleAt file b) i) × Fewer marks₀ marks
 
 abbrev μ-loop : tie.MeasureT-loop
 μ-loop file b area₀ n t at start marks₀ i₀ area marks i = length (items (bundleAt file b) i)
@@ -32,13 +33,21 @@ link-field-requires : tie.Need-link-field-requires Inv-loop μ-loop
 link-field-requires c κs = search needs
 
 unite-term-requires : tie.Need-unite-term-requires Inv-loop μ-loop
-unite-term-requires c κs = let a = c .before .before .before .before .before .before .before .before .before .args in room-kept (a .area .now) (c .before .before .before .before .before .loop .area) (a .n) (a .t) (a .at) (c .before .before .before .before .before .before .before .before .before .pre .1) (c .before .before .before .before .before .loop .inv .1 .kept)
+unite-term-requires c κs = let a = c .before .before .before .before .before .before .before .before .before .args in
+    room-kept (a .area .now) (c .before .before .before .before .before .loop .area) (a .n) (a .t) (a .at)
+    (c .before .before .before .before .before .before .before .before .before .pre .1) (c .before .before .before .before .before .loop .inv .1 .kept)
 
 mul-marks : tie.Need-mul-marks Inv-loop μ-loop
 mul-marks c = search needs
 
 slice-write-marks : tie.Need-slice-write-marks Inv-loop μ-loop
-slice-write-marks c = omega (arith, c .before .before .before .before .before .before .before .before .before .before .before .before .pre .2, c .before .before .before .before .before .before .before .before .loop .inv .0, c .before .before .before .before .before .before .before .before .loop .inv .2 .long)
+slice-write-marks c =
+    omega (
+      arith,
+      c .before .before .before .before .before .before .before .before .before .before .before .before .pre .2,
+      c .before .before .before .before .before .before .before .before .loop .inv .0,
+      c .before .before .before .before .before .before .before .before .loop .inv .2 .long,
+    )
 
 next-link-requires : tie.Need-next-link-requires Inv-loop μ-loop
 next-link-requires c κs = c .before .before .before .before .before .before .before .before .before .before .before .before .pre .0
@@ -46,23 +55,43 @@ next-link-requires c κs = c .before .before .before .before .before .before .be
 loop-less : tie.Need-loop-less Inv-loop μ-loop
 loop-less c =
     let a = c .before .before .before .before .before .before .before .before .before .before .before .before .before .args in
-    let some : c .before .before .before .before .before .before .before .before .before .loop .i ≡ 0 → ⊥ = unmet-some (c .before .before .before .before .before .before .before .before .before .loop .marks) (c .before .before .before .before .before .before .before .before .before .loop .i) (sym (c .before .before .before .before .before .before .before .is-new .ensures) ∙ c .before .before .before .before .before .before .if1 .taken) in
-    omega (arith, walk-length (a .file .now) (a .b) (c .before .before .before .before .before .before .before .before .before .loop .i) (c .next-link .result) some (c .before .before .before .before .before .before .before .before .before .loop .inv .0) (c .next-link .ensures))
+    let some : c .before .before .before .before .before .before .before .before .before .loop .i ≡ 0 → ⊥ =
+    unmet-some (c .before .before .before .before .before .before .before .before .before .loop .marks)
+    (c .before .before .before .before .before .before .before .before .before .loop .i)
+    (sym (c .before .before .before .before .before .before .before .is-new .ensures) ∙ c .before .before .before .before .before .before .if1 .taken) in
+    omega (
+      arith,
+      walk-length (a .file .now) (a .b) (c .before .before .before .before .before .before .before .before .before .loop .i) (c .next-link .result)
+          some (c .before .before .before .before .before .before .before .before .before .loop .inv .0) (c .next-link .ensures),
+    )
 
 loop-again : tie.Need-loop-again Inv-loop μ-loop
 loop-again c =
     let a = c .before .before .before .before .before .before .before .before .before .before .before .before .before .args in
     let l = c .before .before .before .before .before .before .before .before .before .loop in
     let b = bundleAt (a .file .now) (a .b) in
-    let some : l .i ≡ 0 → ⊥ = unmet-some (l .marks) (l .i) (sym (c .before .before .before .before .before .before .before .is-new .ensures) ∙ c .before .before .before .before .before .before .if1 .taken) in (
+    let some : l .i ≡ 0 → ⊥ =
+    unmet-some (l .marks) (l .i) (sym (c .before .before .before .before .before .before .before .is-new .ensures)
+    ∙ c .before .before .before .before .before .before .if1 .taken) in (
       walk-le (a .file .now) (a .b) (l .i) (c .next-link .result) (c .next-link .ensures),
       record {
-        kept = kept-trans (a .area .now) (l .area) (c .before .before .before .unite-term .last .0) (a .n) (a .at) (l .inv .1 .kept) (c .before .before .before .unite-term .ensures .kept);
-        members = adding-turn (a .area .now) (a .n) (a .t) (a .at) (c .before .before .before .before .before .before .before .before .before .before .before .before .before .pre .1) (items b (a .start)) (l .area) (c .before .before .before .unite-term .last .0) (items b (l .i)) (items b (c .next-link .result)) (c .before .before .before .before .before .link-field .result) (l .inv .1 .kept) (l .inv .1 .members)
-            (walk-cons (a .file .now) (a .b) (l .i) (c .before .before .before .before .before .link-field .result) (c .next-link .result) some (l .inv .0) (c .before .before .before .before .before .link-field .ensures) (c .next-link .ensures))
+        kept = kept-trans (a .area .now) (l .area) (c .before .before .before .unite-term .last .0) (a .n) (a .at) (l .inv .1 .kept)
+            (c .before .before .before .unite-term .ensures .kept);
+        members = adding-turn (a .area .now) (a .n) (a .t) (a .at)
+            (c .before .before .before .before .before .before .before .before .before .before .before .before .before .pre .1) (items b (a .start)) (l .area)
+            (c .before .before .before .unite-term .last .0) (items b (l .i)) (items b (c .next-link .result))
+            (c .before .before .before .before .before .link-field .result) (l .inv .1 .kept) (l .inv .1 .members)
+            (walk-cons (a .file .now) (a .b) (l .i) (c .before .before .before .before .before .link-field .result) (c .next-link .result) some (l .inv .0)
+            (c .before .before .before .before .before .link-field .ensures) (c .next-link .ensures))
             (c .before .before .before .unite-term .ensures);
       },
-      fewer-on (a .marks .now) (l .marks) (l .i) 1 (l .inv .2) (omega (arith, c .before .before .before .before .before .before .before .before .before .before .before .before .before .pre .2, l .inv .0, l .inv .2 .long)) some (omega arith),
+      fewer-on (a .marks .now) (l .marks) (l .i) 1 (l .inv .2)
+          (omega (
+            arith,
+            c .before .before .before .before .before .before .before .before .before .before .before .before .before .pre .2,
+            l .inv .0,
+            l .inv .2 .long,
+          )) some (omega arith),
     )
 
 same-length : tie.Need-same-length Inv-loop μ-loop

@@ -32,7 +32,9 @@ same-length : tie.Need-same-length
 same-length c = search needs
 
 returns-3 : tie.Need-returns-3
-returns-3 c = let a = c .before .before .before .before .before .before .before .args in unite-low (a .area .now) (a .n) (a .t) (a .at) (a .i) (c .before .before .unite .last .0) (c .before .before .before .before .before .before .before .pre) (c .before .before .before .before .before .if1 .left) (c .before .before .before .before .if2 .left) (c .before .before .unite .ensures)
+returns-3 c = let a = c .before .before .before .before .before .before .before .args in
+    unite-low (a .area .now) (a .n) (a .t) (a .at) (a .i) (c .before .before .unite .last .0) (c .before .before .before .before .before .before .before .pre)
+    (c .before .before .before .before .before .if1 .left) (c .before .before .before .before .if2 .left) (c .before .before .unite .ensures)
 
 pub unite-term-spec : {M : Type 1} → statement M
 unite-term-spec =

@@ -10,7 +10,8 @@ use Rattle.unions.proofs.walk_back.Statement.{statement}
 use Rattle.unions.proofs.walk_back.Tie as tie
 
 abbrev Inv-loop : tie.InvT-loop
-Inv-loop file b area n t lists₀ marks₀ last k₀ lists marks k = (k ≤ b .links) × (length lists ≡ length lists₀) × (length marks ≡ length marks₀) × Unions (bundleAt file b) n t lists marks
+Inv-loop file b area n t lists₀ marks₀ last k₀ lists marks k = (k ≤ b .links) × (length lists ≡ length lists₀) × (length marks ≡ length marks₀)
+    × Unions (bundleAt file b) n t lists marks
 
 abbrev μ-loop : tie.MeasureT-loop
 μ-loop file b area n t lists₀ marks₀ last k₀ lists marks k = k
@@ -19,7 +20,13 @@ loop-holds : tie.Need-loop-holds Inv-loop μ-loop
 loop-holds c = (c .before .before .before .before .pre .3, refl, refl, c .before .before .before .before .pre .2)
 
 learn-link-requires : tie.Need-learn-link-requires Inv-loop μ-loop
-learn-link-requires c κs = (c .before .before .before .before .before .before .before .before .pre .0, c .before .before .before .before .before .before .before .before .pre .1, c .before .before .before .loop .inv .3, omega arith, c .before .before .before .loop .inv .0)
+learn-link-requires c κs = (
+  c .before .before .before .before .before .before .before .before .pre .0,
+  c .before .before .before .before .before .before .before .before .pre .1,
+  c .before .before .before .loop .inv .3,
+  omega arith,
+  c .before .before .before .loop .inv .0,
+)
 
 loop-less : tie.Need-loop-less Inv-loop μ-loop
 loop-less c = omega (arith, c .before .before .before .before .learn-link .ensures .0)

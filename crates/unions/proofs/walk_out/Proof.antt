@@ -33,7 +33,13 @@ mul-marks : tie.Need-mul-marks Inv-loop μ-loop
 mul-marks c = search needs
 
 slice-write-marks : tie.Need-slice-write-marks Inv-loop μ-loop
-slice-write-marks c = omega (arith, c .before .before .before .before .before .before .pre .1, c .before .before .before .loop .inv .1, c .before .before .before .loop .inv .2 .long)
+slice-write-marks c =
+    omega (
+      arith,
+      c .before .before .before .before .before .before .pre .1,
+      c .before .before .before .loop .inv .1,
+      c .before .before .before .loop .inv .2 .long,
+    )
 
 next-link-requires : tie.Need-next-link-requires Inv-loop μ-loop
 next-link-requires c κs = c .before .before .before .before .before .before .pre .0
@@ -41,17 +47,26 @@ next-link-requires c κs = c .before .before .before .before .before .before .pr
 loop-less : tie.Need-loop-less Inv-loop μ-loop
 loop-less c =
     let a = c .before .before .before .before .before .before .before .args in
-    let new : known (c .before .before .before .before .loop .marks) (c .before .before .before .before .loop .i) ≡ false = sym (c .before .before .is-known .ensures) ∙ not-true (c .before .before .is-known .result) (c .before .if1 .taken) in
-    omega (arith, walk-length (a .file .now) (a .b) (c .before .before .before .before .loop .i) (c .next-link .result) (unknown-some (c .before .before .before .before .loop .marks) (c .before .before .before .before .loop .i) new) (c .before .before .before .before .loop .inv .1) (c .next-link .ensures))
+    let new : known (c .before .before .before .before .loop .marks) (c .before .before .before .before .loop .i) ≡ false =
+    sym (c .before .before .is-known .ensures) ∙ not-true (c .before .before .is-known .result) (c .before .if1 .taken) in
+    omega (
+      arith,
+      walk-length (a .file .now) (a .b) (c .before .before .before .before .loop .i) (c .next-link .result)
+          (unknown-some (c .before .before .before .before .loop .marks) (c .before .before .before .before .loop .i) new)
+          (c .before .before .before .before .loop .inv .1) (c .next-link .ensures),
+    )
 
 loop-again : tie.Need-loop-again Inv-loop μ-loop
 loop-again c =
     let a = c .before .before .before .before .before .before .before .args in
     let l = c .before .before .before .before .loop in
-    let new : known (l .marks) (l .i) ≡ false = sym (c .before .before .is-known .ensures) ∙ not-true (c .before .before .is-known .result) (c .before .if1 .taken) in (
+    let new : known (l .marks) (l .i) ≡ false = sym (c .before .before .is-known .ensures)
+    ∙ not-true (c .before .before .is-known .result) (c .before .if1 .taken) in (
       l .inv .1,
       walk-le (a .file .now) (a .b) (l .i) (c .next-link .result) (c .next-link .ensures),
-      fewer-on (a .marks .now) (l .marks) (l .i) (l .last) (l .inv .2) (omega (arith, c .before .before .before .before .before .before .before .pre .1, l .inv .1, l .inv .2 .long)) (unknown-some (l .marks) (l .i) new) (omega (arith, c .before .before .before .before .before .before .before .pre .0 .within .links, l .inv .0)),
+      fewer-on (a .marks .now) (l .marks) (l .i) (l .last) (l .inv .2)
+          (omega (arith, c .before .before .before .before .before .before .before .pre .1, l .inv .1, l .inv .2 .long)) (unknown-some (l .marks) (l .i) new)
+          (omega (arith, c .before .before .before .before .before .before .before .pre .0 .within .links, l .inv .0)),
     )
 
 same-length : tie.Need-same-length Inv-loop μ-loop

@@ -9,13 +9,39 @@ use Rattle.writer.proofs.expand.Statement.{statement}
 use Rattle.writer.proofs.expand.Tie as tie
 
 -- what `store_job` leaves, by its answer
-refused : (c : tie.After-answer) → Stored (c .before .before .before .before .before .before .before .before .before .before .before .before .before .before .before .before .before .before .before .before .before .before .before .before .args .job .now) (c .before .before .before .before .before .before .before .before .before .before .before .before .before .before .before .before .before .before .before .before .before .before .before .before .args .out .now) (c .before .before .before .before .before .before .before .before .before .before .before .before .before .before .before .before .before .before .before .before .before .before .before .before .args .words .now) (c .before .before .before .before .before .before .before .before .before .before .before .before .before .before .before .before .before .before .before .before .before .before .before .before .args .sets .now)
-    (c .before .before .before .before .before .before .before .before .before .before .before .before .before .before .before .before .store-job .last .1 .0) (c .before .before .before .before .before .before .before .before .before .before .before .before .before .before .before .before .store-job .last .1 .1 .0) (c .before .before .before .before .before .before .before .before .before .before .before .before .before .before .before .before .store-job .last .1 .1 .1 .0) (Refused (c .answer .given .0 .0) (c .answer .given .0 .1 .0))
-refused c = rw (← c .answer .given .1) (c .before .before .before .before .before .before .before .before .before .before .before .before .before .before .before .before .store-job .ensures)
+refused : (c : tie.After-answer)
+    → Stored (c .before .before .before .before .before .before .before .before .before .before .before .before .before .before .before .before .before .before
+    .before .before .before .before .before .before .args .job .now)
+    (c .before .before .before .before .before .before .before .before .before .before .before .before .before .before .before .before .before .before .before
+    .before .before .before .before .before .args .out .now)
+    (c .before .before .before .before .before .before .before .before .before .before .before .before .before .before .before .before .before .before .before
+    .before .before .before .before .before .args .words .now)
+    (c .before .before .before .before .before .before .before .before .before .before .before .before .before .before .before .before .before .before .before
+    .before .before .before .before .before .args .sets .now)
+    (c .before .before .before .before .before .before .before .before .before .before .before .before .before .before .before .before .store-job .last .1 .0)
+    (c .before .before .before .before .before .before .before .before .before .before .before .before .before .before .before .before .store-job .last .1
+    .1 .0) (c .before .before .before .before .before .before .before .before .before .before .before .before .before .before .before .before .store-job
+    .last .1 .1 .1 .0) (Refused (c .answer .given .0 .0) (c .answer .given .0 .1 .0))
+refused c =
+    rw (← c .answer .given .1)
+    (c .before .before .before .before .before .before .before .before .before .before .before .before .before .before .before .before .store-job .ensures)
 
-written : (c : tie.After-answer2) → Stored (c .before .before .before .before .before .before .before .before .before .before .before .before .before .before .before .before .before .before .before .before .before .before .before .before .args .job .now) (c .before .before .before .before .before .before .before .before .before .before .before .before .before .before .before .before .before .before .before .before .before .before .before .before .args .out .now) (c .before .before .before .before .before .before .before .before .before .before .before .before .before .before .before .before .before .before .before .before .before .before .before .before .args .words .now) (c .before .before .before .before .before .before .before .before .before .before .before .before .before .before .before .before .before .before .before .before .before .before .before .before .args .sets .now)
-    (c .before .before .before .before .before .before .before .before .before .before .before .before .before .before .before .before .store-job .last .1 .0) (c .before .before .before .before .before .before .before .before .before .before .before .before .before .before .before .before .store-job .last .1 .1 .0) (c .before .before .before .before .before .before .before .before .before .before .before .before .before .before .before .before .store-job .last .1 .1 .1 .0) (Written (c .answer2 .given .0 .0))
-written c = rw (← c .answer2 .given .1) (c .before .before .before .before .before .before .before .before .before .before .before .before .before .before .before .before .store-job .ensures)
+written : (c : tie.After-answer2)
+    → Stored (c .before .before .before .before .before .before .before .before .before .before .before .before .before .before .before .before .before .before
+    .before .before .before .before .before .before .args .job .now)
+    (c .before .before .before .before .before .before .before .before .before .before .before .before .before .before .before .before .before .before .before
+    .before .before .before .before .before .args .out .now)
+    (c .before .before .before .before .before .before .before .before .before .before .before .before .before .before .before .before .before .before .before
+    .before .before .before .before .before .args .words .now)
+    (c .before .before .before .before .before .before .before .before .before .before .before .before .before .before .before .before .before .before .before
+    .before .before .before .before .before .args .sets .now)
+    (c .before .before .before .before .before .before .before .before .before .before .before .before .before .before .before .before .store-job .last .1 .0)
+    (c .before .before .before .before .before .before .before .before .before .before .before .before .before .before .before .before .store-job .last .1
+    .1 .0) (c .before .before .before .before .before .before .before .before .before .before .before .before .before .before .before .before .store-job
+    .last .1 .1 .1 .0) (Written (c .answer2 .given .0 .0))
+written c =
+    rw (← c .answer2 .given .1)
+    (c .before .before .before .before .before .before .before .before .before .before .before .before .before .before .before .before .store-job .ensures)
 
 store-job-requires : tie.Need-store-job-requires
 store-job-requires c κs = search needs
@@ -36,7 +62,8 @@ enum-known-answer-2 : tie.Need-enum-known-answer-2
 enum-known-answer-2 c = search needs
 
 zero-bytes-requires-2 : tie.Need-zero-bytes-requires-2
-zero-bytes-requires-2 c κs = omega (arith, written (c .before .before) .file (c .before .before .answer2 .given .0 .0) refl .0, written (c .before .before) .output)
+zero-bytes-requires-2 c κs =
+    omega (arith, written (c .before .before) .file (c .before .before .answer2 .given .0 .0) refl .0, written (c .before .before) .output)
 
 same-length : tie.Need-same-length
 same-length c = search needs
@@ -49,11 +76,21 @@ same-length-3 c = search needs
 
 returns : tie.Need-returns
 returns c =
-    let a = c .before .before .before .before .before .before .before .before .before .before .before .before .before .before .before .before .before .before .before .before .before .before .before .before .before .before .before .before .before .args in
+    let a = c .before .before .before .before .before .before .before .before .before .before .before .before .before .before .before .before .before .before
+    .before .before .before .before .before .before .before .before .before .before .before .args in
     left-refused (a .job .now) (a .out .now) (a .words .now) (a .sets .now)
-    (c .before .before .before .before .before .before .before .before .before .before .before .before .before .before .before .before .before .before .before .before .before .store-job .last .1 .0) (c .before .before .before .before .before .before .before .before .before .before .before .before .before .before .before .before .before .before .before .before .before .store-job .last .1 .1 .0) (c .before .before .before .before .before .before .before .before .before .before .before .before .before .before .before .before .before .before .before .before .before .store-job .last .1 .1 .1 .0)
-    (c .before .before .before .before .before .before .before .before .before .before .before .before .before .zero-words .last .0) (c .before .before .before .before .before .before .before .before .before .clear .last .0) (c .before .before .before .before .before .before .before .before .before .before .before .before .before .zero-words .ensures) (c .before .before .before .before .before .before .before .before .before .clear .ensures)
-    (c .before .before .before .before .before .answer .given .0 .0) (c .before .before .before .before .before .answer .given .0 .1 .0) (c .before .before .zero-bytes .last .0) (refused (c .before .before .before .before .before)) (c .before .before .zero-bytes .ensures)
+    (c .before .before .before .before .before .before .before .before .before .before .before .before .before .before .before .before .before .before .before
+    .before .before .store-job .last .1 .0)
+    (c .before .before .before .before .before .before .before .before .before .before .before .before .before .before .before .before .before .before
+    .before .before .before .store-job .last .1 .1 .0)
+    (c .before .before .before .before .before .before .before .before .before .before .before .before .before .before .before .before .before .before
+    .before .before .before .store-job .last .1 .1 .1 .0)
+    (c .before .before .before .before .before .before .before .before .before .before .before .before .before .zero-words .last .0)
+    (c .before .before .before .before .before .before .before .before .before .clear .last .0)
+    (c .before .before .before .before .before .before .before .before .before .before .before .before .before .zero-words .ensures)
+    (c .before .before .before .before .before .before .before .before .before .clear .ensures)
+    (c .before .before .before .before .before .answer .given .0 .0) (c .before .before .before .before .before .answer .given .0 .1 .0)
+    (c .before .before .zero-bytes .last .0) (refused (c .before .before .before .before .before)) (c .before .before .zero-bytes .ensures)
 
 same-length-4 : tie.Need-same-length-4
 same-length-4 c = search needs
@@ -66,11 +103,21 @@ same-length-6 c = search needs
 
 returns-2 : tie.Need-returns-2
 returns-2 c =
-    let a = c .before .before .before .before .before .before .before .before .before .before .before .before .before .before .before .before .before .before .before .before .before .before .before .before .before .before .before .before .before .args in
+    let a = c .before .before .before .before .before .before .before .before .before .before .before .before .before .before .before .before .before .before
+    .before .before .before .before .before .before .before .before .before .before .before .args in
     left-written (a .job .now) (a .out .now) (a .words .now) (a .sets .now)
-    (c .before .before .before .before .before .before .before .before .before .before .before .before .before .before .before .before .before .before .before .before .before .store-job .last .1 .0) (c .before .before .before .before .before .before .before .before .before .before .before .before .before .before .before .before .before .before .before .before .before .store-job .last .1 .1 .0) (c .before .before .before .before .before .before .before .before .before .before .before .before .before .before .before .before .before .before .before .before .before .store-job .last .1 .1 .1 .0)
-    (c .before .before .before .before .before .before .before .before .before .before .before .before .before .zero-words .last .0) (c .before .before .before .before .before .before .before .before .before .clear .last .0) (c .before .before .before .before .before .before .before .before .before .before .before .before .before .zero-words .ensures) (c .before .before .before .before .before .before .before .before .before .clear .ensures)
-    (c .before .before .before .before .before .answer2 .given .0 .0) (c .before .before .zero-bytes2 .last .0) (written (c .before .before .before .before .before)) (c .before .before .zero-bytes2 .ensures)
+    (c .before .before .before .before .before .before .before .before .before .before .before .before .before .before .before .before .before .before .before
+    .before .before .store-job .last .1 .0)
+    (c .before .before .before .before .before .before .before .before .before .before .before .before .before .before .before .before .before .before
+    .before .before .before .store-job .last .1 .1 .0)
+    (c .before .before .before .before .before .before .before .before .before .before .before .before .before .before .before .before .before .before
+    .before .before .before .store-job .last .1 .1 .1 .0)
+    (c .before .before .before .before .before .before .before .before .before .before .before .before .before .zero-words .last .0)
+    (c .before .before .before .before .before .before .before .before .before .clear .last .0)
+    (c .before .before .before .before .before .before .before .before .before .before .before .before .before .zero-words .ensures)
+    (c .before .before .before .before .before .before .before .before .before .clear .ensures)
+    (c .before .before .before .before .before .answer2 .given .0 .0) (c .before .before .zero-bytes2 .last .0)
+    (written (c .before .before .before .before .before)) (c .before .before .zero-bytes2 .ensures)
 
 pub expand-spec : {M : Type 1} → statement M
 expand-spec =

@@ -49,7 +49,14 @@ returns c =
     let l = c .before .before .before .before .before .loop in
     let x = c .before .before .before .link-field in
     let r = c .before .before .next-link in
-    rw (l .inv .1, walk-cons (a .file .now) (a .b) (l .i) (x .result) (r .result) (c .before .before .before .before .loop-test .taken) (l .inv .0) (x .ensures) (r .ensures), different-on, ← c .before .has-item .ensures, c .if1 .taken)
+    rw (
+      l .inv .1,
+      walk-cons (a .file .now) (a .b) (l .i) (x .result) (r .result) (c .before .before .before .before .loop-test .taken) (l .inv .0) (x .ensures)
+          (r .ensures),
+      different-on,
+      ← c .before .has-item .ensures,
+      c .if1 .taken,
+    )
 
 loop-less : tie.Need-loop-less Inv-loop μ-loop
 loop-less c =
@@ -65,7 +72,14 @@ loop-again c =
     let x = c .before .before .before .link-field in
     let r = c .before .before .next-link in (
       walk-le (a .file .now) (a .b) (l .i) (r .result) (r .ensures),
-      rw (l .inv .1, walk-cons (a .file .now) (a .b) (l .i) (x .result) (r .result) (c .before .before .before .before .loop-test .taken) (l .inv .0) (x .ensures) (r .ensures), different-on, ← c .before .has-item .ensures, c .if1 .left),
+      rw (
+        l .inv .1,
+        walk-cons (a .file .now) (a .b) (l .i) (x .result) (r .result) (c .before .before .before .before .loop-test .taken) (l .inv .0)
+            (x .ensures) (r .ensures),
+        different-on,
+        ← c .before .has-item .ensures,
+        c .if1 .left,
+      ),
     )
 
 returns-2 : tie.Need-returns-2 Inv-loop μ-loop

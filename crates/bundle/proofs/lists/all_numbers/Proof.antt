@@ -35,7 +35,8 @@ returns : tie.Need-returns Inv-loop μ-loop
 returns c =
     let a = c .before .before .before .before .before .before .args in
     let l = c .before .before .before .loop in
-    sym (l .inv .1 ∙ each-here (a .file .now) (a .b) (a .n) (l .i) (c .before .link-field .result) (c .before .before .loop-test .taken) (l .inv .0) (c .before .link-field .ensures) (c .if1 .taken))
+    sym (l .inv .1 ∙ each-here (a .file .now) (a .b) (a .n) (l .i) (c .before .link-field .result) (c .before .before .loop-test .taken) (l .inv .0)
+    (c .before .link-field .ensures) (c .if1 .taken))
 
 next-link-requires : tie.Need-next-link-requires Inv-loop μ-loop
 next-link-requires c κs = c .before .before .before .before .before .before .pre
@@ -44,7 +45,11 @@ loop-less : tie.Need-loop-less Inv-loop μ-loop
 loop-less c =
     let a = c .before .before .before .before .before .before .before .args in
     let l = c .before .before .before .before .loop in
-    omega (arith, walk-length (a .file .now) (a .b) (l .i) (c .next-link .result) (c .before .before .before .loop-test .taken) (l .inv .0) (c .next-link .ensures))
+    omega (
+      arith,
+      walk-length (a .file .now) (a .b) (l .i) (c .next-link .result) (c .before .before .before .loop-test .taken) (l .inv .0)
+          (c .next-link .ensures),
+    )
 
 loop-again : tie.Need-loop-again Inv-loop μ-loop
 loop-again c =
@@ -53,7 +58,8 @@ loop-again c =
     let x = c .before .before .link-field in
     let r = c .next-link in (
       walk-le (a .file .now) (a .b) (l .i) (r .result) (r .ensures),
-      l .inv .1 ∙ each-on (a .file .now) (a .b) (a .n) (l .i) (x .result) (r .result) (c .before .before .before .loop-test .taken) (l .inv .0) (x .ensures) (r .ensures) (c .before .if1 .left),
+      l .inv .1 ∙ each-on (a .file .now) (a .b) (a .n) (l .i) (x .result) (r .result) (c .before .before .before .loop-test .taken) (l .inv .0) (x .ensures)
+          (r .ensures) (c .before .if1 .left),
     )
 
 returns-2 : tie.Need-returns-2 Inv-loop μ-loop

@@ -36,7 +36,13 @@ unfolding has
 returns c =
     let a = c .before .before .before .before .before .before .args in
     let l = c .before .before .before .loop in
-    rw (l .inv .1, walk-some (a .file .now) (a .b) (l .i) (c .before .before .loop-test .taken) (l .inv .0), ← c .before .link-field .ensures, eq-eqb _ _ (c .if1 .taken))
+    rw (
+      l .inv .1,
+      walk-some (a .file .now) (a .b) (l .i) (c .before .before .loop-test .taken) (l .inv .0),
+      ← c .before .link-field .ensures,
+      eq-eqb _ _
+          (c .if1 .taken),
+    )
 
 next-link-requires : tie.Need-next-link-requires Inv-loop μ-loop
 next-link-requires c κs = c .before .before .before .before .before .before .pre
@@ -45,7 +51,11 @@ loop-less : tie.Need-loop-less Inv-loop μ-loop
 loop-less c =
     let a = c .before .before .before .before .before .before .before .args in
     let l = c .before .before .before .before .loop in
-    omega (arith, walk-length (a .file .now) (a .b) (l .i) (c .next-link .result) (c .before .before .before .loop-test .taken) (l .inv .0) (c .next-link .ensures))
+    omega (
+      arith,
+      walk-length (a .file .now) (a .b) (l .i) (c .next-link .result) (c .before .before .before .loop-test .taken) (l .inv .0)
+          (c .next-link .ensures),
+    )
 
 loop-again : tie.Need-loop-again Inv-loop μ-loop
 unfolding has
@@ -55,7 +65,12 @@ loop-again c =
     let x = c .before .before .link-field in
     let r = c .next-link in (
       walk-le (a .file .now) (a .b) (l .i) (r .result) (r .ensures),
-      rw (l .inv .1, walk-cons (a .file .now) (a .b) (l .i) (x .result) (r .result) (c .before .before .before .loop-test .taken) (l .inv .0) (x .ensures) (r .ensures), ne-eqb _ _ (c .before .if1 .left)),
+      rw (
+        l .inv .1,
+        walk-cons (a .file .now) (a .b) (l .i) (x .result) (r .result) (c .before .before .before .loop-test .taken) (l .inv .0) (x .ensures)
+            (r .ensures),
+        ne-eqb _ _ (c .before .if1 .left),
+      ),
     )
 
 returns-2 : tie.Need-returns-2 Inv-loop μ-loop

@@ -15,7 +15,8 @@ use Rattle.bundle.proofs.lists.same_list.Statement.{statement}
 use Rattle.bundle.proofs.lists.same_list.Tie as tie
 
 abbrev Inv-loop : tie.InvT-loop
-Inv-loop file b first second i₀ j₀ i j = (i ≤ b .links) × (j ≤ b .links) × (sameList (items (bundleAt file b) first) (items (bundleAt file b) second) ≡ sameList (items (bundleAt file b) i) (items (bundleAt file b) j))
+Inv-loop file b first second i₀ j₀ i j = (i ≤ b .links) × (j ≤ b .links)
+    × (sameList (items (bundleAt file b) first) (items (bundleAt file b) second) ≡ sameList (items (bundleAt file b) i) (items (bundleAt file b) j))
 
 abbrev μ-loop : tie.MeasureT-loop
 μ-loop file b first second i₀ j₀ i j = length (items (bundleAt file b) i)
@@ -54,7 +55,12 @@ unfolding sameList
 returns-2 c =
     let a = c .before .before .before .before .before .before .before .before .before .args in
     let l = c .before .before .before .before .before .loop in
-    rw (l .inv .2, walk-some (a .file .now) (a .b) (l .i) (c .before .before .before .before .loop-test .taken) (l .inv .0), walk-some (a .file .now) (a .b) (l .j) (c .before .before .before .if1 .left) (l .inv .1))
+    rw (
+      l .inv .2,
+      walk-some (a .file .now) (a .b) (l .i) (c .before .before .before .before .loop-test .taken) (l .inv .0),
+      walk-some (a .file .now) (a .b)
+          (l .j) (c .before .before .before .if1 .left) (l .inv .1),
+    )
     (rw (← c .before .before .link-field .ensures, ← c .before .link-field2 .ensures, ne-eqb _ _ (c .if2 .taken)))
 
 next-link-requires : tie.Need-next-link-requires Inv-loop μ-loop
@@ -66,7 +72,12 @@ next-link-requires-2 c κs = c .before .before .before .before .before .before .
 loop-less : tie.Need-loop-less Inv-loop μ-loop
 loop-less c =
     let a = c .before .before .before .before .before .before .before .before .before .before .before .args in
-    omega (arith, walk-length (a .file .now) (a .b) (c .before .before .before .before .before .before .before .loop .i) (c .before .next-link .result) (c .before .before .before .before .before .before .loop-test .taken) (c .before .before .before .before .before .before .before .loop .inv .0) (c .before .next-link .ensures))
+    omega (
+      arith,
+      walk-length (a .file .now) (a .b) (c .before .before .before .before .before .before .before .loop .i) (c .before .next-link .result)
+          (c .before .before .before .before .before .before .loop-test .taken) (c .before .before .before .before .before .before .before .loop .inv .0)
+          (c .before .next-link .ensures),
+    )
 
 loop-again : tie.Need-loop-again Inv-loop μ-loop
 unfolding sameList
@@ -77,8 +88,11 @@ loop-again c =
       walk-le (a .file .now) (a .b) (l .j) (c .next-link2 .result) (c .next-link2 .ensures),
       rw (
         l .inv .2,
-        walk-cons (a .file .now) (a .b) (l .i) (c .before .before .before .before .link-field .result) (c .before .next-link .result) (c .before .before .before .before .before .before .loop-test .taken) (l .inv .0) (c .before .before .before .before .link-field .ensures) (c .before .next-link .ensures),
-        walk-cons (a .file .now) (a .b) (l .j) (c .before .before .before .link-field2 .result) (c .next-link2 .result) (c .before .before .before .before .before .if1 .left) (l .inv .1) (c .before .before .before .link-field2 .ensures) (c .next-link2 .ensures),
+        walk-cons (a .file .now) (a .b) (l .i) (c .before .before .before .before .link-field .result) (c .before .next-link .result)
+            (c .before .before .before .before .before .before .loop-test .taken) (l .inv .0) (c .before .before .before .before .link-field .ensures)
+            (c .before .next-link .ensures),
+        walk-cons (a .file .now) (a .b) (l .j) (c .before .before .before .link-field2 .result) (c .next-link2 .result)
+            (c .before .before .before .before .before .if1 .left) (l .inv .1) (c .before .before .before .link-field2 .ensures) (c .next-link2 .ensures),
       )
           (rw (eq-eqb _ _ (c .before .before .if2 .left))),
     )

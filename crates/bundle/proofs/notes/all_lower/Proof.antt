@@ -14,7 +14,8 @@ use Rattle.bundle.proofs.notes.all_lower.Statement.{statement}
 use Rattle.bundle.proofs.notes.all_lower.Tie as tie
 
 abbrev Inv-loop : tie.InvT-loop
-Inv-loop file b lower list n plain i₀ left₀ i left = (i ≤ b .links) × (each (numbers n) (items (bundleAt file b) list) ≡ each (numbers n) (items (bundleAt file b) i))
+Inv-loop file b lower list n plain i₀ left₀ i left = (i ≤ b .links)
+    × (each (numbers n) (items (bundleAt file b) list) ≡ each (numbers n) (items (bundleAt file b) i))
 
 abbrev μ-loop : tie.MeasureT-loop
 μ-loop file b lower list n plain i₀ left₀ i left = left
@@ -35,8 +36,11 @@ returns : tie.Need-returns Inv-loop μ-loop
 returns c =
     let a = c .before .before .before .before .before .before .before .args in
     let l = c .before .before .before .loop in
-    let some = both-some (l .i) (l .left) (c .before .before .loop-test .taken) in
-    (sym (l .inv .1 ∙ each-here (a .file .now) (a .b) (a .n) (l .i) (c .before .link-field .result) (some .0) (l .inv .0) (c .before .link-field .ensures) (c .if1 .taken)), λ e. absurd (false≢true e))
+    let some = both-some (l .i) (l .left) (c .before .before .loop-test .taken) in (
+      sym (l .inv .1 ∙ each-here (a .file .now) (a .b) (a .n) (l .i) (c .before .link-field .result) (some .0) (l .inv .0) (c .before .link-field .ensures)
+          (c .if1 .taken)),
+      λ e. absurd (false≢true e),
+    )
 
 next-link-requires : tie.Need-next-link-requires Inv-loop μ-loop
 next-link-requires c κs = c .before .before .before .before .before .before .before .pre .0
@@ -63,13 +67,15 @@ loop-again c =
     )
 
 far-lower-requires : tie.Need-far-lower-requires Inv-loop μ-loop
-far-lower-requires c κs = (c .before .before .before .before .before .before .pre .0, c .before .before .before .before .before .before .pre .1, c .before .before .loop .inv .0)
+far-lower-requires c κs =
+    (c .before .before .before .before .before .before .pre .0, c .before .before .before .before .before .before .pre .1, c .before .before .loop .inv .0)
 
 same-length : tie.Need-same-length Inv-loop μ-loop
 same-length c = search needs
 
 returns-2 : tie.Need-returns-2 Inv-loop μ-loop
-returns-2 c = (c .before .before .far-lower .ensures .0 ∙ sym (c .before .before .before .before .before .loop .inv .1), c .before .before .far-lower .ensures .1)
+returns-2 c =
+    (c .before .before .far-lower .ensures .0 ∙ sym (c .before .before .before .before .before .loop .inv .1), c .before .before .far-lower .ensures .1)
 
 pub all-lower-spec : {M : Type 1} → statement M
 all-lower-spec =

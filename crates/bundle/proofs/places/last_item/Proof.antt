@@ -26,8 +26,11 @@ first-link-requires c κs = search needs
 loop-holds : tie.Need-loop-holds Inv-loop μ-loop
 loop-holds c =
     let a = c .before .before .args in
-    let r = c .first-link in
-    (walk-start-le (a .file .now) (a .b) (a .list) (r .result) (r .ensures), rw (walk-start (a .file .now) (a .b) (a .list) (r .result) (r .ensures)) (sym (last-start (items (bundleAt (a .file .now) (a .b)) (r .result)))))
+    let r = c .first-link in (
+      walk-start-le (a .file .now) (a .b) (a .list) (r .result) (r .ensures),
+      rw (walk-start (a .file .now) (a .b) (a .list) (r .result) (r .ensures))
+          (sym (last-start (items (bundleAt (a .file .now) (a .b)) (r .result)))),
+    )
 
 link-field-requires : tie.Need-link-field-requires Inv-loop μ-loop
 link-field-requires c κs = search needs
@@ -49,7 +52,11 @@ loop-again c =
     let x = c .before .link-field in
     let r = c .next-link in (
       walk-le (a .file .now) (a .b) (l .i) (r .result) (r .ensures),
-      rw (l .inv .1, walk-cons (a .file .now) (a .b) (l .i) (x .result) (r .result) (c .before .before .loop-test .taken) (l .inv .0) (x .ensures) (r .ensures)),
+      rw (
+        l .inv .1,
+        walk-cons (a .file .now) (a .b) (l .i) (x .result) (r .result) (c .before .before .loop-test .taken) (l .inv .0) (x .ensures)
+            (r .ensures),
+      ),
     )
 
 returns : tie.Need-returns Inv-loop μ-loop

@@ -20,7 +20,8 @@ returns c =
     let a = c .before .before .before .before .args in
     let r = c .before .before .first-link in
     rw (walk-start (a .file .now) (a .b) (a .list) (r .result) (r .ensures))
-    (c .link-field .ensures ∙ rw (c .before .next-link .ensures) (second-is (a .file .now) (a .b) (r .result) (walk-start-le (a .file .now) (a .b) (a .list) (r .result) (r .ensures))))
+    (c .link-field .ensures ∙ rw (c .before .next-link .ensures)
+    (second-is (a .file .now) (a .b) (r .result) (walk-start-le (a .file .now) (a .b) (a .list) (r .result) (r .ensures))))
 
 pub second-item-spec : {M : Type 1} → statement M
 second-item-spec =

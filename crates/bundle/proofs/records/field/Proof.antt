@@ -30,13 +30,15 @@ add-word-at-2 : tie.Need-add-word-at-2
 add-word-at-2 c = let a = c .before .before .before .args in omega (arith, record-within (a .size) (a .count) (a .i) (c .before .if1 .left) (c .if2 .left))
 
 word-at-requires : tie.Need-word-at-requires
-word-at-requires c κs = let a = c .before .before .before .args in omega (arith, record-within (a .size) (a .count) (a .i) (c .before .if1 .left) (c .if2 .left))
+word-at-requires c κs = let a = c .before .before .before .args in
+    omega (arith, record-within (a .size) (a .count) (a .i) (c .before .if1 .left) (c .if2 .left))
 
 returns-3 : tie.Need-returns-3
 returns-3 c =
     let a = c .before .before .before .before .args in
     c .word-at .ensures .0
-    ∙ sym (at-tab (λ j. recordBy (wordAt (a .file .now)) (a .start) (a .size) j (a .k)) (a .count) (a .i) 0 (c .before .before .if1 .left) (c .before .if2 .left))
+    ∙ sym (at-tab (λ j. recordBy (wordAt (a .file .now)) (a .start) (a .size) j (a .k)) (a .count) (a .i) 0 (c .before .before .if1 .left)
+    (c .before .if2 .left))
 
 pub field-spec : {M : Type 1} → statement M
 field-spec =

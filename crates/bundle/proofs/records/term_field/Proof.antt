@@ -15,7 +15,8 @@ field-requires c κs = search needs
 returns : tie.Need-returns
 returns c =
     let a = c .before .before .before .args in
-    (rw (c .before .terms-at .ensures .0) at (c .field .ensures)) ∙ sym (term-is (wordAt (a .file .now)) (a .b) (a .b) (a .i) (a .k) (c .before .before .before .pre .1))
+    (rw (c .before .terms-at .ensures .0) at (c .field .ensures))
+    ∙ sym (term-is (wordAt (a .file .now)) (a .b) (a .b) (a .i) (a .k) (c .before .before .before .pre .1))
 
 pub term-field-spec : {M : Type 1} → statement M
 term-field-spec = tie.close (tie.spec terms-at-requires field-requires returns)

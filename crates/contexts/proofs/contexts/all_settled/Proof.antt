@@ -50,7 +50,9 @@ returns c =
       l .inv .1,
       walk-some (a .file .now) (a .b) (l .i) (c .before .before .before .loop-test .taken) (l .inv .0),
       ← c .before .before .link-field .ensures,
-      ← (c .before .is-settled .ensures ∙ settled-right (a .file .now) (a .b) (a .area .now) (a .n) (p .1) (λ j. omega (arith, c .before .before .before .before .before .before .before .shared-slice-known2 .given j)) (a .moved .now) (a .context) (c .before .before .link-field .result) (p .2)),
+      ← (c .before .is-settled .ensures ∙ settled-right (a .file .now) (a .b) (a .area .now) (a .n) (p .1)
+          (λ j. omega (arith, c .before .before .before .before .before .before .before .shared-slice-known2 .given j)) (a .moved .now) (a .context)
+          (c .before .before .link-field .result) (p .2)),
       not-true (c .before .is-settled .result) (c .if1 .taken),
     )
 
@@ -61,7 +63,11 @@ loop-less : tie.Need-loop-less Inv-loop μ-loop
 loop-less c =
     let a = c .before .before .before .before .before .before .before .before .before .before .args in
     let l = c .before .before .before .before .before .loop in
-    omega (arith, walk-length (a .file .now) (a .b) (l .i) (c .next-link .result) (c .before .before .before .before .loop-test .taken) (l .inv .0) (c .next-link .ensures))
+    omega (
+      arith,
+      walk-length (a .file .now) (a .b) (l .i) (c .next-link .result) (c .before .before .before .before .loop-test .taken) (l .inv .0)
+          (c .next-link .ensures),
+    )
 
 loop-again : tie.Need-loop-again Inv-loop μ-loop
 unfolding each
@@ -74,8 +80,11 @@ loop-again c =
       walk-le (a .file .now) (a .b) (l .i) (r .result) (r .ensures),
       rw (
         l .inv .1,
-        walk-cons (a .file .now) (a .b) (l .i) (t .result) (r .result) (c .before .before .before .before .loop-test .taken) (l .inv .0) (t .ensures) (r .ensures),
-        ← (c .before .before .is-settled .ensures ∙ settled-right (a .file .now) (a .b) (a .area .now) (a .n) (p .1) (λ j. omega (arith, c .before .before .before .before .before .before .before .before .shared-slice-known2 .given j)) (a .moved .now) (a .context) (t .result) (p .2)),
+        walk-cons (a .file .now) (a .b) (l .i) (t .result) (r .result) (c .before .before .before .before .loop-test .taken) (l .inv .0) (t .ensures)
+            (r .ensures),
+        ← (c .before .before .is-settled .ensures ∙ settled-right (a .file .now) (a .b) (a .area .now) (a .n) (p .1)
+            (λ j. omega (arith, c .before .before .before .before .before .before .before .before .shared-slice-known2 .given j)) (a .moved .now) (a .context)
+            (t .result) (p .2)),
         not-false (c .before .before .is-settled .result) (c .before .if1 .left),
       ),
     )

@@ -58,7 +58,12 @@ returns-2 c =
 
 returns-3 : tie.Need-returns-3
 unfolding contextRefers
-returns-3 c = rw (← c .before .before .before .before .before .context-field .ensures, entry-none (c .before .before .before .before .before .context-field .result) (c .if2 .left) (c .before .if1 .left))
+returns-3 c =
+    rw (
+      ← c .before .before .before .before .before .context-field .ensures,
+      entry-none (c .before .before .before .before .before .context-field .result)
+          (c .if2 .left) (c .before .if1 .left),
+    )
 
 pub context-refers-spec : {M : Type 1} → statement M
 context-refers-spec =

@@ -53,8 +53,11 @@ same-length-2 c = c .before .before .before .before .loop .inv .4
 
 returns : tie.Need-returns Inv-loop μ-loop
 returns c =
-    let l = c .before .before .before .before .loop in
-    (sym (l .inv .1 ∙ rest-here _ _ _ (c .before .context-fault .ensures) (c .before .before .before .loop-test .taken) (c .if1 .taken)), λ z. absurd (c .if1 .taken z))
+    let l = c .before .before .before .before .loop in (
+      sym (l .inv .1 ∙ rest-here _ _ _ (c .before .context-fault .ensures) (c .before .before .before .loop-test .taken) (c .if1 .taken)),
+      λ z. absurd
+          (c .if1 .taken z),
+    )
 
 enter-requires : tie.Need-enter-requires Inv-loop μ-loop
 enter-requires c κs =
@@ -82,8 +85,19 @@ loop-less c = omega (arith, c .before .before .before .before .before .before .b
 
 loop-again : tie.Need-loop-again Inv-loop μ-loop
 loop-again c =
-    let l = c .before .before .before .before .before .before .before .before .before .before .before .loop in
-    (omega arith, l .inv .1 ∙ rest-on _ _ _ (c .before .before .before .before .before .before .before .before .context-fault .ensures) (c .before .before .before .before .before .before .before .before .before .before .loop-test .taken) (c .before .before .before .before .before .before .before .if1 .left), omega arith, c .before .before .before .before .enter .ensures .0 ∙ l .inv .3, c .before .before .before .before .enter .ensures .1 ∙ l .inv .4, c .before .before .before .before .enter .ensures .2, c .before .before .before .before .enter .ensures .3)
+    let l = c .before .before .before .before .before .before .before .before .before .before .before .loop in (
+      omega arith,
+      l .inv .1 ∙ rest-on _ _ _ (c .before .before .before .before .before .before .before .before .context-fault .ensures)
+          (c .before .before .before .before .before .before .before .before .before .before .loop-test .taken)
+          (c .before .before .before .before .before .before .before .if1 .left),
+      omega arith,
+      c .before .before .before .before .enter .ensures .0
+          ∙ l .inv .3,
+      c .before .before .before .before .enter .ensures .1
+          ∙ l .inv .4,
+      c .before .before .before .before .enter .ensures .2,
+      c .before .before .before .before .enter .ensures .3,
+    )
 
 no-fault-requires : tie.Need-no-fault-requires Inv-loop μ-loop
 no-fault-requires c κs = search needs

@@ -38,8 +38,13 @@ all-settled-requires c κs =
     let a = c .before .before .before .before .before .before .before .args in
     let b = bundleAt (a .file .now) (a .b) in
     let p = c .before .context-field3 in
-    let low : p .result + 1 ≤ a .i = rw (p .ensures) (omega (arith, lower-parent b (a .i) (c .before .before .before .before .before .before .before .pre .3))) in
-    (c .before .before .before .before .before .before .before .pre .0, c .before .before .before .before .before .before .before .pre .1, moved-few b (a .moved .now) (a .n) (a .i) (p .result + 1) low (mul-le-mul-left (a .n) low) (c .before .before .before .before .before .before .before .pre .2))
+    let low : p .result + 1 ≤ a .i =
+    rw (p .ensures) (omega (arith, lower-parent b (a .i) (c .before .before .before .before .before .before .before .pre .3))) in (
+      c .before .before .before .before .before .before .before .pre .0,
+      c .before .before .before .before .before .before .before .pre .1,
+      moved-few b
+          (a .moved .now) (a .n) (a .i) (p .result + 1) low (mul-le-mul-left (a .n) low) (c .before .before .before .before .before .before .before .pre .2),
+    )
 
 returns : tie.Need-returns
 unfolding replacementsSettled

@@ -51,7 +51,15 @@ past-within : (c : tie.After-bytes)
 past-within c =
     let w = c .before .before in
     let u = w .before .before .before in
-    rw (by-counts u, le-leb _ _ (u .before .if1 .left), eq-eqb _ _ (w .before .if2 .left), ← w .within .ensures, not-false (w .within .result) (c .before .if3 .left), ← c .bytes .ensures)
+    rw (
+      by-counts u,
+      le-leb _ _ (u .before .if1 .left),
+      eq-eqb _ _ (w .before .if2 .left),
+      ← w .within .ensures,
+      not-false (w .within .result)
+          (c .before .if3 .left),
+      ← c .bytes .ensures,
+    )
 
 returns-4 : tie.Need-returns-4
 returns-4 c = rw (past-within (c .before), ne-eqb _ _ (c .if4 .taken))

@@ -15,7 +15,8 @@ use Rattle.declarations.proofs.records.all_sorts.Statement.{statement}
 use Rattle.declarations.proofs.records.all_sorts.Tie as tie
 
 abbrev Inv-loop : tie.InvT-loop
-Inv-loop file b list i₀ i = (i ≤ b .links) × (each (isSort (bundleAt file b)) (items (bundleAt file b) list) ≡ each (isSort (bundleAt file b)) (items (bundleAt file b) i))
+Inv-loop file b list i₀ i =
+    (i ≤ b .links) × (each (isSort (bundleAt file b)) (items (bundleAt file b) list) ≡ each (isSort (bundleAt file b)) (items (bundleAt file b) i))
 
 abbrev μ-loop : tie.MeasureT-loop
 μ-loop file b list i₀ i = length (items (bundleAt file b) i)
@@ -41,7 +42,13 @@ returns c =
     let u = c .before .before in
     let a = u .before .before .before .before .before .args in
     let l = u .before .before .loop in
-    rw (l .inv .1, walk-some (a .file .now) (a .b) (l .i) (u .before .loop-test .taken) (l .inv .0), ← u .link-field .ensures, ← c .before .is-sort .ensures, not-true (c .before .is-sort .result) (c .if1 .taken))
+    rw (
+      l .inv .1,
+      walk-some (a .file .now) (a .b) (l .i) (u .before .loop-test .taken) (l .inv .0),
+      ← u .link-field .ensures,
+      ← c .before .is-sort .ensures,
+      not-true (c .before .is-sort .result) (c .if1 .taken),
+    )
 
 next-link-requires : tie.Need-next-link-requires Inv-loop μ-loop
 next-link-requires c κs = c .before .before .before .before .before .before .before .pre
@@ -63,7 +70,12 @@ loop-again c =
     let x = u .link-field in
     let r = c .next-link in (
       walk-le (a .file .now) (a .b) (l .i) (r .result) (r .ensures),
-      rw (l .inv .1, walk-cons (a .file .now) (a .b) (l .i) (x .result) (r .result) (u .before .loop-test .taken) (l .inv .0) (x .ensures) (r .ensures), ← t .is-sort .ensures, not-false (t .is-sort .result) (c .before .if1 .left)),
+      rw (
+        l .inv .1,
+        walk-cons (a .file .now) (a .b) (l .i) (x .result) (r .result) (u .before .loop-test .taken) (l .inv .0) (x .ensures) (r .ensures),
+        ← t .is-sort .ensures,
+        not-false (t .is-sort .result) (c .before .if1 .left),
+      ),
     )
 
 returns-2 : tie.Need-returns-2 Inv-loop μ-loop

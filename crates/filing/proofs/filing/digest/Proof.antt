@@ -29,21 +29,43 @@ mixed-items-requires c κs = search needs
 returns : tie.Need-returns
 unfolding lookupDigest
 returns c = (
-  rw (← c .before .before .before .before .before .term-field .ensures .0, ← c .before .before .before .before .term-field2 .ensures .0, ← c .before .before .before .term-field3 .ensures .0, ← c .before .before .term-field4 .ensures .0, eq-eqb _ 5 (c .before .if1 .taken)) (c .let-digest .ensures .0),
+  rw (
+    ← c .before .before .before .before .before .term-field .ensures .0,
+    ← c .before .before .before .before .term-field2 .ensures .0,
+    ← c .before .before .before .term-field3 .ensures .0,
+    ← c .before .before .term-field4 .ensures .0,
+    eq-eqb _ 5 (c .before .if1 .taken),
+  )
+      (c .let-digest .ensures .0),
   c .let-digest .ensures .1,
 )
 
 returns-2 : tie.Need-returns-2
 unfolding lookupDigest
 returns-2 c = (
-  rw (← c .before .before .before .before .before .before .before .term-field .ensures .0, ← c .before .before .before .before .before .before .term-field2 .ensures .0, ← c .before .before .before .before .before .term-field3 .ensures .0, ne-eqb _ 5 (c .before .before .before .if1 .left), eq-eqb _ 2 (c .before .if2 .taken), ← c .before .before .root-digest .ensures .0) (c .mixed-items .ensures .0),
+  rw (
+    ← c .before .before .before .before .before .before .before .term-field .ensures .0,
+    ← c .before .before .before .before .before .before .term-field2 .ensures .0,
+    ← c .before .before .before .before .before .term-field3 .ensures .0,
+    ne-eqb
+        _ 5 (c .before .before .before .if1 .left),
+    eq-eqb _ 2 (c .before .if2 .taken),
+    ← c .before .before .root-digest .ensures .0,
+  )
+      (c .mixed-items .ensures .0),
   c .mixed-items .ensures .1,
 )
 
 returns-3 : tie.Need-returns-3
 unfolding lookupDigest mixAll
 returns-3 c = (
-  rw (← c .before .before .before .before .before .before .term-field .ensures .0, ← c .before .before .before .before .before .term-field2 .ensures .0, ne-eqb _ 5 (c .before .before .if1 .left), ne-eqb _ 2 (c .if2 .left)) (c .before .root-digest .ensures .0),
+  rw (
+    ← c .before .before .before .before .before .before .term-field .ensures .0,
+    ← c .before .before .before .before .before .term-field2 .ensures .0,
+    ne-eqb
+        _ 5 (c .before .before .if1 .left),
+    ne-eqb _ 2 (c .if2 .left),
+  ) (c .before .root-digest .ensures .0),
   c .before .root-digest .ensures .1,
 )
 

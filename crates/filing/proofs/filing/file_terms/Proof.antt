@@ -28,7 +28,11 @@ digest-requires : tie.Need-digest-requires Inv-loop μ-loop
 digest-requires c κs = search needs
 
 file-term-requires : tie.Need-file-term-requires Inv-loop μ-loop
-file-term-requires c κs = (c .before .digest .ensures .1, omega arith, omega (arith, c .before .before .before .before .before .pre .0 .within .terms, c .before .before .loop-test .taken))
+file-term-requires c κs = (
+  c .before .digest .ensures .1,
+  omega arith,
+  omega (arith, c .before .before .before .before .before .pre .0 .within .terms, c .before .before .loop-test .taken),
+)
 
 add-t : tie.Need-add-t Inv-loop μ-loop
 add-t c = omega (arith, c .before .before .before .before .before .before .pre .0 .within .terms, c .before .before .before .loop-test .taken)
@@ -44,7 +48,8 @@ loop-again c =
     let d = c .before .before .digest in
     let n : l .t ≡ suc (l .t - 1) = omega arith in
     let filed = filed-on b (l .index) (l .t - 1) (d .result) (l .inv .2) (l .t) (l .t + 1 - 1) n (omega arith)
-    (λ B more. formed-digested (c .before .before .before .before .before .before .pre .1) B more (l .t) (omega (arith, sized-in (a .words .now) (a .c) .terms)) ∙ sym (d .ensures .0))
+    (λ B more. formed-digested (c .before .before .before .before .before .before .pre .1) B more (l .t) (omega (arith, sized-in (a .words .now) (a .c) .terms))
+    ∙ sym (d .ensures .0))
     (d .ensures .1) (omega (arith, c .before .before .before .before .before .before .pre .0 .within .terms)) in (
       omega arith,
       omega arith,

@@ -17,7 +17,11 @@ mixed-requires-2 : tie.Need-mixed-requires-2
 mixed-requires-2 c κs = c .mixed-items2 .ensures .1
 
 returns : tie.Need-returns
-returns c = (rw (← c .before .before .before .mixed .ensures .0, ← c .before .before .mixed-items .ensures .0, ← c .before .mixed-items2 .ensures .0) (c .mixed2 .ensures .0), c .mixed2 .ensures .1)
+returns c = (
+  rw (← c .before .before .before .mixed .ensures .0, ← c .before .before .mixed-items .ensures .0, ← c .before .mixed-items2 .ensures .0)
+      (c .mixed2 .ensures .0),
+  c .mixed2 .ensures .1,
+)
 
 pub let-digest-spec : {M : Type 1} → statement M
 let-digest-spec = tie.close (tie.spec mixed-requires mixed-items-requires mixed-items-requires-2 mixed-requires-2 returns)

@@ -45,7 +45,11 @@ loop-less : tie.Need-loop-less Inv-loop μ-loop
 loop-less c =
     let a = c .before .before .before .before .before .before .before .args in
     let l = c .before .before .before .before .loop in
-    omega (arith, walk-length (sized-in (a .words .now) (a .c)) (l .i) (c .next-link .result) (c .before .before .before .loop-test .taken) (l .inv .0) (c .next-link .ensures))
+    omega (
+      arith,
+      walk-length (sized-in (a .words .now) (a .c)) (l .i) (c .next-link .result) (c .before .before .before .loop-test .taken) (l .inv .0)
+          (c .next-link .ensures),
+    )
 
 loop-again : tie.Need-loop-again Inv-loop μ-loop
 unfolding mixAll
@@ -56,7 +60,12 @@ loop-again c =
     let r = c .next-link in (
       walk-le (sized-in (a .words .now) (a .c)) (l .i) (r .result) (r .ensures),
       c .before .mixed .ensures .1,
-      rw (l .inv .2, walk-cons (sized-in (a .words .now) (a .c)) (l .i) (x .result) (r .result) (c .before .before .before .loop-test .taken) (l .inv .0) (x .ensures .0) (r .ensures), c .before .mixed .ensures .0),
+      rw (
+        l .inv .2,
+        walk-cons (sized-in (a .words .now) (a .c)) (l .i) (x .result) (r .result) (c .before .before .before .loop-test .taken) (l .inv .0)
+            (x .ensures .0) (r .ensures),
+        c .before .mixed .ensures .0,
+      ),
     )
 
 returns : tie.Need-returns Inv-loop μ-loop

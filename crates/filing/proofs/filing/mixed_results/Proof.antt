@@ -45,7 +45,13 @@ loop-again c =
     let l = c .before .before .before .before .loop in (
       omega arith,
       c .mixed .ensures .1,
-      rw (l .inv .2, halves-more true (a .stack .now) (l .at) (a .to) (c .before .before .before .loop-test .taken) (c .before .before .before .before .before .before .pre .2), ← c .before .half .ensures .0, c .mixed .ensures .0),
+      rw (
+        l .inv .2,
+        halves-more true (a .stack .now) (l .at) (a .to) (c .before .before .before .loop-test .taken)
+            (c .before .before .before .before .before .before .pre .2),
+        ← c .before .half .ensures .0,
+        c .mixed .ensures .0,
+      ),
     )
 
 returns : tie.Need-returns Inv-loop μ-loop

@@ -53,7 +53,8 @@ mul-wide-2 : tie.Need-mul-wide-2 Inv-loop μ-loop
 mul-wide-2 c = omega (arith, c .before .before .before .loop .inv .0, c .before .before .before .before .before .before .before .before .pre .0 .within .terms)
 
 element-copy-out-wide-2 : tie.Need-element-copy-out-wide-2 Inv-loop μ-loop
-element-copy-out-wide-2 c = omega (arith, c .before .before .before .loop .inv .0, c .before .before .before .before .before .before .before .before .pre .0 .within .terms)
+element-copy-out-wide-2 c =
+    omega (arith, c .before .before .before .loop .inv .0, c .before .before .before .before .before .before .before .before .pre .0 .within .terms)
 
 wide-requires-2 : tie.Need-wide-requires-2 Inv-loop μ-loop
 wide-requires-2 c κs = search needs
@@ -81,7 +82,8 @@ returns : tie.Need-returns Inv-loop μ-loop
 returns c =
     let a = c .before .before .before .before .before .before .args in
     let l = c .before .loop in
-    sought-end (bundleIn (a .words .now) (a .c)) (sameApplication (bundleIn (a .words .now) (a .c)) (a .symbol) (halves true (a .stack .now) (a .from) (a .to))) (a .index .now) (l .inv .1) (c .loop-test .left)
+    sought-end (bundleIn (a .words .now) (a .c)) (sameApplication (bundleIn (a .words .now) (a .c)) (a .symbol) (halves true (a .stack .now) (a .from) (a .to)))
+    (a .index .now) (l .inv .1) (c .loop-test .left)
 
 pub find-application-spec : {M : Type 1} → statement M
 find-application-spec =

@@ -50,7 +50,8 @@ mul-wide-2 : tie.Need-mul-wide-2 Inv-loop μ-loop
 mul-wide-2 c = omega (arith, c .before .before .before .loop .inv .0, c .before .before .before .before .before .before .before .pre .0 .within .terms)
 
 element-copy-out-wide-2 : tie.Need-element-copy-out-wide-2 Inv-loop μ-loop
-element-copy-out-wide-2 c = omega (arith, c .before .before .before .loop .inv .0, c .before .before .before .before .before .before .before .pre .0 .within .terms)
+element-copy-out-wide-2 c =
+    omega (arith, c .before .before .before .loop .inv .0, c .before .before .before .before .before .before .before .pre .0 .within .terms)
 
 wide-requires-2 : tie.Need-wide-requires-2 Inv-loop μ-loop
 wide-requires-2 c κs = search needs

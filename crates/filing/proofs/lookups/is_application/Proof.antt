@@ -20,7 +20,14 @@ returns c = rw (← c .before .before .before .term-field .ensures .0, ne-eqb _ 
 
 returns-2 : tie.Need-returns-2
 unfolding sameApplication
-returns-2 c = rw (← c .before .before .before .before .term-field .ensures .0, c .before .if1 .left, ← c .before .before .before .term-field2 .ensures .0, ne-eqb _ _ (c .if2 .taken))
+returns-2 c =
+    rw (
+      ← c .before .before .before .before .term-field .ensures .0,
+      c .before .if1 .left,
+      ← c .before .before .before .term-field2 .ensures .0,
+      ne-eqb _ _
+          (c .if2 .taken),
+    )
 
 same-results-requires : tie.Need-same-results-requires
 same-results-requires c κs = search needs
@@ -29,7 +36,13 @@ returns-3 : tie.Need-returns-3
 unfolding sameApplication
 returns-3 c =
     let k = c .before .before .before .before .before .term-field in
-    rw (← k .ensures .0, c .before .before .if1 .left, ← c .before .before .before .before .term-field2 .ensures .0, eq-eqb _ _ (c .before .if2 .left), ← c .before .before .before .term-field3 .ensures .0) (c .same-results .ensures)
+    rw (
+      ← k .ensures .0,
+      c .before .before .if1 .left,
+      ← c .before .before .before .before .term-field2 .ensures .0,
+      eq-eqb _ _ (c .before .if2 .left),
+      ← c .before .before .before .term-field3 .ensures .0,
+    ) (c .same-results .ensures)
 
 pub is-application-spec : {M : Type 1} → statement M
 is-application-spec =

@@ -19,7 +19,11 @@ sub-member c = search needs
 mul-member : tie.Need-mul-member
 mul-member c =
     let a = c .before .before .before .before .args in
-    omega (arith, set-within (a .n) (a .b .terms) (a .t) (length (a .area .now)) (c .before .before .before .before .pre) (c .before .before .if1 .left) (c .if2 .left))
+    omega (
+      arith,
+      set-within (a .n) (a .b .terms) (a .t) (length (a .area .now)) (c .before .before .before .before .pre) (c .before .before .if1 .left)
+          (c .if2 .left),
+    )
 
 member-requires : tie.Need-member-requires
 member-requires c κs = set-within _ _ _ _ (c .before .before .before .before .pre) (c .before .before .if1 .left) (c .if2 .left)

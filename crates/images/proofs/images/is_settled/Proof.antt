@@ -19,7 +19,11 @@ sub-disjoint c = search needs
 mul-disjoint : tie.Need-mul-disjoint
 mul-disjoint c =
     let a = c .before .before .before .before .before .args in
-    omega (arith, set-within (a .n) (a .b .terms) (a .t) (length (a .area .now)) (c .before .before .before .before .before .pre .0) (c .before .before .if1 .left) (c .if2 .left))
+    omega (
+      arith,
+      set-within (a .n) (a .b .terms) (a .t) (length (a .area .now)) (c .before .before .before .before .before .pre .0)
+          (c .before .before .if1 .left) (c .if2 .left),
+    )
 
 mul-disjoint-2 : tie.Need-mul-disjoint-2
 mul-disjoint-2 c =

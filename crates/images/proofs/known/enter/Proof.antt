@@ -32,8 +32,12 @@ context-field-requires-4 c κs = search needs
 inherit-requires : tie.Need-inherit-requires
 inherit-requires c κs =
     let a = c .before .before .before .before .before .before .before .before .before .args in
-    let b = bundleAt (a .file .now) (a .b) in
-    (c .before .before .before .before .before .before .before .before .before .pre .0, c .before .before .before .before .before .before .before .before .before .pre .3, rw (c .before .before .context-field4 .ensures) (lower-parent b (a .k) (c .before .before .before .before .before .before .before .before .before .pre .5)))
+    let b = bundleAt (a .file .now) (a .b) in (
+      c .before .before .before .before .before .before .before .before .before .pre .0,
+      c .before .before .before .before .before .before .before .before .before .pre .3,
+      rw (c .before .before .context-field4 .ensures)
+          (lower-parent b (a .k) (c .before .before .before .before .before .before .before .before .before .pre .5)),
+    )
 
 set-image-requires : tie.Need-set-image-requires
 unfolding movedBy asImage asMention
@@ -42,18 +46,32 @@ set-image-requires c κs =
     let b = bundleAt (a .file .now) (a .b) in
     let i = c .before .before .before .before .before .before .before .inherit in
     let v = variables-length (a .file .now) (a .b) in
-    let low : c .before .before .before .before .before .before .before .before .before .before .context-field4 .result < a .k = rw (c .before .before .before .before .before .before .before .before .before .before .context-field4 .ensures) (lower-parent b (a .k) (c .before .before .before .before .before .before .before .before .before .before .before .before .before .before .before .before .before .pre .5)) in
-    let f = fixes-number b (a .k) (c .before .before .before .before .before .before .before .before .before .before .before .before .before .before .before .before .before .pre .5) (rw (← c .before .before .before .before .before .before .before .before .before .before .before .before .before .context-field .ensures) (c .before .before .if1 .taken)) in
-    let one : 1 ≤ c .before .before .before .before .before .before .before .before .before .before .before .before .context-field2 .result = rw (c .before .before .before .before .before .before .before .before .before .before .before .before .context-field2 .ensures) (f .0) in
-    let few : c .before .before .before .before .before .before .before .before .before .before .before .before .context-field2 .result ≤ a .b .variables = rw (c .before .before .before .before .before .before .before .before .before .before .before .before .context-field2 .ensures) (omega (arith, f .1, v)) in (
+    let low : c .before .before .before .before .before .before .before .before .before .before .context-field4 .result < a .k =
+    rw (c .before .before .before .before .before .before .before .before .before .before .context-field4 .ensures)
+    (lower-parent b (a .k)
+    (c .before .before .before .before .before .before .before .before .before .before .before .before .before .before .before .before .before .pre .5)) in
+    let f = fixes-number b (a .k)
+    (c .before .before .before .before .before .before .before .before .before .before .before .before .before .before .before .before .before .pre .5)
+    (rw (← c .before .before .before .before .before .before .before .before .before .before .before .before .before .context-field .ensures)
+    (c .before .before .if1 .taken)) in
+    let one : 1 ≤ c .before .before .before .before .before .before .before .before .before .before .before .before .context-field2 .result =
+    rw (c .before .before .before .before .before .before .before .before .before .before .before .before .context-field2 .ensures) (f .0) in
+    let few : c .before .before .before .before .before .before .before .before .before .before .before .before .context-field2 .result ≤ a .b .variables =
+    rw (c .before .before .before .before .before .before .before .before .before .before .before .before .context-field2 .ensures)
+    (omega (arith, f .1, v)) in (
       c .before .before .before .before .before .before .before .before .before .before .before .before .before .before .before .before .before .pre .0,
-      room-on b (a .images .now) (a .moved .now) (i .last .1 .1 .0) (i .last .1 .1 .1 .0) (a .n) (a .k) (i .ensures .0) (c .before .before .before .before .before .before .before .before .before .before .before .before .before .before .before .before .before .pre .3),
+      room-on b (a .images .now) (a .moved .now) (i .last .1 .1 .0) (i .last .1 .1 .1 .0) (a .n) (a .k) (i .ensures .0)
+          (c .before .before .before .before .before .before .before .before .before .before .before .before .before .before .before .before .before .pre .3),
       one,
       few,
       c .before .before .before .before .before .before .before .before .before .before .before .before .before .before .before .before .before .pre .4,
       omega arith,
       refl,
-      agrees-copied b (a .images .now) (a .moved .now) (i .last .1 .1 .0) (i .last .1 .1 .1 .0) (a .n) (a .k) (c .before .before .before .before .before .before .before .before .before .before .context-field4 .result) low (c .before .before .before .before .before .before .before .before .before .before .before .before .before .before .before .before .before .pre .1) (c .before .before .before .before .before .before .before .before .before .before .before .before .before .before .before .before .before .pre .2) (i .ensures .1) (i .ensures .2),
+      agrees-copied b (a .images .now) (a .moved .now) (i .last .1 .1 .0) (i .last .1 .1 .1 .0) (a .n) (a .k)
+          (c .before .before .before .before .before .before .before .before .before .before .context-field4 .result) low
+          (c .before .before .before .before .before .before .before .before .before .before .before .before .before .before .before .before .before .pre .1)
+          (c .before .before .before .before .before .before .before .before .before .before .before .before .before .before .before .before .before .pre .2)
+          (i .ensures .1) (i .ensures .2),
     )
 
 replace-requires : tie.Need-replace-requires
@@ -61,19 +79,40 @@ replace-requires c κs =
     let a = c .before .before .before .before .before .before .before .before .before .before .before .before .before .before .before .before .before .args in
     let b = bundleAt (a .file .now) (a .b) in
     let i = c .before .before .before .before .before .before .before .inherit in
-    let low : c .before .before .before .before .before .before .before .before .before .before .context-field4 .result < a .k = rw (c .before .before .before .before .before .before .before .before .before .before .context-field4 .ensures) (lower-parent b (a .k) (c .before .before .before .before .before .before .before .before .before .before .before .before .before .before .before .before .before .pre .5)) in
-    let kind = replaces-kind b (a .k) (c .before .before .before .before .before .before .before .before .before .before .before .before .before .before .before .before .before .pre .5) (λ e. c .before .before .if1 .left (c .before .before .before .before .before .before .before .before .before .before .before .before .before .context-field .ensures ∙ e)) in
-    let f = replaces-lists b (a .k) (c .before .before .before .before .before .before .before .before .before .before .before .before .before .before .before .before .before .pre .5) kind in
-    let vs : each (numbers (a .b .variables)) (items b (c .before .before .before .before .before .before .before .before .before .before .before .before .context-field2 .result)) ≡ true = rw (c .before .before .before .before .before .before .before .before .before .before .before .before .context-field2 .ensures) (rw (variables-length (a .file .now) (a .b)) at (f .0)) in
-    let ts : each (numbers (a .b .terms)) (items b (c .before .before .before .before .before .before .before .before .before .before .before .context-field3 .result)) ≡ true = rw (c .before .before .before .before .before .before .before .before .before .before .before .context-field3 .ensures) (rw (terms-length (a .file .now) (a .b)) at (f .1)) in
-    let ds : different (items b (c .before .before .before .before .before .before .before .before .before .before .before .before .context-field2 .result)) ≡ true = rw (c .before .before .before .before .before .before .before .before .before .before .before .before .context-field2 .ensures) (f .2) in (
+    let low : c .before .before .before .before .before .before .before .before .before .before .context-field4 .result < a .k =
+    rw (c .before .before .before .before .before .before .before .before .before .before .context-field4 .ensures)
+    (lower-parent b (a .k)
+    (c .before .before .before .before .before .before .before .before .before .before .before .before .before .before .before .before .before .pre .5)) in
+    let kind =
+    replaces-kind b (a .k)
+    (c .before .before .before .before .before .before .before .before .before .before .before .before .before .before .before .before .before .pre .5)
+    (λ e. c .before .before .if1 .left
+    (c .before .before .before .before .before .before .before .before .before .before .before .before .before .context-field .ensures ∙ e)) in
+    let f = replaces-lists b (a .k)
+    (c .before .before .before .before .before .before .before .before .before .before .before .before .before .before .before .before .before .pre .5)
+    kind in
+    let vs : each (numbers (a .b .variables))
+    (items b (c .before .before .before .before .before .before .before .before .before .before .before .before .context-field2 .result)) ≡ true =
+    rw (c .before .before .before .before .before .before .before .before .before .before .before .before .context-field2 .ensures)
+    (rw (variables-length (a .file .now) (a .b)) at (f .0)) in
+    let ts : each (numbers (a .b .terms))
+    (items b (c .before .before .before .before .before .before .before .before .before .before .before .context-field3 .result)) ≡ true =
+    rw (c .before .before .before .before .before .before .before .before .before .before .before .context-field3 .ensures)
+    (rw (terms-length (a .file .now) (a .b)) at (f .1)) in
+    let ds : different (items b (c .before .before .before .before .before .before .before .before .before .before .before .before .context-field2 .result))
+    ≡ true = rw (c .before .before .before .before .before .before .before .before .before .before .before .before .context-field2 .ensures) (f .2) in (
       c .before .before .before .before .before .before .before .before .before .before .before .before .before .before .before .before .before .pre .0,
-      room-on b (a .images .now) (a .moved .now) (i .last .1 .1 .0) (i .last .1 .1 .1 .0) (a .n) (a .k) (i .ensures .0) (c .before .before .before .before .before .before .before .before .before .before .before .before .before .before .before .before .before .pre .3),
+      room-on b (a .images .now) (a .moved .now) (i .last .1 .1 .0) (i .last .1 .1 .1 .0) (a .n) (a .k) (i .ensures .0)
+          (c .before .before .before .before .before .before .before .before .before .before .before .before .before .before .before .before .before .pre .3),
       c .before .before .before .before .before .before .before .before .before .before .before .before .before .before .before .before .before .pre .4,
       vs,
       ts,
       ds,
-      agrees-copied b (a .images .now) (a .moved .now) (i .last .1 .1 .0) (i .last .1 .1 .1 .0) (a .n) (a .k) (c .before .before .before .before .before .before .before .before .before .before .context-field4 .result) low (c .before .before .before .before .before .before .before .before .before .before .before .before .before .before .before .before .before .pre .1) (c .before .before .before .before .before .before .before .before .before .before .before .before .before .before .before .before .before .pre .2) (i .ensures .1) (i .ensures .2),
+      agrees-copied b (a .images .now) (a .moved .now) (i .last .1 .1 .0) (i .last .1 .1 .1 .0) (a .n) (a .k)
+          (c .before .before .before .before .before .before .before .before .before .before .context-field4 .result) low
+          (c .before .before .before .before .before .before .before .before .before .before .before .before .before .before .before .before .before .pre .1)
+          (c .before .before .before .before .before .before .before .before .before .before .before .before .before .before .before .before .before .pre .2)
+          (i .ensures .1) (i .ensures .2),
     )
 
 same-length : tie.Need-same-length
@@ -85,17 +124,62 @@ same-length-2 c = search needs
 returns : tie.Need-returns
 unfolding asMention
 returns c =
-    let a = c .before .before .before .before .before .before .before .before .before .before .before .before .before .before .before .before .before .before .before .before .before .before .args in
+    let a = c .before .before .before .before .before .before .before .before .before .before .before .before .before .before .before .before .before .before
+    .before .before .before .before .args in
     let b = bundleAt (a .file .now) (a .b) in
     let i = c .before .before .before .before .before .before .before .before .before .before .before .before .inherit in
     let s = c .before .before .before .before .set-image in
     let p = c .before .before .before .before .before .before .before .before .before .before .before .before .before .before .before .context-field4 in
-    let v : length (b .variables) ≤ 64 = omega (arith, variables-length (a .file .now) (a .b), c .before .before .before .before .before .before .before .before .before .before .before .before .before .before .before .before .before .before .before .before .before .before .pre .0 .within .variables) in
-    let low : p .result < a .k = rw (p .ensures) (lower-parent b (a .k) (c .before .before .before .before .before .before .before .before .before .before .before .before .before .before .before .before .before .before .before .before .before .before .pre .5)) in (
+    let v : length (b .variables) ≤ 64 =
+    omega (
+      arith,
+      variables-length (a .file .now) (a .b),
+      c .before .before .before .before .before .before .before .before .before .before .before .before .before .before .before .before .before .before
+          .before .before .before .before .pre .0 .within .variables,
+    ) in
+    let low : p .result < a .k =
+    rw (p .ensures)
+    (lower-parent b (a .k)
+    (c .before .before .before .before .before .before .before .before .before .before .before .before .before .before .before .before .before .before
+    .before .before .before .before .pre .5)) in (
       s .ensures .lower .long-row ∙ i .ensures .0 .long-row,
       s .ensures .lower .long-set ∙ i .ensures .0 .long-set,
-      images-on b (a .images .now) (a .moved .now) (i .last .1 .1 .0) (i .last .1 .1 .1 .0) (a .n) (a .k) (p .result) low (c .before .before .before .before .before .before .before .before .before .before .before .before .before .before .before .before .before .before .before .before .before .before .pre .1) (c .before .before .before .before .before .before .before .before .before .before .before .before .before .before .before .before .before .before .before .before .before .before .pre .2) (i .ensures .1) (s .last .1 .1 .0) (s .last .1 .1 .1 .0) (c .before .before .before .before .before .before .before .before .before .before .before .before .before .before .before .before .before .before .before .before .before .before .pre .3) v (i .ensures .0) _ (s .ensures) (λ x. rw (p .ensures, c .before .before .before .before .before .before .before .before .before .before .before .before .before .before .before .before .before .context-field2 .ensures) (sym (found-fixes b (a .k) (rw (← c .before .before .before .before .before .before .before .before .before .before .before .before .before .before .before .before .before .before .context-field .ensures) (c .before .before .before .before .before .before .before .if1 .taken)) (lower-parent b (a .k) (c .before .before .before .before .before .before .before .before .before .before .before .before .before .before .before .before .before .before .before .before .before .before .pre .5)) x))),
-      sets-on b (a .images .now) (a .moved .now) (i .last .1 .1 .0) (i .last .1 .1 .1 .0) (a .n) (a .k) (p .result) low (c .before .before .before .before .before .before .before .before .before .before .before .before .before .before .before .before .before .before .before .before .before .before .pre .1) (c .before .before .before .before .before .before .before .before .before .before .before .before .before .before .before .before .before .before .before .before .before .before .pre .2) (i .ensures .1) (s .last .1 .1 .0) (s .last .1 .1 .1 .0) (c .before .before .before .before .before .before .before .before .before .before .before .before .before .before .before .before .before .before .before .before .before .before .pre .3) v (i .ensures .0) _ (s .ensures) (λ x. rw (p .ensures, c .before .before .before .before .before .before .before .before .before .before .before .before .before .before .before .before .before .context-field2 .ensures) (sym (found-fixes b (a .k) (rw (← c .before .before .before .before .before .before .before .before .before .before .before .before .before .before .before .before .before .before .context-field .ensures) (c .before .before .before .before .before .before .before .if1 .taken)) (lower-parent b (a .k) (c .before .before .before .before .before .before .before .before .before .before .before .before .before .before .before .before .before .before .before .before .before .before .pre .5)) x))),
+      images-on b (a .images .now) (a .moved .now) (i .last .1 .1 .0) (i .last .1 .1 .1 .0) (a .n) (a .k) (p .result) low
+          (c .before .before .before .before .before .before .before .before .before .before .before .before .before .before .before .before .before .before
+          .before .before .before .before .pre .1)
+          (c .before .before .before .before .before .before .before .before .before .before .before .before .before .before .before .before .before .before
+          .before .before .before .before .pre .2) (i .ensures .1) (s .last .1 .1 .0) (s .last .1 .1 .1 .0)
+          (c .before .before .before .before .before .before .before .before .before .before .before .before .before .before .before .before .before .before
+          .before .before .before .before .pre .3) v (i .ensures .0) _ (s .ensures)
+          (λ x. rw (
+            p .ensures,
+            c .before .before .before .before .before .before .before .before .before .before .before .before .before .before .before .before .before
+                .context-field2 .ensures,
+          )
+          (sym (found-fixes b (a .k)
+          (rw (← c .before .before .before .before .before .before .before .before .before .before .before .before .before .before .before .before .before
+          .before .context-field .ensures) (c .before .before .before .before .before .before .before .if1 .taken))
+          (lower-parent b (a .k)
+          (c .before .before .before .before .before .before .before .before .before .before .before .before .before .before .before .before .before .before
+          .before .before .before .before .pre .5)) x))),
+      sets-on b (a .images .now) (a .moved .now) (i .last .1 .1 .0) (i .last .1 .1 .1 .0) (a .n) (a .k) (p .result) low
+          (c .before .before .before .before .before .before .before .before .before .before .before .before .before .before .before .before .before .before
+          .before .before .before .before .pre .1)
+          (c .before .before .before .before .before .before .before .before .before .before .before .before .before .before .before .before .before .before
+          .before .before .before .before .pre .2) (i .ensures .1) (s .last .1 .1 .0) (s .last .1 .1 .1 .0)
+          (c .before .before .before .before .before .before .before .before .before .before .before .before .before .before .before .before .before .before
+          .before .before .before .before .pre .3) v (i .ensures .0) _ (s .ensures)
+          (λ x. rw (
+            p .ensures,
+            c .before .before .before .before .before .before .before .before .before .before .before .before .before .before .before .before .before
+                .context-field2 .ensures,
+          )
+          (sym (found-fixes b (a .k)
+          (rw (← c .before .before .before .before .before .before .before .before .before .before .before .before .before .before .before .before .before
+          .before .context-field .ensures) (c .before .before .before .before .before .before .before .if1 .taken))
+          (lower-parent b (a .k)
+          (c .before .before .before .before .before .before .before .before .before .before .before .before .before .before .before .before .before .before
+          .before .before .before .before .pre .5)) x))),
     )
 
 same-length-3 : tie.Need-same-length-3
@@ -106,18 +190,69 @@ same-length-4 c = search needs
 
 returns-2 : tie.Need-returns-2
 returns-2 c =
-    let a = c .before .before .before .before .before .before .before .before .before .before .before .before .before .before .before .before .before .before .before .before .before .before .args in
+    let a = c .before .before .before .before .before .before .before .before .before .before .before .before .before .before .before .before .before .before
+    .before .before .before .before .args in
     let b = bundleAt (a .file .now) (a .b) in
     let i = c .before .before .before .before .before .before .before .before .before .before .before .before .inherit in
     let s = c .before .before .before .before .replace in
     let p = c .before .before .before .before .before .before .before .before .before .before .before .before .before .before .before .context-field4 in
-    let v : length (b .variables) ≤ 64 = omega (arith, variables-length (a .file .now) (a .b), c .before .before .before .before .before .before .before .before .before .before .before .before .before .before .before .before .before .before .before .before .before .before .pre .0 .within .variables) in
-    let low : p .result < a .k = rw (p .ensures) (lower-parent b (a .k) (c .before .before .before .before .before .before .before .before .before .before .before .before .before .before .before .before .before .before .before .before .before .before .pre .5)) in
-    let kind = replaces-kind b (a .k) (c .before .before .before .before .before .before .before .before .before .before .before .before .before .before .before .before .before .before .before .before .before .before .pre .5) (λ e. c .before .before .before .before .before .before .before .if1 .left (c .before .before .before .before .before .before .before .before .before .before .before .before .before .before .before .before .before .before .context-field .ensures ∙ e)) in (
+    let v : length (b .variables) ≤ 64 =
+    omega (
+      arith,
+      variables-length (a .file .now) (a .b),
+      c .before .before .before .before .before .before .before .before .before .before .before .before .before .before .before .before .before .before
+          .before .before .before .before .pre .0 .within .variables,
+    ) in
+    let low : p .result < a .k =
+    rw (p .ensures)
+    (lower-parent b (a .k)
+    (c .before .before .before .before .before .before .before .before .before .before .before .before .before .before .before .before .before .before
+    .before .before .before .before .pre .5)) in
+    let kind =
+    replaces-kind b (a .k)
+    (c .before .before .before .before .before .before .before .before .before .before .before .before .before .before .before .before .before .before
+    .before .before .before .before .pre .5)
+    (λ e. c .before .before .before .before .before .before .before .if1 .left
+    (c .before .before .before .before .before .before .before .before .before .before .before .before .before .before .before .before .before .before
+    .context-field .ensures ∙ e)) in (
       s .ensures .lower .long-row ∙ i .ensures .0 .long-row,
       s .ensures .lower .long-set ∙ i .ensures .0 .long-set,
-      images-on b (a .images .now) (a .moved .now) (i .last .1 .1 .0) (i .last .1 .1 .1 .0) (a .n) (a .k) (p .result) low (c .before .before .before .before .before .before .before .before .before .before .before .before .before .before .before .before .before .before .before .before .before .before .pre .1) (c .before .before .before .before .before .before .before .before .before .before .before .before .before .before .before .before .before .before .before .before .before .before .pre .2) (i .ensures .1) (s .last .1 .1 .0) (s .last .1 .1 .1 .0) (c .before .before .before .before .before .before .before .before .before .before .before .before .before .before .before .before .before .before .before .before .before .before .pre .3) v (i .ensures .0) _ (s .ensures) (λ x. rw (p .ensures, c .before .before .before .before .before .before .before .before .before .before .before .before .before .before .before .before .before .context-field2 .ensures, c .before .before .before .before .before .before .before .before .before .before .before .before .before .before .before .before .context-field3 .ensures) (sym (found-replaces b (a .k) kind (lower-parent b (a .k) (c .before .before .before .before .before .before .before .before .before .before .before .before .before .before .before .before .before .before .before .before .before .before .pre .5)) x))),
-      sets-on b (a .images .now) (a .moved .now) (i .last .1 .1 .0) (i .last .1 .1 .1 .0) (a .n) (a .k) (p .result) low (c .before .before .before .before .before .before .before .before .before .before .before .before .before .before .before .before .before .before .before .before .before .before .pre .1) (c .before .before .before .before .before .before .before .before .before .before .before .before .before .before .before .before .before .before .before .before .before .before .pre .2) (i .ensures .1) (s .last .1 .1 .0) (s .last .1 .1 .1 .0) (c .before .before .before .before .before .before .before .before .before .before .before .before .before .before .before .before .before .before .before .before .before .before .pre .3) v (i .ensures .0) _ (s .ensures) (λ x. rw (p .ensures, c .before .before .before .before .before .before .before .before .before .before .before .before .before .before .before .before .before .context-field2 .ensures, c .before .before .before .before .before .before .before .before .before .before .before .before .before .before .before .before .context-field3 .ensures) (sym (found-replaces b (a .k) kind (lower-parent b (a .k) (c .before .before .before .before .before .before .before .before .before .before .before .before .before .before .before .before .before .before .before .before .before .before .pre .5)) x))),
+      images-on b (a .images .now) (a .moved .now) (i .last .1 .1 .0) (i .last .1 .1 .1 .0) (a .n) (a .k) (p .result) low
+          (c .before .before .before .before .before .before .before .before .before .before .before .before .before .before .before .before .before .before
+          .before .before .before .before .pre .1)
+          (c .before .before .before .before .before .before .before .before .before .before .before .before .before .before .before .before .before .before
+          .before .before .before .before .pre .2) (i .ensures .1) (s .last .1 .1 .0) (s .last .1 .1 .1 .0)
+          (c .before .before .before .before .before .before .before .before .before .before .before .before .before .before .before .before .before .before
+          .before .before .before .before .pre .3) v (i .ensures .0) _ (s .ensures)
+          (λ x. rw (
+            p .ensures,
+            c .before .before .before .before .before .before .before .before .before .before .before .before .before .before .before .before .before
+                .context-field2 .ensures,
+            c .before .before .before .before .before .before .before .before .before .before .before .before .before .before .before .before .context-field3
+                .ensures,
+          )
+          (sym (found-replaces b (a .k) kind
+          (lower-parent b (a .k)
+          (c .before .before .before .before .before .before .before .before .before .before .before .before .before .before .before .before .before .before
+          .before .before .before .before .pre .5)) x))),
+      sets-on b (a .images .now) (a .moved .now) (i .last .1 .1 .0) (i .last .1 .1 .1 .0) (a .n) (a .k) (p .result) low
+          (c .before .before .before .before .before .before .before .before .before .before .before .before .before .before .before .before .before .before
+          .before .before .before .before .pre .1)
+          (c .before .before .before .before .before .before .before .before .before .before .before .before .before .before .before .before .before .before
+          .before .before .before .before .pre .2) (i .ensures .1) (s .last .1 .1 .0) (s .last .1 .1 .1 .0)
+          (c .before .before .before .before .before .before .before .before .before .before .before .before .before .before .before .before .before .before
+          .before .before .before .before .pre .3) v (i .ensures .0) _ (s .ensures)
+          (λ x. rw (
+            p .ensures,
+            c .before .before .before .before .before .before .before .before .before .before .before .before .before .before .before .before .before
+                .context-field2 .ensures,
+            c .before .before .before .before .before .before .before .before .before .before .before .before .before .before .before .before .context-field3
+                .ensures,
+          )
+          (sym (found-replaces b (a .k) kind
+          (lower-parent b (a .k)
+          (c .before .before .before .before .before .before .before .before .before .before .before .before .before .before .before .before .before .before
+          .before .before .before .before .pre .5)) x))),
     )
 
 pub enter-spec : {M : Type 1} → statement M

@@ -15,7 +15,10 @@ mul-copy-row-2 : tie.Need-mul-copy-row-2
 mul-copy-row-2 c = omega (arith, c .before .before .before .before .pre .1 .row)
 
 copy-row-requires : tie.Need-copy-row-requires
-copy-row-requires c κs = (omega (arith, c .before .before .before .before .pre .0 .within .variables, c .before .before .before .before .pre .2), omega (arith, c .before .before .before .before .pre .0 .within .variables, c .before .before .before .before .pre .1 .row))
+copy-row-requires c κs = (
+  omega (arith, c .before .before .before .before .pre .0 .within .variables, c .before .before .before .before .pre .2),
+  omega (arith, c .before .before .before .before .pre .0 .within .variables, c .before .before .before .before .pre .1 .row),
+)
 
 mul-clear : tie.Need-mul-clear
 mul-clear c = omega (arith, c .before .before .before .before .before .before .before .before .pre .1 .words)
@@ -29,12 +32,27 @@ mul-unite c = omega (arith, c .before .before .before .before .before .before .b
 mul-unite-2 : tie.Need-mul-unite-2
 mul-unite-2 c =
     let a = c .before .before .before .before .before .before .before .before .before .before .before .before .args in
-    omega (arith, c .before .before .before .before .before .before .before .before .before .before .before .before .pre .1 .words, parent-words (bundleAt (a .file .now) (a .b)) (a .images .now) (a .moved .now) (a .images .now) (a .moved .now) (a .moved .now) (a .n) (a .k) (a .parent) (c .before .before .before .before .before .before .before .before .before .before .before .before .pre .2) (c .before .before .before .before .before .before .before .before .before .before .before .before .pre .1))
+    omega (
+      arith,
+      c .before .before .before .before .before .before .before .before .before .before .before .before .pre .1 .words,
+      parent-words
+          (bundleAt (a .file .now) (a .b)) (a .images .now) (a .moved .now) (a .images .now) (a .moved .now) (a .moved .now) (a .n) (a .k) (a .parent)
+          (c .before .before .before .before .before .before .before .before .before .before .before .before .pre .2)
+          (c .before .before .before .before .before .before .before .before .before .before .before .before .pre .1),
+    )
 
 unite-requires : tie.Need-unite-requires
 unite-requires c κs =
-    let a = c .before .before .before .before .before .before .before .before .before .before .before .before .args in
-    (parent-words (bundleAt (a .file .now) (a .b)) (a .images .now) (a .moved .now) (a .images .now) (a .moved .now) (a .moved .now) (a .n) (a .k) (a .parent) (c .before .before .before .before .before .before .before .before .before .before .before .before .pre .2) (c .before .before .before .before .before .before .before .before .before .before .before .before .pre .1), omega (arith, c .before .before .before .before .before .before .before .before .before .before .before .before .pre .1 .words, c .before .before .before .clear .kept .0))
+    let a = c .before .before .before .before .before .before .before .before .before .before .before .before .args in (
+      parent-words (bundleAt (a .file .now) (a .b)) (a .images .now) (a .moved .now) (a .images .now) (a .moved .now) (a .moved .now) (a .n) (a .k) (a .parent)
+          (c .before .before .before .before .before .before .before .before .before .before .before .before .pre .2)
+          (c .before .before .before .before .before .before .before .before .before .before .before .before .pre .1),
+      omega (
+        arith,
+        c .before .before .before .before .before .before .before .before .before .before .before .before .pre .1 .words,
+        c .before .before .before .clear .kept .0,
+      ),
+    )
 
 same-length : tie.Need-same-length
 same-length c = search needs
@@ -47,9 +65,17 @@ returns c =
     let a = c .before .before .before .before .before .before .before .before .before .before .before .before .before .before .before .args in
     let b = bundleAt (a .file .now) (a .b) in
     let r = c .before .before .before .before .before .before .before .before .before .before .copy-row in (
-      inherited b (a .images .now) (a .moved .now) (r .last .0) (c .before .before .before .before .before .before .clear .last .0) (c .before .before .unite .last .0) (a .n) (a .k) (a .parent) (c .before .before .before .before .before .before .before .before .before .before .before .before .before .before .before .pre .2) (c .before .before .before .before .before .before .before .before .before .before .before .before .before .before .before .pre .1) (c .before .before .before .before .before .before .clear .ensures) (c .before .before .unite .ensures) (r .ensures .0) (r .ensures .2),
+      inherited b (a .images .now) (a .moved .now) (r .last .0) (c .before .before .before .before .before .before .clear .last .0)
+          (c .before .before .unite .last .0) (a .n) (a .k) (a .parent)
+          (c .before .before .before .before .before .before .before .before .before .before .before .before .before .before .before .pre .2)
+          (c .before .before .before .before .before .before .before .before .before .before .before .before .before .before .before .pre .1)
+          (c .before .before .before .before .before .before .clear .ensures) (c .before .before .unite .ensures) (r .ensures .0) (r .ensures .2),
       row-copied b (r .last .0) (a .images .now) (a .k) (a .parent) (a .b .variables) (variables-length (a .file .now) (a .b)) (r .ensures .1),
-      set-copied b (a .images .now) (a .moved .now) (r .last .0) (c .before .before .before .before .before .before .clear .last .0) (c .before .before .unite .last .0) (a .n) (a .k) (a .parent) (c .before .before .before .before .before .before .before .before .before .before .before .before .before .before .before .pre .2) (c .before .before .before .before .before .before .before .before .before .before .before .before .before .before .before .pre .1) (c .before .before .before .before .before .before .clear .ensures) (c .before .before .unite .ensures),
+      set-copied b (a .images .now) (a .moved .now) (r .last .0) (c .before .before .before .before .before .before .clear .last .0)
+          (c .before .before .unite .last .0) (a .n) (a .k) (a .parent)
+          (c .before .before .before .before .before .before .before .before .before .before .before .before .before .before .before .pre .2)
+          (c .before .before .before .before .before .before .before .before .before .before .before .before .before .before .before .pre .1)
+          (c .before .before .before .before .before .before .clear .ensures) (c .before .before .unite .ensures),
     )
 
 pub inherit-spec : {M : Type 1} → statement M

@@ -32,7 +32,8 @@ Inv-loop file b images₀ moved₀ n k variables terms i₀ j₀ images moved i 
     × (j ≤ b .links)
     × Untouched images₀ moved₀ images moved n k
     × Agrees (bundleAt file b) images moved n k
-    × ((y : ℕ) → orAbove (lookup (items (bundleAt file b) i) (items (bundleAt file b) j) y) (mentionIn (bundleAt file b) images k y) ≡ orAbove (lookup (items (bundleAt file b) variables) (items (bundleAt file b) terms) y) (mentionIn (bundleAt file b) images₀ k y))
+    × ((y : ℕ) → orAbove (lookup (items (bundleAt file b) i) (items (bundleAt file b) j) y) (mentionIn (bundleAt file b) images k y) ≡ orAbove
+    (lookup (items (bundleAt file b) variables) (items (bundleAt file b) terms) y) (mentionIn (bundleAt file b) images₀ k y))
     × (each (numbers (b .variables)) (items (bundleAt file b) i) ≡ true)
     × (each (numbers (b .terms)) (items (bundleAt file b) j) ≡ true)
     × (different (items (bundleAt file b) i) ≡ true)
@@ -77,7 +78,9 @@ returns c =
     let l = c .before .before .loop in
     record {
       lower = l .inv .2;
-      mentions = λ y. rw (walk-some (a .file .now) (a .b) (l .i) (c .before .loop-test .taken) (l .inv .0), walk-nil (a .file .now) (a .b) (l .j) (c .if1 .taken)) at (l .inv .4 y);
+      mentions =
+          λ y. rw (walk-some (a .file .now) (a .b) (l .i) (c .before .loop-test .taken) (l .inv .0), walk-nil (a .file .now) (a .b) (l .j) (c .if1 .taken)) at
+          (l .inv .4 y);
       agrees = l .inv .3;
     }
 
@@ -99,7 +102,8 @@ set-image-requires c κs =
     let x = c .before .before .before .before .link-field in
     let t = c .before .before .before .link-field2 in
     let p = c .before .before .before .before .before .before .before .before .before .before .before .before .before .pre in
-    let i = walk-cons (a .file .now) (a .b) (l .i) (x .result) _ (c .before .before .before .before .before .before .loop-test .taken) (l .inv .0) (x .ensures) refl in
+    let i = walk-cons (a .file .now) (a .b) (l .i) (x .result) _ (c .before .before .before .before .before .before .loop-test .taken) (l .inv .0) (x .ensures)
+    refl in
     let j = walk-cons (a .file .now) (a .b) (l .j) (t .result) _ (c .before .before .before .before .before .if1 .left) (l .inv .1) (t .ensures) refl in
     let v = each-head (a .b .variables) (x .result) _ (rw i at (l .inv .5)) in
     let u = each-head (a .b .terms) (t .result) _ (rw j at (l .inv .6)) in (
@@ -109,25 +113,36 @@ set-image-requires c κs =
       v .1,
       p .2,
       omega (arith, u .1, p .0 .within .terms),
-      ap not (c .before .before .is-variable .ensures) ∙ sym (ap (λ m. movedBy b (asImage m) (x .result)) (as-replaced (t .result) (λ z. omega (arith, u .0)) (λ z. omega (arith, u .1, p .0 .within .terms)))),
+      ap not (c .before .before .is-variable .ensures) ∙ sym
+          (ap (λ m. movedBy b (asImage m) (x .result)) (as-replaced (t .result) (λ z. omega (arith, u .0)) (λ z. omega (arith, u .1, p .0 .within .terms)))),
       l .inv .3,
     )
 
 next-link-requires : tie.Need-next-link-requires Inv-loop μ-loop
-next-link-requires c κs = c .before .before .before .before .before .before .before .before .before .before .before .before .before .before .before .before .before .before .pre .0
+next-link-requires c κs =
+    c .before .before .before .before .before .before .before .before .before .before .before .before .before .before .before .before .before .before .pre .0
 
 next-link-requires-2 : tie.Need-next-link-requires-2 Inv-loop μ-loop
-next-link-requires-2 c κs = c .before .before .before .before .before .before .before .before .before .before .before .before .before .before .before .before .before .before .before .pre .0
+next-link-requires-2 c κs =
+    c .before .before .before .before .before .before .before .before .before .before .before .before .before .before .before .before .before .before .before
+    .pre .0
 
 loop-less : tie.Need-loop-less Inv-loop μ-loop
 loop-less c =
-    let a = c .before .before .before .before .before .before .before .before .before .before .before .before .before .before .before .before .before .before .before .before .args in
+    let a = c .before .before .before .before .before .before .before .before .before .before .before .before .before .before .before .before .before .before
+    .before .before .args in
     let l = c .before .before .before .before .before .before .before .before .before .before .before .before .before .before .loop in
-    omega (arith, walk-length (a .file .now) (a .b) (l .i) (c .before .next-link .result) (c .before .before .before .before .before .before .before .before .before .before .before .before .before .loop-test .taken) (l .inv .0) (c .before .next-link .ensures))
+    omega (
+      arith,
+      walk-length (a .file .now) (a .b) (l .i) (c .before .next-link .result)
+          (c .before .before .before .before .before .before .before .before .before .before .before .before .before .loop-test .taken) (l .inv .0)
+          (c .before .next-link .ensures),
+    )
 
 loop-again : tie.Need-loop-again Inv-loop μ-loop
 loop-again c =
-    let a = c .before .before .before .before .before .before .before .before .before .before .before .before .before .before .before .before .before .before .before .before .args in
+    let a = c .before .before .before .before .before .before .before .before .before .before .before .before .before .before .before .before .before .before
+    .before .before .args in
     let l = c .before .before .before .before .before .before .before .before .before .before .before .before .before .before .loop in
     let b = bundleAt (a .file .now) (a .b) in
     let x = c .before .before .before .before .before .before .before .before .before .before .before .link-field in
@@ -135,15 +150,19 @@ loop-again c =
     let r = c .before .next-link in
     let s = c .next-link2 in
     let set = c .before .before .before .before .before .before .set-image in
-    let i = walk-cons (a .file .now) (a .b) (l .i) (x .result) (r .result) (c .before .before .before .before .before .before .before .before .before .before .before .before .before .loop-test .taken) (l .inv .0) (x .ensures) (r .ensures) in
-    let j = walk-cons (a .file .now) (a .b) (l .j) (t .result) (s .result) (c .before .before .before .before .before .before .before .before .before .before .before .before .if1 .left) (l .inv .1) (t .ensures) (s .ensures) in
+    let i = walk-cons (a .file .now) (a .b) (l .i) (x .result) (r .result)
+    (c .before .before .before .before .before .before .before .before .before .before .before .before .before .loop-test .taken) (l .inv .0) (x .ensures)
+    (r .ensures) in
+    let j = walk-cons (a .file .now) (a .b) (l .j) (t .result) (s .result)
+    (c .before .before .before .before .before .before .before .before .before .before .before .before .if1 .left) (l .inv .1) (t .ensures) (s .ensures) in
     let vs = items b (r .result) in
     let ts = items b (s .result) in
     let five : each (numbers (a .b .variables)) (x .result ∷ vs) ≡ true = rw i at (l .inv .5) in
     let six : each (numbers (a .b .terms)) (t .result ∷ ts) ≡ true = rw j at (l .inv .6) in
     let seven : different (x .result ∷ vs) ≡ true = rw i at (l .inv .7) in
     let u = each-head (a .b .terms) (t .result) ts six in
-    let few = c .before .before .before .before .before .before .before .before .before .before .before .before .before .before .before .before .before .before .before .before .pre .0 .within .terms in
+    let few = c .before .before .before .before .before .before .before .before .before .before .before .before .before .before .before .before .before .before
+    .before .before .pre .0 .within .terms in
     let some = as-replaced (t .result) (λ z. omega (arith, u .0)) (λ z. omega (arith, u .1, few)) in (
       walk-le (a .file .now) (a .b) (l .i) (r .result) (r .ensures),
       walk-le (a .file .now) (a .b) (l .j) (s .result) (s .ensures),

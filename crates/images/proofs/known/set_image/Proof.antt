@@ -48,8 +48,10 @@ returns c =
     let a = c .before .before .before .before .before .before .before .before .args in
     let p = c .before .before .before .before .before .before .before .before .pre in
     let v = variables-length (a .file .now) (a .b) in
-    entered-set (bundleAt (a .file .now) (a .b)) (a .images .now) (a .k) (a .x) (a .t) (p .2) (omega (arith, v, p .3)) (omega (arith, v, p .0 .within .variables)) (p .1 .row)
-    (a .moved .now) (c .before .before .insert .last .0) (a .n) (p .1 .words) (omega (arith, v, p .4)) (p .7) (a .moves) (p .6) (rw (c .before .before .before .before .if1 .taken) (c .before .before .insert .ensures))
+    entered-set (bundleAt (a .file .now) (a .b)) (a .images .now) (a .k) (a .x) (a .t) (p .2) (omega (arith, v, p .3))
+    (omega (arith, v, p .0 .within .variables)) (p .1 .row)
+    (a .moved .now) (c .before .before .insert .last .0) (a .n) (p .1 .words) (omega (arith, v, p .4)) (p .7) (a .moves) (p .6)
+    (rw (c .before .before .before .before .if1 .taken) (c .before .before .insert .ensures))
 
 same-length-3 : tie.Need-same-length-3
 same-length-3 c = search needs
@@ -62,8 +64,10 @@ returns-2 c =
     let a = c .before .before .before .before .before .before .before .before .args in
     let p = c .before .before .before .before .before .before .before .before .pre in
     let v = variables-length (a .file .now) (a .b) in
-    entered-set (bundleAt (a .file .now) (a .b)) (a .images .now) (a .k) (a .x) (a .t) (p .2) (omega (arith, v, p .3)) (omega (arith, v, p .0 .within .variables)) (p .1 .row)
-    (a .moved .now) (c .before .before .remove .last .0) (a .n) (p .1 .words) (omega (arith, v, p .4)) (p .7) (a .moves) (p .6) (rw (c .before .before .before .before .if1 .left) (c .before .before .remove .ensures))
+    entered-set (bundleAt (a .file .now) (a .b)) (a .images .now) (a .k) (a .x) (a .t) (p .2) (omega (arith, v, p .3))
+    (omega (arith, v, p .0 .within .variables)) (p .1 .row)
+    (a .moved .now) (c .before .before .remove .last .0) (a .n) (p .1 .words) (omega (arith, v, p .4)) (p .7) (a .moves) (p .6)
+    (rw (c .before .before .before .before .if1 .left) (c .before .before .remove .ensures))
 
 pub set-image-spec : {M : Type 1} → statement M
 set-image-spec =

@@ -46,13 +46,18 @@ is-variable-requires : tie.Need-is-variable-requires
 is-variable-requires c κs = search needs
 
 context-field-requires-5 : tie.Need-context-field-requires-5
-context-field-requires-5 c κs = (c .before .before .before .before .before .before .before .before .before .before .before .before .before .before .before .pre, omega arith)
+context-field-requires-5 c κs =
+    (c .before .before .before .before .before .before .before .before .before .before .before .before .before .before .before .pre, omega arith)
 
 context-field-requires-6 : tie.Need-context-field-requires-6
-context-field-requires-6 c κs = (c .before .before .before .before .before .before .before .before .before .before .before .before .before .before .before .before .pre, omega arith)
+context-field-requires-6 c κs =
+    (c .before .before .before .before .before .before .before .before .before .before .before .before .before .before .before .before .pre, omega arith)
 
 context-field-requires-7 : tie.Need-context-field-requires-7
-context-field-requires-7 c κs = (c .before .before .before .before .before .before .before .before .before .before .before .before .before .before .before .before .before .pre, omega arith)
+context-field-requires-7 c κs = (
+  c .before .before .before .before .before .before .before .before .before .before .before .before .before .before .before .before .before .pre,
+  omega arith,
+)
 
 returns : tie.Need-returns
 unfolding passed bindContextsBy

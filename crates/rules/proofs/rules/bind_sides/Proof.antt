@@ -23,7 +23,9 @@ apart free image context left y z = not (free left z) || not (freeInImageBy free
 
 abbrev Inv-loop : tie.InvT-loop
 Inv-loop file b area n images context left right y z₀ z =
-    (z ≤ b .variables) × (upTo (b .variables) (apart (freeIn (b .terms) area n) (imagesIn b images) context left y) ≡ upTo z (apart (freeIn (b .terms) area n) (imagesIn b images) context left y))
+    (z ≤ b .variables)
+    × (upTo (b .variables) (apart (freeIn (b .terms) area n) (imagesIn b images) context left y) ≡ upTo z
+    (apart (freeIn (b .terms) area n) (imagesIn b images) context left y))
 
 abbrev μ-loop : tie.MeasureT-loop
 μ-loop file b area n images context left right y z₀ z = z
@@ -57,9 +59,25 @@ unfolding bindSidesBy
 returns-2 c =
     let a = c .before .before .before .before .before .before .before .before .before .before .before .before .before .args in
     let l = c .before .before .before .before .before .before .loop in
-    let p = apart (freeIn (a .b .terms) (a .area .now) (a .n)) (imagesIn (a .b) (a .images .now)) (a .s .context) (a .s .left) (c .before .before .before .before .before .before .before .before .before .term-field .result) in
-    let f : p (l .z) ≡ false = rw (← c .before .before .before .before .is-free2 .ensures, c .before .before .before .if2 .taken, le-leb _ _ (c .before .before .before .before .before .before .before .before .before .before .before .before .before .pre .3), ← c .before .before .image-of .ensures, ← c .before .free-in-image .ensures, c .if3 .taken) in
-    rw (← c .before .before .before .before .before .before .before .before .before .term-field .ensures, ← c .before .before .before .before .before .before .before .before .is-free .ensures, c .before .before .before .before .before .before .before .if1 .left, variables-length (a .file .now) (a .b)) (sym (l .inv .1 ∙ upto-here p (l .z) (c .before .before .before .before .before .loop-test .taken) f))
+    let p = apart (freeIn (a .b .terms) (a .area .now) (a .n)) (imagesIn (a .b) (a .images .now)) (a .s .context) (a .s .left)
+    (c .before .before .before .before .before .before .before .before .before .term-field .result) in
+    let f : p (l .z) ≡ false =
+    rw (
+      ← c .before .before .before .before .is-free2 .ensures,
+      c .before .before .before .if2 .taken,
+      le-leb _ _
+          (c .before .before .before .before .before .before .before .before .before .before .before .before .before .pre .3),
+      ← c .before .before .image-of .ensures,
+      ← c .before .free-in-image .ensures,
+      c .if3 .taken,
+    ) in
+    rw (
+      ← c .before .before .before .before .before .before .before .before .before .term-field .ensures,
+      ← c .before .before .before .before .before .before .before .before .is-free .ensures,
+      c .before .before .before .before .before .before .before .if1 .left,
+      variables-length (a .file .now) (a .b),
+    )
+    (sym (l .inv .1 ∙ upto-here p (l .z) (c .before .before .before .before .before .loop-test .taken) f))
 
 sub-z : tie.Need-sub-z Inv-loop μ-loop
 sub-z c = omega arith
@@ -71,9 +89,18 @@ loop-again : tie.Need-loop-again Inv-loop μ-loop
 loop-again c =
     let a = c .before .before .before .before .before .before .before .before .before .before .args in
     let l = c .before .before .before .loop in
-    let p = apart (freeIn (a .b .terms) (a .area .now) (a .n)) (imagesIn (a .b) (a .images .now)) (a .s .context) (a .s .left) (c .before .before .before .before .before .before .term-field .result) in
+    let p = apart (freeIn (a .b .terms) (a .area .now) (a .n)) (imagesIn (a .b) (a .images .now)) (a .s .context) (a .s .left)
+    (c .before .before .before .before .before .before .term-field .result) in
     let t : p (l .z) ≡ true =
-    ⊎-elim (λ w. rw (← c .before .is-free2 .ensures, w .0 .taken, le-leb _ _ (c .before .before .before .before .before .before .before .before .before .before .pre .3), ← w .1 .ensures, ← w .2 .ensures, w .3 .left)) (λ w. rw (← c .before .is-free2 .ensures, w .left)) (c .if2 .came) in (
+    ⊎-elim (λ w.
+    rw (
+      ← c .before .is-free2 .ensures,
+      w .0 .taken,
+      le-leb _ _ (c .before .before .before .before .before .before .before .before .before .before .pre .3),
+      ← w .1 .ensures,
+      ← w .2 .ensures,
+      w .3 .left,
+    )) (λ w. rw (← c .before .is-free2 .ensures, w .left)) (c .if2 .came) in (
       omega arith,
       l .inv .1 ∙ upto-on p (l .z) (c .before .before .loop-test .taken) t,
     )
@@ -83,8 +110,15 @@ unfolding bindSidesBy
 returns-3 c =
     let a = c .before .before .before .before .before .before .before .before .args in
     let l = c .before .loop in
-    let p = apart (freeIn (a .b .terms) (a .area .now) (a .n)) (imagesIn (a .b) (a .images .now)) (a .s .context) (a .s .left) (c .before .before .before .before .term-field .result) in
-    rw (← c .before .before .before .before .term-field .ensures, ← c .before .before .before .is-free .ensures, c .before .before .if1 .left, variables-length (a .file .now) (a .b)) (sym (l .inv .1 ∙ upto-end p (l .z) (c .loop-test .left)))
+    let p = apart (freeIn (a .b .terms) (a .area .now) (a .n)) (imagesIn (a .b) (a .images .now)) (a .s .context) (a .s .left)
+    (c .before .before .before .before .term-field .result) in
+    rw (
+      ← c .before .before .before .before .term-field .ensures,
+      ← c .before .before .before .is-free .ensures,
+      c .before .before .if1 .left,
+      variables-length
+          (a .file .now) (a .b),
+    ) (sym (l .inv .1 ∙ upto-end p (l .z) (c .loop-test .left)))
 
 pub bind-sides-spec : {M : Type 1} → statement M
 bind-sides-spec =

@@ -19,7 +19,13 @@ is-settled-requires c κs =
 
 returns : tie.Need-returns
 unfolding reflHoldsBy
-returns c = rw (le-leb _ _ (c .before .before .before .before .before .before .before .pre .2), eq-eqb _ _ (c .before .before .if1 .taken), ← c .before .is-settled .ensures, c .if2 .taken)
+returns c =
+    rw (
+      le-leb _ _ (c .before .before .before .before .before .before .before .pre .2),
+      eq-eqb _ _ (c .before .before .if1 .taken),
+      ← c .before .is-settled .ensures,
+      c .if2 .taken,
+    )
 
 term-field-requires : tie.Need-term-field-requires
 term-field-requires c κs = search needs
@@ -48,8 +54,17 @@ unfolding reflHoldsBy
 returns-3 c =
     let a = c .before .before .before .before .before .before .before .before .before .before .args in
     let n : (eqb (a .s .left) (a .s .right) && settledIn (a .b .terms) (a .area .now) (a .moved .now) (a .n) (a .s .context) (a .s .left)) ≡ false =
-    ⊎-elim (λ w. rw (eq-eqb _ _ (w .0 .taken), ← w .1 .ensures, w .2 .left)) (λ w. rw (ne-eqb _ _ (w .left))) (c .before .before .before .before .before .if1 .came) in
-    rw (le-leb _ _ (c .before .before .before .before .before .before .before .before .before .before .pre .2), n, ← c .before .before .before .before .term-field .ensures, c .before .before .before .if3 .left, ← c .before .before .term-field2 .ensures, ← c .before .image-of .ensures, ← c .is-image .ensures)
+    ⊎-elim (λ w. rw (eq-eqb _ _ (w .0 .taken), ← w .1 .ensures, w .2 .left)) (λ w. rw (ne-eqb _ _ (w .left)))
+    (c .before .before .before .before .before .if1 .came) in
+    rw (
+      le-leb _ _ (c .before .before .before .before .before .before .before .before .before .before .pre .2),
+      n,
+      ← c .before .before .before .before .term-field .ensures,
+      c .before .before .before .if3 .left,
+      ← c .before .before .term-field2 .ensures,
+      ← c .before .image-of .ensures,
+      ← c .is-image .ensures,
+    )
 
 pub refl-holds-spec : {M : Type 1} → statement M
 refl-holds-spec =

@@ -22,7 +22,14 @@ step-carries-requires-2 c κs = search needs
 
 returns : tie.Need-returns
 unfolding passed transTestsBy
-returns c = rw (c .step-carries2 .ensures, c .before .step-carries .ensures, c .before .before .taken-field .ensures, c .before .before .before .second-item .ensures, c .before .before .before .before .first-item .ensures)
+returns c =
+    rw (
+      c .step-carries2 .ensures,
+      c .before .step-carries .ensures,
+      c .before .before .taken-field .ensures,
+      c .before .before .before .second-item .ensures,
+      c .before .before .before .before .first-item .ensures,
+    )
 
 pub trans-holds-spec : {M : Type 1} → statement M
 trans-holds-spec =

@@ -20,7 +20,12 @@ is-settled-requires c κs =
 returns : tie.Need-returns
 unfolding transSideBy
 returns c =
-    rw (le-leb _ _ (c .before .before .before .before .before .before .before .pre .3), c .is-settled .ensures, c .before .taken-field .ensures, c .before .before .first-item .ensures)
+    rw (
+      le-leb _ _ (c .before .before .before .before .before .before .before .pre .3),
+      c .is-settled .ensures,
+      c .before .taken-field .ensures,
+      c .before .before .first-item .ensures,
+    )
 
 pub trans-side-spec : {M : Type 1} → statement M
 trans-side-spec =

@@ -28,7 +28,8 @@ mul-words : tie.Need-mul-words
 mul-words c = search needs
 
 slice-write-words : tie.Need-slice-write-words
-slice-write-words c = rw (c .before .contexts-at .ensures .0, c .before .before .largest .ensures) (omega (arith, c .before .before .before .before .pre .0 .long))
+slice-write-words c = rw (c .before .contexts-at .ensures .0, c .before .before .largest .ensures)
+    (omega (arith, c .before .before .before .before .pre .0 .long))
 
 as-word-requires-2 : tie.Need-as-word-requires-2
 as-word-requires-2 c κs = search needs
@@ -40,7 +41,10 @@ mul-words-2 : tie.Need-mul-words-2
 mul-words-2 c = search needs
 
 slice-write-words-2 : tie.Need-slice-write-words-2
-slice-write-words-2 c = simp length-set (rw (c .before .before .contexts-at .ensures .0, c .before .before .before .largest .ensures) (omega (arith, c .before .before .before .before .before .pre .0 .long)))
+slice-write-words-2 c =
+    simp length-set
+    (rw (c .before .before .contexts-at .ensures .0, c .before .before .before .largest .ensures)
+    (omega (arith, c .before .before .before .before .before .pre .0 .long)))
 
 as-word-requires-3 : tie.Need-as-word-requires-3
 as-word-requires-3 c κs = search needs
@@ -52,7 +56,10 @@ mul-words-3 : tie.Need-mul-words-3
 mul-words-3 c = search needs
 
 slice-write-words-3 : tie.Need-slice-write-words-3
-slice-write-words-3 c = simp length-set (rw (c .before .before .before .contexts-at .ensures .0, c .before .before .before .before .largest .ensures) (omega (arith, c .before .before .before .before .before .before .pre .0 .long)))
+slice-write-words-3 c =
+    simp length-set
+    (rw (c .before .before .before .contexts-at .ensures .0, c .before .before .before .before .largest .ensures)
+    (omega (arith, c .before .before .before .before .before .before .pre .0 .long)))
 
 as-word-requires-4 : tie.Need-as-word-requires-4
 as-word-requires-4 c κs = search needs
@@ -64,7 +71,10 @@ mul-words-4 : tie.Need-mul-words-4
 mul-words-4 c = search needs
 
 slice-write-words-4 : tie.Need-slice-write-words-4
-slice-write-words-4 c = simp length-set (rw (c .before .before .before .before .contexts-at .ensures .0, c .before .before .before .before .before .largest .ensures) (omega (arith, c .before .before .before .before .before .before .before .pre .0 .long)))
+slice-write-words-4 c =
+    simp length-set
+    (rw (c .before .before .before .before .contexts-at .ensures .0, c .before .before .before .before .before .largest .ensures)
+    (omega (arith, c .before .before .before .before .before .before .before .pre .0 .long)))
 
 add-after : tie.Need-add-after
 add-after c = search needs
@@ -76,7 +86,14 @@ returns : tie.Need-returns
 returns c =
     let a = c .before .before .before .before .before .before .before .args in
     let p = c .before .before .before .before .before .before .before .pre in
-    rw (c .before .before .before .as-word .ensures, c .before .before .as-word2 .ensures, c .before .as-word3 .ensures, c .as-word4 .ensures, c .before .before .before .before .contexts-at .ensures .0, c .before .before .before .before .before .largest .ensures)
+    rw (
+      c .before .before .before .as-word .ensures,
+      c .before .before .as-word2 .ensures,
+      c .before .as-word3 .ensures,
+      c .as-word4 .ensures,
+      c .before .before .before .before .contexts-at .ensures .0,
+      c .before .before .before .before .before .largest .ensures,
+    )
     (context-appended (a .words .now) _ (a .c) (p .0) (p .1)
     (written-4 (a .words .now) (contextsAt limits + 4 * a .c .contexts) (a .kind) (a .first) (a .second) (a .parent) (omega (arith, p .0 .long))))
 

@@ -40,7 +40,10 @@ mul-words-2 : tie.Need-mul-words-2
 mul-words-2 c = search needs
 
 slice-write-words-2 : tie.Need-slice-write-words-2
-slice-write-words-2 c = simp length-set (rw (c .before .before .links-at .ensures .0, c .before .before .before .largest .ensures) (omega (arith, c .before .before .before .before .before .pre .0 .long)))
+slice-write-words-2 c =
+    simp length-set
+    (rw (c .before .before .links-at .ensures .0, c .before .before .before .largest .ensures)
+    (omega (arith, c .before .before .before .before .before .pre .0 .long)))
 
 add-after : tie.Need-add-after
 add-after c = search needs

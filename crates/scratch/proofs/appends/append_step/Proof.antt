@@ -40,7 +40,10 @@ mul-words-2 : tie.Need-mul-words-2
 mul-words-2 c = search needs
 
 slice-write-words-2 : tie.Need-slice-write-words-2
-slice-write-words-2 c = simp length-set (rw (c .before .before .steps-at .ensures .0, c .before .before .before .largest .ensures) (omega (arith, c .before .before .before .before .before .pre .0 .long)))
+slice-write-words-2 c =
+    simp length-set
+    (rw (c .before .before .steps-at .ensures .0, c .before .before .before .largest .ensures)
+    (omega (arith, c .before .before .before .before .before .pre .0 .long)))
 
 as-word-requires-3 : tie.Need-as-word-requires-3
 as-word-requires-3 c κs = search needs
@@ -52,7 +55,10 @@ mul-words-3 : tie.Need-mul-words-3
 mul-words-3 c = search needs
 
 slice-write-words-3 : tie.Need-slice-write-words-3
-slice-write-words-3 c = simp length-set (rw (c .before .before .before .steps-at .ensures .0, c .before .before .before .before .largest .ensures) (omega (arith, c .before .before .before .before .before .before .pre .0 .long)))
+slice-write-words-3 c =
+    simp length-set
+    (rw (c .before .before .before .steps-at .ensures .0, c .before .before .before .before .largest .ensures)
+    (omega (arith, c .before .before .before .before .before .before .pre .0 .long)))
 
 as-word-requires-4 : tie.Need-as-word-requires-4
 as-word-requires-4 c κs = search needs
@@ -64,7 +70,10 @@ mul-words-4 : tie.Need-mul-words-4
 mul-words-4 c = search needs
 
 slice-write-words-4 : tie.Need-slice-write-words-4
-slice-write-words-4 c = simp length-set (rw (c .before .before .before .before .steps-at .ensures .0, c .before .before .before .before .before .largest .ensures) (omega (arith, c .before .before .before .before .before .before .before .pre .0 .long)))
+slice-write-words-4 c =
+    simp length-set
+    (rw (c .before .before .before .before .steps-at .ensures .0, c .before .before .before .before .before .largest .ensures)
+    (omega (arith, c .before .before .before .before .before .before .before .pre .0 .long)))
 
 as-word-requires-5 : tie.Need-as-word-requires-5
 as-word-requires-5 c κs = search needs
@@ -76,7 +85,9 @@ mul-words-5 : tie.Need-mul-words-5
 mul-words-5 c = search needs
 
 slice-write-words-5 : tie.Need-slice-write-words-5
-slice-write-words-5 c = simp length-set (rw (c .before .before .before .before .before .steps-at .ensures .0, c .before .before .before .before .before .before .largest .ensures) (omega (arith, c .before .before .before .before .before .before .before .before .pre .0 .long)))
+slice-write-words-5 c =
+    simp length-set (rw (c .before .before .before .before .before .steps-at .ensures .0, c .before .before .before .before .before .before .largest .ensures)
+    (omega (arith, c .before .before .before .before .before .before .before .before .pre .0 .long)))
 
 add-after : tie.Need-add-after
 add-after c = search needs
@@ -88,7 +99,15 @@ returns : tie.Need-returns
 returns c =
     let a = c .before .before .before .before .before .before .before .before .args in
     let p = c .before .before .before .before .before .before .before .before .pre in
-    rw (c .before .before .before .before .as-word .ensures, c .before .before .before .as-word2 .ensures, c .before .before .as-word3 .ensures, c .before .as-word4 .ensures, c .as-word5 .ensures, c .before .before .before .before .before .steps-at .ensures .0, c .before .before .before .before .before .before .largest .ensures)
+    rw (
+      c .before .before .before .before .as-word .ensures,
+      c .before .before .before .as-word2 .ensures,
+      c .before .before .as-word3 .ensures,
+      c .before .as-word4 .ensures,
+      c .as-word5 .ensures,
+      c .before .before .before .before .before .steps-at .ensures .0,
+      c .before .before .before .before .before .before .largest .ensures,
+    )
     (step-appended (a .words .now) _ (a .c) (p .0) (p .1)
     (written-5 (a .words .now) (stepsAt limits + 5 * a .c .steps) (a .rule) (a .context) (a .left) (a .right) (a .premises) (omega (arith, p .0 .long))))
 

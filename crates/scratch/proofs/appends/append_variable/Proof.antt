@@ -24,7 +24,8 @@ mul-words : tie.Need-mul-words
 mul-words c = search needs
 
 slice-write-words : tie.Need-slice-write-words
-slice-write-words c = rw (c .before .variables-at .ensures .0, c .before .before .largest .ensures) (omega (arith, c .before .before .before .before .pre .0 .long))
+slice-write-words c = rw (c .before .variables-at .ensures .0, c .before .before .largest .ensures)
+    (omega (arith, c .before .before .before .before .pre .0 .long))
 
 add-after : tie.Need-add-after
 add-after c = search needs
@@ -38,7 +39,8 @@ returns c =
     let p = c .before .before .before .before .pre in
     rw (c .as-word .ensures, c .before .variables-at .ensures .0, c .before .before .largest .ensures)
     (variable-appended (a .words .now) _ (a .c) (p .0) (p .1)
-    (written-more (written-none (a .words .now) (variablesAt limits + 1 * a .c .variables)) (variablesAt limits + a .c .variables) (a .sort) (omega arith) (omega (arith, p .0 .long))))
+    (written-more (written-none (a .words .now) (variablesAt limits + 1 * a .c .variables)) (variablesAt limits + a .c .variables) (a .sort) (omega arith)
+    (omega (arith, p .0 .long))))
 
 pub append-variable-spec : {M : Type 1} → statement M
 append-variable-spec =

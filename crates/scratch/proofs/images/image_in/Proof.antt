@@ -49,7 +49,8 @@ returns-3 c =
     let a = c .before .before .before .before .before .before .before .before .args in
     let l = c .before .before .before .before .before .before .loop in
     let p = c .before .context-field in
-    sym (l .inv ∙ image-not-lower (bundleIn (a .words .now) (a .c)) (l .k) (a .x) (c .before .before .before .before .mention-in .ensures) (c .before .before .enum-told2 .given .1) (p .ensures .0) (c .if1 .taken))
+    sym (l .inv ∙ image-not-lower (bundleIn (a .words .now) (a .c)) (l .k) (a .x) (c .before .before .before .before .mention-in .ensures)
+    (c .before .before .enum-told2 .given .1) (p .ensures .0) (c .if1 .taken))
 
 loop-less : tie.Need-loop-less Inv-loop μ-loop
 loop-less c = c .if1 .left
@@ -59,7 +60,8 @@ loop-again c =
     let a = c .before .before .before .before .before .before .before .before .args in
     let l = c .before .before .before .before .before .before .loop in
     let p = c .before .context-field in
-    l .inv ∙ image-on (bundleIn (a .words .now) (a .c)) (l .k) (a .x) (c .before .before .before .before .mention-in .ensures) (c .before .before .enum-told2 .given .1) (p .ensures .0) (c .if1 .left)
+    l .inv ∙ image-on (bundleIn (a .words .now) (a .c)) (l .k) (a .x) (c .before .before .before .before .mention-in .ensures)
+    (c .before .before .enum-told2 .given .1) (p .ensures .0) (c .if1 .left)
 
 returns-4 : tie.Need-returns-4 Inv-loop μ-loop
 returns-4 c =

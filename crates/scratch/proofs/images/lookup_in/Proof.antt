@@ -34,7 +34,11 @@ loop-holds c =
     let s = c .first-link2 in (
       walk-start-le (sized-in (a .words .now) (a .c)) (a .variables) (r .result) (r .ensures),
       walk-start-le (sized-in (a .words .now) (a .c)) (a .terms) (s .result) (s .ensures),
-      rw (walk-start (sized-in (a .words .now) (a .c)) (a .variables) (r .result) (r .ensures), walk-start (sized-in (a .words .now) (a .c)) (a .terms) (s .result) (s .ensures)),
+      rw (
+        walk-start (sized-in (a .words .now) (a .c)) (a .variables) (r .result) (r .ensures),
+        walk-start (sized-in (a .words .now) (a .c)) (a .terms)
+            (s .result) (s .ensures),
+      ),
     )
 
 returns : tie.Need-returns Inv-loop μ-loop
@@ -42,7 +46,12 @@ unfolding lookup
 returns c =
     let a = c .before .before .before .before .before .before .args in
     let l = c .before .before .loop in
-    rw (l .inv .2, walk-some (sized-in (a .words .now) (a .c)) (l .i) (c .before .loop-test .taken) (l .inv .0), walk-nil (sized-in (a .words .now) (a .c)) (l .j) (c .if1 .taken))
+    rw (
+      l .inv .2,
+      walk-some (sized-in (a .words .now) (a .c)) (l .i) (c .before .loop-test .taken) (l .inv .0),
+      walk-nil (sized-in (a .words .now) (a .c))
+          (l .j) (c .if1 .taken),
+    )
 
 link-field-requires : tie.Need-link-field-requires Inv-loop μ-loop
 link-field-requires c κs = search needs
@@ -55,7 +64,12 @@ unfolding lookup
 returns-2 c =
     let a = c .before .before .before .before .before .before .before .before .before .args in
     let l = c .before .before .before .before .before .loop in
-    rw (l .inv .2, walk-some (sized-in (a .words .now) (a .c)) (l .i) (c .before .before .before .before .loop-test .taken) (l .inv .0), walk-some (sized-in (a .words .now) (a .c)) (l .j) (c .before .before .before .if1 .left) (l .inv .1))
+    rw (
+      l .inv .2,
+      walk-some (sized-in (a .words .now) (a .c)) (l .i) (c .before .before .before .before .loop-test .taken) (l .inv .0),
+      walk-some
+          (sized-in (a .words .now) (a .c)) (l .j) (c .before .before .before .if1 .left) (l .inv .1),
+    )
     (rw (← c .before .before .link-field .ensures .0, ← c .before .link-field2 .ensures .0, eq-eqb _ _ (c .if2 .taken)))
 
 next-link-requires : tie.Need-next-link-requires Inv-loop μ-loop
@@ -68,7 +82,11 @@ loop-less : tie.Need-loop-less Inv-loop μ-loop
 loop-less c =
     let a = c .before .before .before .before .before .before .before .before .before .before .before .args in
     let l = c .before .before .before .before .before .before .before .loop in
-    omega (arith, walk-length (sized-in (a .words .now) (a .c)) (l .i) (c .before .next-link .result) (c .before .before .before .before .before .before .loop-test .taken) (l .inv .0) (c .before .next-link .ensures))
+    omega (
+      arith,
+      walk-length (sized-in (a .words .now) (a .c)) (l .i) (c .before .next-link .result)
+          (c .before .before .before .before .before .before .loop-test .taken) (l .inv .0) (c .before .next-link .ensures),
+    )
 
 loop-again : tie.Need-loop-again Inv-loop μ-loop
 unfolding lookup
@@ -83,8 +101,10 @@ loop-again c =
       walk-le (sized-in (a .words .now) (a .c)) (l .j) (s .result) (s .ensures),
       rw (
         l .inv .2,
-        walk-cons (sized-in (a .words .now) (a .c)) (l .i) (x .result) (r .result) (c .before .before .before .before .before .before .loop-test .taken) (l .inv .0) (x .ensures .0) (r .ensures),
-        walk-cons (sized-in (a .words .now) (a .c)) (l .j) (y .result) (s .result) (c .before .before .before .before .before .if1 .left) (l .inv .1) (y .ensures .0) (s .ensures),
+        walk-cons (sized-in (a .words .now) (a .c)) (l .i) (x .result) (r .result) (c .before .before .before .before .before .before .loop-test .taken)
+            (l .inv .0) (x .ensures .0) (r .ensures),
+        walk-cons (sized-in (a .words .now) (a .c)) (l .j) (y .result) (s .result) (c .before .before .before .before .before .if1 .left) (l .inv .1)
+            (y .ensures .0) (s .ensures),
       )
           (rw (ne-eqb _ _ (c .before .before .if2 .left))),
     )

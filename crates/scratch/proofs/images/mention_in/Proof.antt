@@ -17,22 +17,47 @@ context-field-requires-3 c κs = search needs
 
 returns : tie.Need-returns
 unfolding mention
-returns c = rw (← c .before .before .before .before .context-field .ensures .0, c .before .if1 .taken, ← c .before .before .before .context-field2 .ensures .0, eq-eqb _ _ (c .if2 .taken))
+returns c =
+    rw (
+      ← c .before .before .before .before .context-field .ensures .0,
+      c .before .if1 .taken,
+      ← c .before .before .before .context-field2 .ensures .0,
+      eq-eqb _
+          _ (c .if2 .taken),
+    )
 
 returns-2 : tie.Need-returns-2
 unfolding mention
-returns-2 c = rw (← c .before .before .before .before .context-field .ensures .0, c .before .if1 .taken, ← c .before .before .before .context-field2 .ensures .0, ne-eqb _ _ (c .if2 .left))
+returns-2 c =
+    rw (
+      ← c .before .before .before .before .context-field .ensures .0,
+      c .before .if1 .taken,
+      ← c .before .before .before .context-field2 .ensures .0,
+      ne-eqb _
+          _ (c .if2 .left),
+    )
 
 lookup-in-requires : tie.Need-lookup-in-requires
 lookup-in-requires c κs = search needs
 
 returns-3 : tie.Need-returns-3
 unfolding mention
-returns-3 c = rw (← c .before .before .before .before .before .context-field .ensures .0, c .before .if3 .taken, ← c .before .before .before .before .context-field2 .ensures .0, ← c .before .before .before .context-field3 .ensures .0) (c .lookup-in .ensures)
+returns-3 c =
+    rw (
+      ← c .before .before .before .before .before .context-field .ensures .0,
+      c .before .if3 .taken,
+      ← c .before .before .before .before .context-field2 .ensures .0,
+      ← c .before .before .before .context-field3 .ensures .0,
+    ) (c .lookup-in .ensures)
 
 returns-4 : tie.Need-returns-4
 unfolding mention
-returns-4 c = rw (← c .before .before .before .before .context-field .ensures .0, entry-none (c .before .before .before .before .context-field .result) (c .if3 .left) (c .before .if1 .left))
+returns-4 c =
+    rw (
+      ← c .before .before .before .before .context-field .ensures .0,
+      entry-none (c .before .before .before .before .context-field .result) (c .if3 .left)
+          (c .before .if1 .left),
+    )
 
 pub mention-in-spec : {M : Type 1} → statement M
 mention-in-spec =

@@ -10,11 +10,13 @@ link-field-requires c κs = search needs
 
 returns : tie.Need-returns
 unfolding follows
-returns c = let a = c .before .before .before .before .args in rw (sized-in (a .words .now) (a .c) .links, ← c .before .before .link-field .ensures .0, c .if1 .taken)
+returns c = let a = c .before .before .before .before .args in
+    rw (sized-in (a .words .now) (a .c) .links, ← c .before .before .link-field .ensures .0, c .if1 .taken)
 
 returns-2 : tie.Need-returns-2
 unfolding follows
-returns-2 c = let a = c .before .before .before .before .args in rw (sized-in (a .words .now) (a .c) .links, ← c .before .before .link-field .ensures .0, c .if1 .left)
+returns-2 c = let a = c .before .before .before .before .args in
+    rw (sized-in (a .words .now) (a .c) .links, ← c .before .before .link-field .ensures .0, c .if1 .left)
 
 pub next-link-spec : {M : Type 1} → statement M
 next-link-spec = tie.close (tie.spec link-field-requires returns returns-2)

@@ -61,8 +61,11 @@ loop-again c =
     let a = c .before .before .before .before .before .before .before .before .before .before .before .args in
     let l = c .before .before .before .before .before .before .before .before .loop in
     let r = c .before .before .append-link in
-    let more = push-more (l .words) (r .last .0) (l .after) (r .result) (a .upper) (a .stack .now) (l .at) (a .to) (c .before .before .before .before .before .half .result) (c .before .before .before .before .if1 .next)
-    (c .before .before .before .before .before .before .before .loop-test .taken) (c .before .before .before .before .before .before .before .before .before .before .before .pre .2) (c .before .before .before .before .before .half .ensures .0)
+    let more = push-more (l .words) (r .last .0) (l .after) (r .result) (a .upper) (a .stack .now) (l .at) (a .to)
+    (c .before .before .before .before .before .half .result) (c .before .before .before .before .if1 .next)
+    (c .before .before .before .before .before .before .before .loop-test .taken)
+    (c .before .before .before .before .before .before .before .before .before .before .before .pre .2)
+    (c .before .before .before .before .before .half .ensures .0)
     (λ h. ⊎-elim (λ w. omega arith) (λ w. omega arith) (c .before .before .before .before .if1 .came))
     (λ h. ⊎-elim (λ w. omega arith) (λ w. omega arith) (c .before .before .before .before .if1 .came))
     (r .ensures .2) in
@@ -75,8 +78,13 @@ returns : tie.Need-returns Inv-loop μ-loop
 returns c =
     let a = c .before .before .before .before .args in
     let l = c .before .loop in
-    let b = bundleIn (l .words) (l .after) in
-    (l .inv .0, l .inv .3, sym (add-none b) ∙ ap (addList b) (sym (halves-none (a .upper) (a .stack .now) (l .at) (a .to) (c .loop-test .left))) ∙ l .inv .4, l .inv .5)
+    let b = bundleIn (l .words) (l .after) in (
+      l .inv .0,
+      l .inv .3,
+      sym (add-none b) ∙ ap (addList b) (sym (halves-none (a .upper) (a .stack .now) (l .at) (a .to) (c .loop-test .left)))
+          ∙ l .inv .4,
+      l .inv .5,
+    )
 
 pub push-halves-spec : {M : Type 1} → statement M
 push-halves-spec =

@@ -31,15 +31,23 @@ first-link-requires c κs = search needs
 loop-holds : tie.Need-loop-holds Inv-loop μ-loop
 loop-holds c =
     let a = c .before .before .before .args in
-    let r = c .first-link in
-    (c .before .before .before .pre .1, walk-start-le (sized-in (a .words .now) (a .c)) (a .list) (r .result) (r .ensures), rw (walk-start (sized-in (a .words .now) (a .c)) (a .list) (r .result) (r .ensures)))
+    let r = c .first-link in (
+      c .before .before .before .pre .1,
+      walk-start-le (sized-in (a .words .now) (a .c)) (a .list) (r .result) (r .ensures),
+      rw (walk-start (sized-in (a .words .now) (a .c)) (a .list) (r .result) (r .ensures)),
+    )
 
 returns : tie.Need-returns Inv-loop μ-loop
 unfolding sameList
 returns c =
     let a = c .before .before .before .before .before .before .args in
     let l = c .before .before .loop in
-    rw (l .inv .2, walk-nil (sized-in (a .words .now) (a .c)) (l .i) (c .if1 .taken), halves-more true (a .stack .now) (l .at) (a .to) (c .before .loop-test .taken) (c .before .before .before .before .before .before .pre .2))
+    rw (
+      l .inv .2,
+      walk-nil (sized-in (a .words .now) (a .c)) (l .i) (c .if1 .taken),
+      halves-more true (a .stack .now) (l .at) (a .to)
+          (c .before .loop-test .taken) (c .before .before .before .before .before .before .pre .2),
+    )
 
 link-field-requires : tie.Need-link-field-requires Inv-loop μ-loop
 link-field-requires c κs = (c .before .before .before .before .before .before .pre .0, omega arith)
@@ -58,7 +66,13 @@ unfolding sameList
 returns-2 c =
     let a = c .before .before .before .before .before .before .before .before .before .before .args in
     let l = c .before .before .before .before .before .before .loop in
-    rw (l .inv .2, walk-some (sized-in (a .words .now) (a .c)) (l .i) (c .before .before .before .before .if1 .left) (l .inv .1), halves-more true (a .stack .now) (l .at) (a .to) (c .before .before .before .before .before .loop-test .taken) (c .before .before .before .before .before .before .before .before .before .before .pre .2))
+    rw (
+      l .inv .2,
+      walk-some (sized-in (a .words .now) (a .c)) (l .i) (c .before .before .before .before .if1 .left) (l .inv .1),
+      halves-more true
+          (a .stack .now) (l .at) (a .to) (c .before .before .before .before .before .loop-test .taken)
+          (c .before .before .before .before .before .before .before .before .before .before .pre .2),
+    )
     (rw (← c .before .before .before .link-field .ensures .0, ← c .before .half .ensures .0, ne-eqb _ _ (c .if2 .taken)))
 
 next-link-requires : tie.Need-next-link-requires Inv-loop μ-loop
@@ -80,8 +94,10 @@ loop-again c =
       walk-le (sized-in (a .words .now) (a .c)) (l .i) (n .result) (n .ensures),
       rw (
         l .inv .2,
-        walk-cons (sized-in (a .words .now) (a .c)) (l .i) (c .before .before .before .before .link-field .result) (n .result) (c .before .before .before .before .before .if1 .left) (l .inv .1) (c .before .before .before .before .link-field .ensures .0) (n .ensures),
-        halves-more true (a .stack .now) (l .at) (a .to) (c .before .before .before .before .before .before .loop-test .taken) (c .before .before .before .before .before .before .before .before .before .before .before .pre .2),
+        walk-cons (sized-in (a .words .now) (a .c)) (l .i) (c .before .before .before .before .link-field .result) (n .result)
+            (c .before .before .before .before .before .if1 .left) (l .inv .1) (c .before .before .before .before .link-field .ensures .0) (n .ensures),
+        halves-more true (a .stack .now) (l .at) (a .to) (c .before .before .before .before .before .before .loop-test .taken)
+            (c .before .before .before .before .before .before .before .before .before .before .before .pre .2),
       )
           (rw (← c .before .before .half .ensures .0, eq-eqb _ _ (c .before .if2 .left))),
     )

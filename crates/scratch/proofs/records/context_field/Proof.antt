@@ -15,13 +15,23 @@ contexts-at-requires c κs = rw (c .largest .ensures) limits-within
 
 field-requires : tie.Need-field-requires
 field-requires c κs =
-    let a = c .before .before .before .args in
-    (c .before .before .before .pre .1, rw (c .contexts-at .ensures .0, c .before .largest .ensures) (contexts-fit (a .words .now) (a .c) (c .before .before .before .pre .0)))
+    let a = c .before .before .before .args in (
+      c .before .before .before .pre .1,
+      rw (c .contexts-at .ensures .0, c .before .largest .ensures)
+          (contexts-fit (a .words .now) (a .c) (c .before .before .before .pre .0)),
+    )
 
 returns : tie.Need-returns
 returns c =
-    let a = c .before .before .before .before .args in
-    (rw (context-is (wordIn (a .words .now)) limits (a .c) (a .i) (a .k) (c .before .before .before .before .pre .1), c .field .ensures .0, c .before .contexts-at .ensures .0, c .before .before .largest .ensures), c .field .ensures .1)
+    let a = c .before .before .before .before .args in (
+      rw (
+        context-is (wordIn (a .words .now)) limits (a .c) (a .i) (a .k) (c .before .before .before .before .pre .1),
+        c .field .ensures .0,
+        c .before .contexts-at .ensures .0,
+        c .before .before .largest .ensures,
+      ),
+      c .field .ensures .1,
+    )
 
 pub context-field-spec : {M : Type 1} → statement M
 context-field-spec = tie.close (tie.spec largest-requires contexts-at-requires field-requires returns)

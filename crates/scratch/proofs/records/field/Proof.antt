@@ -33,7 +33,8 @@ mul-wide-2 : tie.Need-mul-wide-2
 mul-wide-2 c = let a = c .before .before .before .args in omega (arith, record-within (a .size) (a .count) (a .i) (c .before .if1 .left) (c .if2 .left))
 
 shared-slice-read-wide : tie.Need-shared-slice-read-wide
-shared-slice-read-wide c = let a = c .before .before .before .before .args in omega (arith, record-within (a .size) (a .count) (a .i) (c .before .before .if1 .left) (c .before .if2 .left))
+shared-slice-read-wide c = let a = c .before .before .before .before .args in
+    omega (arith, record-within (a .size) (a .count) (a .i) (c .before .before .if1 .left) (c .before .if2 .left))
 
 wide-requires : tie.Need-wide-requires
 wide-requires c κs = search needs
@@ -42,7 +43,8 @@ returns-3 : tie.Need-returns-3
 returns-3 c =
     let a = c .before .before .before .before .before .args in (
       c .wide .ensures .0
-          ∙ sym (at-tab (λ j. recordBy (wordIn (a .words .now)) (a .start) (a .size) j (a .k)) (a .count) (a .i) 0 (c .before .before .before .if1 .left) (c .before .before .if2 .left)),
+          ∙ sym (at-tab (λ j. recordBy (wordIn (a .words .now)) (a .start) (a .size) j (a .k)) (a .count) (a .i) 0 (c .before .before .before .if1 .left)
+          (c .before .before .if2 .left)),
       c .wide .ensures .1,
     )
 

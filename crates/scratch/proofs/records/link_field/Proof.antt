@@ -15,13 +15,23 @@ links-at-requires c κs = rw (c .largest .ensures) limits-within
 
 field-requires : tie.Need-field-requires
 field-requires c κs =
-    let a = c .before .before .before .args in
-    (c .before .before .before .pre .1, rw (c .links-at .ensures .0, c .before .largest .ensures) (links-fit (a .words .now) (a .c) (c .before .before .before .pre .0)))
+    let a = c .before .before .before .args in (
+      c .before .before .before .pre .1,
+      rw (c .links-at .ensures .0, c .before .largest .ensures)
+          (links-fit (a .words .now) (a .c) (c .before .before .before .pre .0)),
+    )
 
 returns : tie.Need-returns
 returns c =
-    let a = c .before .before .before .before .args in
-    (rw (link-is (wordIn (a .words .now)) limits (a .c) (a .i) (a .k) (c .before .before .before .before .pre .1), c .field .ensures .0, c .before .links-at .ensures .0, c .before .before .largest .ensures), c .field .ensures .1)
+    let a = c .before .before .before .before .args in (
+      rw (
+        link-is (wordIn (a .words .now)) limits (a .c) (a .i) (a .k) (c .before .before .before .before .pre .1),
+        c .field .ensures .0,
+        c .before .links-at .ensures .0,
+        c .before .before .largest .ensures,
+      ),
+      c .field .ensures .1,
+    )
 
 pub link-field-spec : {M : Type 1} → statement M
 link-field-spec = tie.close (tie.spec largest-requires links-at-requires field-requires returns)

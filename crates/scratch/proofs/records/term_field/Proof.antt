@@ -15,13 +15,23 @@ terms-at-requires c κs = rw (c .largest .ensures) limits-within
 
 field-requires : tie.Need-field-requires
 field-requires c κs =
-    let a = c .before .before .before .args in
-    (c .before .before .before .pre .1, rw (c .terms-at .ensures .0, c .before .largest .ensures) (terms-fit (a .words .now) (a .c) (c .before .before .before .pre .0)))
+    let a = c .before .before .before .args in (
+      c .before .before .before .pre .1,
+      rw (c .terms-at .ensures .0, c .before .largest .ensures)
+          (terms-fit (a .words .now) (a .c) (c .before .before .before .pre .0)),
+    )
 
 returns : tie.Need-returns
 returns c =
-    let a = c .before .before .before .before .args in
-    (rw (term-is (wordIn (a .words .now)) limits (a .c) (a .i) (a .k) (c .before .before .before .before .pre .1), c .field .ensures .0, c .before .terms-at .ensures .0, c .before .before .largest .ensures), c .field .ensures .1)
+    let a = c .before .before .before .before .args in (
+      rw (
+        term-is (wordIn (a .words .now)) limits (a .c) (a .i) (a .k) (c .before .before .before .before .pre .1),
+        c .field .ensures .0,
+        c .before .terms-at .ensures .0,
+        c .before .before .largest .ensures,
+      ),
+      c .field .ensures .1,
+    )
 
 pub term-field-spec : {M : Type 1} → statement M
 term-field-spec = tie.close (tie.spec largest-requires terms-at-requires field-requires returns)

@@ -21,8 +21,15 @@ field-requires c κs =
 
 returns : tie.Need-returns
 returns c =
-    let a = c .before .before .before .before .args in
-    (rw (variable-is (wordIn (a .words .now)) limits (a .c) (a .i), c .field .ensures .0, c .before .variables-at .ensures .0, c .before .before .largest .ensures), c .field .ensures .1)
+    let a = c .before .before .before .before .args in (
+      rw (
+        variable-is (wordIn (a .words .now)) limits (a .c) (a .i),
+        c .field .ensures .0,
+        c .before .variables-at .ensures .0,
+        c .before .before .largest .ensures,
+      ),
+      c .field .ensures .1,
+    )
 
 pub variable-sort-spec : {M : Type 1} → statement M
 variable-sort-spec = tie.close (tie.spec largest-requires variables-at-requires field-requires returns)

@@ -19,7 +19,8 @@ first-link-requires : tie.Need-first-link-requires Inv-loop μ-loop
 first-link-requires c κs = search needs
 
 loop-holds : tie.Need-loop-holds Inv-loop μ-loop
-loop-holds c = walk-start-le (c .before .before .args .file .now) (c .before .before .args .b) (c .before .before .args .list) (c .first-link .result) (c .first-link .ensures)
+loop-holds c = walk-start-le (c .before .before .args .file .now) (c .before .before .args .b) (c .before .before .args .list) (c .first-link .result)
+    (c .first-link .ensures)
 
 link-field-requires : tie.Need-link-field-requires Inv-loop μ-loop
 link-field-requires c κs = (c .before .before .before .before .pre, omega arith)
@@ -31,10 +32,18 @@ next-link-requires : tie.Need-next-link-requires Inv-loop μ-loop
 next-link-requires c κs = c .before .before .before .before .before .before .pre
 
 loop-less : tie.Need-loop-less Inv-loop μ-loop
-loop-less c = omega (arith, walk-length (c .before .before .before .before .before .before .before .args .file .now) (c .before .before .before .before .before .before .before .args .b) (c .before .before .before .before .loop .i) (c .next-link .result) (c .before .before .before .loop-test .taken) (c .before .before .before .before .loop .inv) (c .next-link .ensures))
+loop-less c =
+    omega (
+      arith,
+      walk-length (c .before .before .before .before .before .before .before .args .file .now)
+          (c .before .before .before .before .before .before .before .args .b) (c .before .before .before .before .loop .i) (c .next-link .result)
+          (c .before .before .before .loop-test .taken) (c .before .before .before .before .loop .inv) (c .next-link .ensures),
+    )
 
 loop-again : tie.Need-loop-again Inv-loop μ-loop
-loop-again c = walk-le (c .before .before .before .before .before .before .before .args .file .now) (c .before .before .before .before .before .before .before .args .b) (c .before .before .before .before .loop .i) (c .next-link .result) (c .next-link .ensures)
+loop-again c = walk-le (c .before .before .before .before .before .before .before .args .file .now)
+    (c .before .before .before .before .before .before .before .args .b) (c .before .before .before .before .loop .i) (c .next-link .result)
+    (c .next-link .ensures)
 
 returns : tie.Need-returns Inv-loop μ-loop
 returns c = search needs

@@ -22,7 +22,8 @@ first-link-requires-2 : tie.Need-first-link-requires-2 Inv-loop μ-loop
 first-link-requires-2 c κs = search needs
 
 loop-holds : tie.Need-loop-holds Inv-loop μ-loop
-loop-holds c = walk-start-le (c .before .before .before .args .file .now) (c .before .before .before .args .b) (c .before .before .before .args .variables) (c .before .first-link .result) (c .before .first-link .ensures)
+loop-holds c = walk-start-le (c .before .before .before .args .file .now) (c .before .before .before .args .b) (c .before .before .before .args .variables)
+    (c .before .first-link .result) (c .before .first-link .ensures)
 
 link-field-requires : tie.Need-link-field-requires Inv-loop μ-loop
 link-field-requires c κs = (c .before .before .before .before .before .pre, omega arith)
@@ -40,10 +41,21 @@ next-link-requires-2 : tie.Need-next-link-requires-2 Inv-loop μ-loop
 next-link-requires-2 c κs = c .before .before .before .before .before .before .before .before .before .pre
 
 loop-less : tie.Need-loop-less Inv-loop μ-loop
-loop-less c = omega (arith, walk-length (c .before .before .before .before .before .before .before .before .before .before .args .file .now) (c .before .before .before .before .before .before .before .before .before .before .args .b) (c .before .before .before .before .before .before .loop .i) (c .before .next-link .result) (c .before .before .before .before .before .loop-test .taken) (c .before .before .before .before .before .before .loop .inv) (c .before .next-link .ensures))
+loop-less c =
+    omega (
+      arith,
+      walk-length (c .before .before .before .before .before .before .before .before .before .before .args .file .now)
+          (c .before .before .before .before .before .before .before .before .before .before .args .b)
+          (c .before .before .before .before .before .before .loop .i)
+          (c .before .next-link .result) (c .before .before .before .before .before .loop-test .taken)
+          (c .before .before .before .before .before .before .loop .inv)
+          (c .before .next-link .ensures),
+    )
 
 loop-again : tie.Need-loop-again Inv-loop μ-loop
-loop-again c = walk-le (c .before .before .before .before .before .before .before .before .before .before .args .file .now) (c .before .before .before .before .before .before .before .before .before .before .args .b) (c .before .before .before .before .before .before .loop .i) (c .before .next-link .result) (c .before .next-link .ensures)
+loop-again c = walk-le (c .before .before .before .before .before .before .before .before .before .before .args .file .now)
+    (c .before .before .before .before .before .before .before .before .before .before .args .b) (c .before .before .before .before .before .before .loop .i)
+    (c .before .next-link .result) (c .before .next-link .ensures)
 
 returns : tie.Need-returns Inv-loop μ-loop
 returns c = search needs

@@ -154,29 +154,43 @@ arguments-Inv-loop file b owner list budget left₀ i₀ left i = i ≤ b .links
 abbrev arguments-μ-loop : arguments-lts.MeasureT-loop
 arguments-μ-loop file b owner list budget left₀ i₀ left i = length (items (bundleAt file b) i)
 
-arguments-first-link-requires : (t : ℕ) → arguments-lts.Need-first-link-requires (arguments-calls t) (arguments-at t) arguments.Post arguments-Inv-loop arguments-μ-loop
+arguments-first-link-requires : (t : ℕ) → arguments-lts.Need-first-link-requires (arguments-calls t) (arguments-at t) arguments.Post arguments-Inv-loop
+    arguments-μ-loop
 arguments-first-link-requires t c κs = search needs
 
 arguments-loop-holds : (t : ℕ) → arguments-lts.Need-loop-holds (arguments-calls t) (arguments-at t) arguments.Post arguments-Inv-loop arguments-μ-loop
-arguments-loop-holds t c = walk-start-le (c .before .before .args .file .now) (c .before .before .args .b) (c .before .before .args .list) (c .first-link .result) (c .first-link .ensures)
+arguments-loop-holds t c = walk-start-le (c .before .before .args .file .now) (c .before .before .args .b) (c .before .before .args .list)
+    (c .first-link .result) (c .first-link .ensures)
 
 arguments-space-requires : (t : ℕ) → arguments-lts.Need-space-requires (arguments-calls t) (arguments-at t) arguments.Post arguments-Inv-loop arguments-μ-loop
 arguments-space-requires t c κs = search needs
 
-arguments-link-field-requires : (t : ℕ) → arguments-lts.Need-link-field-requires (arguments-calls t) (arguments-at t) arguments.Post arguments-Inv-loop arguments-μ-loop
+arguments-link-field-requires : (t : ℕ) → arguments-lts.Need-link-field-requires (arguments-calls t) (arguments-at t) arguments.Post arguments-Inv-loop
+    arguments-μ-loop
 arguments-link-field-requires t c κs = (c .before .before .before .before .before .pre .1, omega arith)
 
 arguments-part-requires : (t : ℕ) → arguments-lts.Need-part-requires (arguments-calls t) (arguments-at t) arguments.Post arguments-Inv-loop arguments-μ-loop
-arguments-part-requires t c κs = (omega (arith, c .before .before .before .before .before .before .pre .0), c .before .before .before .before .before .before .pre .1)
+arguments-part-requires t c κs =
+    (omega (arith, c .before .before .before .before .before .before .pre .0), c .before .before .before .before .before .before .pre .1)
 
-arguments-next-link-requires : (t : ℕ) → arguments-lts.Need-next-link-requires (arguments-calls t) (arguments-at t) arguments.Post arguments-Inv-loop arguments-μ-loop
+arguments-next-link-requires : (t : ℕ) → arguments-lts.Need-next-link-requires (arguments-calls t) (arguments-at t) arguments.Post arguments-Inv-loop
+    arguments-μ-loop
 arguments-next-link-requires t c κs = c .before .before .before .before .before .before .before .pre .1
 
 arguments-loop-less : (t : ℕ) → arguments-lts.Need-loop-less (arguments-calls t) (arguments-at t) arguments.Post arguments-Inv-loop arguments-μ-loop
-arguments-loop-less t c = omega (arith, walk-length (c .before .before .before .before .before .before .before .before .args .file .now) (c .before .before .before .before .before .before .before .before .args .b) (c .before .before .before .before .before .loop .i) (c .next-link .result) (c .before .before .before .before .loop-test .taken) (c .before .before .before .before .before .loop .inv) (c .next-link .ensures))
+arguments-loop-less t c =
+    omega (
+      arith,
+      walk-length (c .before .before .before .before .before .before .before .before .args .file .now)
+          (c .before .before .before .before .before .before .before .before .args .b) (c .before .before .before .before .before .loop .i)
+          (c .next-link .result)
+          (c .before .before .before .before .loop-test .taken) (c .before .before .before .before .before .loop .inv) (c .next-link .ensures),
+    )
 
 arguments-loop-again : (t : ℕ) → arguments-lts.Need-loop-again (arguments-calls t) (arguments-at t) arguments.Post arguments-Inv-loop arguments-μ-loop
-arguments-loop-again t c = walk-le (c .before .before .before .before .before .before .before .before .args .file .now) (c .before .before .before .before .before .before .before .before .args .b) (c .before .before .before .before .before .loop .i) (c .next-link .result) (c .next-link .ensures)
+arguments-loop-again t c = walk-le (c .before .before .before .before .before .before .before .before .args .file .now)
+    (c .before .before .before .before .before .before .before .before .args .b) (c .before .before .before .before .before .loop .i) (c .next-link .result)
+    (c .next-link .ensures)
 
 arguments-returns : (t : ℕ) → arguments-lts.Need-returns (arguments-calls t) (arguments-at t) arguments.Post arguments-Inv-loop arguments-μ-loop
 arguments-returns t c = search needs
@@ -187,41 +201,68 @@ bound-terms-Inv-loop file b owner variables terms budget left₀ i₀ j₀ left 
 abbrev bound-terms-μ-loop : bound-terms-lts.MeasureT-loop
 bound-terms-μ-loop file b owner variables terms budget left₀ i₀ j₀ left i j = length (items (bundleAt file b) i)
 
-bound-terms-first-link-requires : (t : ℕ) → bound-terms-lts.Need-first-link-requires (bound-terms-calls t) (bound-terms-at t) bound-terms.Post bound-terms-Inv-loop bound-terms-μ-loop
+bound-terms-first-link-requires : (t : ℕ) → bound-terms-lts.Need-first-link-requires (bound-terms-calls t) (bound-terms-at t) bound-terms.Post
+    bound-terms-Inv-loop bound-terms-μ-loop
 bound-terms-first-link-requires t c κs = search needs
 
-bound-terms-first-link-requires-2 : (t : ℕ) → bound-terms-lts.Need-first-link-requires-2 (bound-terms-calls t) (bound-terms-at t) bound-terms.Post bound-terms-Inv-loop bound-terms-μ-loop
+bound-terms-first-link-requires-2 : (t : ℕ) → bound-terms-lts.Need-first-link-requires-2 (bound-terms-calls t) (bound-terms-at t) bound-terms.Post
+    bound-terms-Inv-loop bound-terms-μ-loop
 bound-terms-first-link-requires-2 t c κs = search needs
 
-bound-terms-loop-holds : (t : ℕ) → bound-terms-lts.Need-loop-holds (bound-terms-calls t) (bound-terms-at t) bound-terms.Post bound-terms-Inv-loop bound-terms-μ-loop
-bound-terms-loop-holds t c = walk-start-le (c .before .before .before .args .file .now) (c .before .before .before .args .b) (c .before .before .before .args .variables) (c .before .first-link .result) (c .before .first-link .ensures)
+bound-terms-loop-holds : (t : ℕ) → bound-terms-lts.Need-loop-holds (bound-terms-calls t) (bound-terms-at t) bound-terms.Post bound-terms-Inv-loop
+    bound-terms-μ-loop
+bound-terms-loop-holds t c = walk-start-le (c .before .before .before .args .file .now) (c .before .before .before .args .b)
+    (c .before .before .before .args .variables) (c .before .first-link .result) (c .before .first-link .ensures)
 
-bound-terms-link-field-requires : (t : ℕ) → bound-terms-lts.Need-link-field-requires (bound-terms-calls t) (bound-terms-at t) bound-terms.Post bound-terms-Inv-loop bound-terms-μ-loop
+bound-terms-link-field-requires : (t : ℕ) → bound-terms-lts.Need-link-field-requires (bound-terms-calls t) (bound-terms-at t) bound-terms.Post
+    bound-terms-Inv-loop bound-terms-μ-loop
 bound-terms-link-field-requires t c κs = (c .before .before .before .before .before .pre .1, omega arith)
 
-bound-terms-open-binding-requires : (t : ℕ) → bound-terms-lts.Need-open-binding-requires (bound-terms-calls t) (bound-terms-at t) bound-terms.Post bound-terms-Inv-loop bound-terms-μ-loop
+bound-terms-open-binding-requires : (t : ℕ) → bound-terms-lts.Need-open-binding-requires (bound-terms-calls t) (bound-terms-at t) bound-terms.Post
+    bound-terms-Inv-loop bound-terms-μ-loop
 bound-terms-open-binding-requires t c κs = search needs
 
-bound-terms-link-field-requires-2 : (t : ℕ) → bound-terms-lts.Need-link-field-requires-2 (bound-terms-calls t) (bound-terms-at t) bound-terms.Post bound-terms-Inv-loop bound-terms-μ-loop
+bound-terms-link-field-requires-2 : (t : ℕ) → bound-terms-lts.Need-link-field-requires-2 (bound-terms-calls t) (bound-terms-at t) bound-terms.Post
+    bound-terms-Inv-loop bound-terms-μ-loop
 bound-terms-link-field-requires-2 t c κs = (c .before .before .before .before .before .before .before .pre .1, omega arith)
 
-bound-terms-part-requires : (t : ℕ) → bound-terms-lts.Need-part-requires (bound-terms-calls t) (bound-terms-at t) bound-terms.Post bound-terms-Inv-loop bound-terms-μ-loop
-bound-terms-part-requires t c κs = (omega (arith, c .before .before .before .before .before .before .before .before .pre .0), c .before .before .before .before .before .before .before .before .pre .1)
+bound-terms-part-requires : (t : ℕ) → bound-terms-lts.Need-part-requires (bound-terms-calls t) (bound-terms-at t) bound-terms.Post bound-terms-Inv-loop
+    bound-terms-μ-loop
+bound-terms-part-requires t c κs = (
+  omega (arith, c .before .before .before .before .before .before .before .before .pre .0),
+  c .before .before .before .before .before .before .before .before .pre .1,
+)
 
-bound-terms-next-link-requires : (t : ℕ) → bound-terms-lts.Need-next-link-requires (bound-terms-calls t) (bound-terms-at t) bound-terms.Post bound-terms-Inv-loop bound-terms-μ-loop
+bound-terms-next-link-requires : (t : ℕ) → bound-terms-lts.Need-next-link-requires (bound-terms-calls t) (bound-terms-at t) bound-terms.Post
+    bound-terms-Inv-loop bound-terms-μ-loop
 bound-terms-next-link-requires t c κs = c .before .before .before .before .before .before .before .before .before .pre .1
 
-bound-terms-next-link-requires-2 : (t : ℕ) → bound-terms-lts.Need-next-link-requires-2 (bound-terms-calls t) (bound-terms-at t) bound-terms.Post bound-terms-Inv-loop bound-terms-μ-loop
+bound-terms-next-link-requires-2 : (t : ℕ) → bound-terms-lts.Need-next-link-requires-2 (bound-terms-calls t) (bound-terms-at t) bound-terms.Post
+    bound-terms-Inv-loop bound-terms-μ-loop
 bound-terms-next-link-requires-2 t c κs = c .before .before .before .before .before .before .before .before .before .before .pre .1
 
-bound-terms-close-binding-requires : (t : ℕ) → bound-terms-lts.Need-close-binding-requires (bound-terms-calls t) (bound-terms-at t) bound-terms.Post bound-terms-Inv-loop bound-terms-μ-loop
+bound-terms-close-binding-requires : (t : ℕ) → bound-terms-lts.Need-close-binding-requires (bound-terms-calls t) (bound-terms-at t) bound-terms.Post
+    bound-terms-Inv-loop bound-terms-μ-loop
 bound-terms-close-binding-requires t c κs = search needs
 
-bound-terms-loop-less : (t : ℕ) → bound-terms-lts.Need-loop-less (bound-terms-calls t) (bound-terms-at t) bound-terms.Post bound-terms-Inv-loop bound-terms-μ-loop
-bound-terms-loop-less t c = omega (arith, walk-length (c .before .before .before .before .before .before .before .before .before .before .before .before .args .file .now) (c .before .before .before .before .before .before .before .before .before .before .before .before .args .b) (c .before .before .before .before .before .before .before .before .loop .i) (c .before .before .next-link .result) (c .before .before .before .before .before .before .before .loop-test .taken) (c .before .before .before .before .before .before .before .before .loop .inv) (c .before .before .next-link .ensures))
+bound-terms-loop-less : (t : ℕ) → bound-terms-lts.Need-loop-less (bound-terms-calls t) (bound-terms-at t) bound-terms.Post bound-terms-Inv-loop
+    bound-terms-μ-loop
+bound-terms-loop-less t c =
+    omega (
+      arith,
+      walk-length (c .before .before .before .before .before .before .before .before .before .before .before .before .args .file .now)
+          (c .before .before .before .before .before .before .before .before .before .before .before .before .args .b)
+          (c .before .before .before .before .before .before .before .before .loop .i) (c .before .before .next-link .result)
+          (c .before .before .before .before .before .before .before .loop-test .taken)
+          (c .before .before .before .before .before .before .before .before .loop .inv)
+          (c .before .before .next-link .ensures),
+    )
 
-bound-terms-loop-again : (t : ℕ) → bound-terms-lts.Need-loop-again (bound-terms-calls t) (bound-terms-at t) bound-terms.Post bound-terms-Inv-loop bound-terms-μ-loop
-bound-terms-loop-again t c = walk-le (c .before .before .before .before .before .before .before .before .before .before .before .before .args .file .now) (c .before .before .before .before .before .before .before .before .before .before .before .before .args .b) (c .before .before .before .before .before .before .before .before .loop .i) (c .before .before .next-link .result) (c .before .before .next-link .ensures)
+bound-terms-loop-again : (t : ℕ) → bound-terms-lts.Need-loop-again (bound-terms-calls t) (bound-terms-at t) bound-terms.Post bound-terms-Inv-loop
+    bound-terms-μ-loop
+bound-terms-loop-again t c = walk-le (c .before .before .before .before .before .before .before .before .before .before .before .before .args .file .now)
+    (c .before .before .before .before .before .before .before .before .before .before .before .before .args .b)
+    (c .before .before .before .before .before .before .before .before .loop .i) (c .before .before .next-link .result) (c .before .before .next-link .ensures)
 
 bound-terms-returns : (t : ℕ) → bound-terms-lts.Need-returns (bound-terms-calls t) (bound-terms-at t) bound-terms.Post bound-terms-Inv-loop bound-terms-μ-loop
 bound-terms-returns t c = search needs
@@ -278,7 +319,10 @@ term-open-application-requires : (t : ℕ) → term-lts.Need-open-application-re
 term-open-application-requires t c κs = search needs
 
 term-arguments-requires : (t : ℕ) → term-lts.Need-arguments-requires (term-calls t) (term-at t) term.Post
-term-arguments-requires t c κs = (omega (arith, c .before .before .before .before .before .before .before .before .before .pre .0), c .before .before .before .before .before .before .before .before .before .pre .1)
+term-arguments-requires t c κs = (
+  omega (arith, c .before .before .before .before .before .before .before .before .before .pre .0),
+  c .before .before .before .before .before .before .before .before .before .pre .1,
+)
 
 term-close-requires : (t : ℕ) → term-lts.Need-close-requires (term-calls t) (term-at t) term.Post
 term-close-requires t c κs = search needs
@@ -293,7 +337,10 @@ term-open-quantifier-requires : (t : ℕ) → term-lts.Need-open-quantifier-requ
 term-open-quantifier-requires t c κs = c .before .before .before .before .before .before .before .before .pre .1
 
 term-part-requires : (t : ℕ) → term-lts.Need-part-requires (term-calls t) (term-at t) term.Post
-term-part-requires t c κs = (omega (arith, c .before .before .before .before .before .before .before .before .before .pre .0), c .before .before .before .before .before .before .before .before .before .pre .1)
+term-part-requires t c κs = (
+  omega (arith, c .before .before .before .before .before .before .before .before .before .pre .0),
+  c .before .before .before .before .before .before .before .before .before .pre .1,
+)
 
 term-close-requires-2 : (t : ℕ) → term-lts.Need-close-requires-2 (term-calls t) (term-at t) term.Post
 term-close-requires-2 t c κs = search needs
@@ -305,13 +352,19 @@ term-open-let-requires : (t : ℕ) → term-lts.Need-open-let-requires (term-cal
 term-open-let-requires t c κs = search needs
 
 term-bound-terms-requires : (t : ℕ) → term-lts.Need-bound-terms-requires (term-calls t) (term-at t) term.Post
-term-bound-terms-requires t c κs = (omega (arith, c .before .before .before .before .before .before .before .before .before .before .pre .0), c .before .before .before .before .before .before .before .before .before .before .pre .1)
+term-bound-terms-requires t c κs = (
+  omega (arith, c .before .before .before .before .before .before .before .before .before .before .pre .0),
+  c .before .before .before .before .before .before .before .before .before .before .pre .1,
+)
 
 term-open-body-requires : (t : ℕ) → term-lts.Need-open-body-requires (term-calls t) (term-at t) term.Post
 term-open-body-requires t c κs = search needs
 
 term-part-requires-2 : (t : ℕ) → term-lts.Need-part-requires-2 (term-calls t) (term-at t) term.Post
-term-part-requires-2 t c κs = (omega (arith, c .before .before .before .before .before .before .before .before .before .before .before .before .pre .0), c .before .before .before .before .before .before .before .before .before .before .before .before .pre .1)
+term-part-requires-2 t c κs = (
+  omega (arith, c .before .before .before .before .before .before .before .before .before .before .before .before .pre .0),
+  c .before .before .before .before .before .before .before .before .before .before .before .before .pre .1,
+)
 
 term-close-requires-3 : (t : ℕ) → term-lts.Need-close-requires-3 (term-calls t) (term-at t) term.Post
 term-close-requires-3 t c κs = search needs

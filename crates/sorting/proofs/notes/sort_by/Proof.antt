@@ -38,7 +38,13 @@ unfolding sortBy kindOf sortAs
 returns-2 c =
     let i = c .before .before .before in
     let a = i .before .before .before .before .before .args in
-    rw (← i .before .before .term-field .ensures, i .if2 .taken, ← c .before .before .term-field3 .ensures, ← signature-is (a .file .now) (a .b), ← c .before .signature-of .ensures) (c .result-sort .ensures)
+    rw (
+      ← i .before .before .term-field .ensures,
+      i .if2 .taken,
+      ← c .before .before .term-field3 .ensures,
+      ← signature-is (a .file .now) (a .b),
+      ← c .before .signature-of .ensures,
+    ) (c .result-sort .ensures)
 
 term-field-requires-4 : tie.Need-term-field-requires-4
 term-field-requires-4 c κs = search needs
@@ -56,7 +62,8 @@ returns-4 : tie.Need-returns-4
 returns-4 c =
     let k = c .before .before .before .term-field in
     let a = c .before .before .before .before .before .before .args in
-    sym (sort-by-other (bundleAt (a .file .now) (a .b)) _ (termOf (bundleAt (a .file .now) (a .b)) (a .t)) (λ e. c .before .before .if1 .left (k .ensures ∙ e)) (λ e. c .before .if2 .left (k .ensures ∙ e)) (λ e. c .if3 .left (k .ensures ∙ e)))
+    sym (sort-by-other (bundleAt (a .file .now) (a .b)) _ (termOf (bundleAt (a .file .now) (a .b)) (a .t)) (λ e. c .before .before .if1 .left (k .ensures ∙ e))
+    (λ e. c .before .if2 .left (k .ensures ∙ e)) (λ e. c .if3 .left (k .ensures ∙ e)))
 
 pub sort-by-spec : {M : Type 1} → statement M
 sort-by-spec =

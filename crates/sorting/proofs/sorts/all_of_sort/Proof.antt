@@ -11,7 +11,8 @@ use Rattle.sorting.proofs.sorts.all_of_sort.Statement.{statement}
 use Rattle.sorting.proofs.sorts.all_of_sort.Tie as tie
 
 abbrev Inv-loop : tie.InvT-loop
-Inv-loop file b sorts count sort terms left₀ i₀ left i = (i ≤ b .links) × (sameList (replicate count sort) (termSorts file b terms) ≡ sameList (replicate left sort) (termSorts file b i))
+Inv-loop file b sorts count sort terms left₀ i₀ left i = (i ≤ b .links)
+    × (sameList (replicate count sort) (termSorts file b terms) ≡ sameList (replicate left sort) (termSorts file b i))
 
 abbrev μ-loop : tie.MeasureT-loop
 μ-loop file b sorts count sort terms left₀ i₀ left i = left
@@ -46,7 +47,8 @@ returns-2 c =
     let a = k .args in
     sym (
     l .inv .1
-    ∙ differs (a .file .now) (a .b) (replicate-cons (l .left) (a .sort) (i .before .loop-test .taken)) (i .if1 .left) (l .inv .0) (s .before .link-field .ensures) (s .sort-in .ensures ∙ k .pre .1 .noted (s .before .link-field .result)) refl (c .if2 .taken)
+    ∙ differs (a .file .now) (a .b) (replicate-cons (l .left) (a .sort) (i .before .loop-test .taken)) (i .if1 .left) (l .inv .0)
+    (s .before .link-field .ensures) (s .sort-in .ensures ∙ k .pre .1 .noted (s .before .link-field .result)) refl (c .if2 .taken)
     )
 
 sub-left : tie.Need-sub-left Inv-loop μ-loop
@@ -68,7 +70,8 @@ loop-again c =
     let r = c .next-link in (
       walk-le (a .file .now) (a .b) (l .i) (r .result) (r .ensures),
       l .inv .1
-          ∙ on (a .file .now) (a .b) (replicate-cons (l .left) (a .sort) (i .before .loop-test .taken)) (i .if1 .left) (l .inv .0) (s .before .link-field .ensures) (s .sort-in .ensures ∙ k .pre .1 .noted (s .before .link-field .result)) (r .ensures) (c .before .if2 .left),
+          ∙ on (a .file .now) (a .b) (replicate-cons (l .left) (a .sort) (i .before .loop-test .taken)) (i .if1 .left) (l .inv .0)
+          (s .before .link-field .ensures) (s .sort-in .ensures ∙ k .pre .1 .noted (s .before .link-field .result)) (r .ensures) (c .before .if2 .left),
     )
 
 returns-3 : tie.Need-returns-3 Inv-loop μ-loop

@@ -37,7 +37,11 @@ same-length c = search needs
 
 returns-2 : tie.Need-returns-2
 unfolding argumentSorts
-returns-2 c = (rw (c .before .before .before .before .before .before .s2 .given .1, ← c .before .before .before .before .symbol-field .ensures) (c .before .before .same-sorts .ensures .0), c .before .before .same-sorts .ensures .1)
+returns-2 c = (
+  rw (c .before .before .before .before .before .before .s2 .given .1, ← c .before .before .before .before .symbol-field .ensures)
+      (c .before .before .same-sorts .ensures .0),
+  c .before .before .same-sorts .ensures .1,
+)
 
 returns-3 : tie.Need-returns-3
 unfolding argumentSorts

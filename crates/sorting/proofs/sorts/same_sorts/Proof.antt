@@ -14,7 +14,9 @@ use Rattle.sorting.proofs.sorts.same_sorts.Statement.{statement}
 use Rattle.sorting.proofs.sorts.same_sorts.Tie as tie
 
 abbrev Inv-loop : tie.InvT-loop
-Inv-loop file b sorts fitting list terms i₀ j₀ left₀ i j left = (i ≤ b .links) × (j ≤ b .links) × (sameList (items (bundleAt file b) list) (termSorts file b terms) ≡ sameList (items (bundleAt file b) i) (termSorts file b j))
+Inv-loop file b sorts fitting list terms i₀ j₀ left₀ i j left =
+    (i ≤ b .links) × (j ≤ b .links)
+    × (sameList (items (bundleAt file b) list) (termSorts file b terms) ≡ sameList (items (bundleAt file b) i) (termSorts file b j))
 
 abbrev μ-loop : tie.MeasureT-loop
 μ-loop file b sorts fitting list terms i₀ j₀ left₀ i j left = left
@@ -38,14 +40,20 @@ loop-holds c =
 returns : tie.Need-returns Inv-loop μ-loop
 returns c =
     let a = c .before .before .before .before .before .before .before .before .args in
-    let l = c .before .before .loop in
-    (sym (l .inv .2 ∙ ended (a .file .now) (a .b) (walk-nil (a .file .now) (a .b) (l .i) (c .if1 .taken)) (l .inv .1)), λ e. c .before .before .before .before .before .before .before .before .pre .2)
+    let l = c .before .before .loop in (
+      sym (l .inv .2 ∙ ended (a .file .now) (a .b) (walk-nil (a .file .now) (a .b) (l .i) (c .if1 .taken)) (l .inv .1)),
+      λ e.
+          c .before .before .before .before .before .before .before .before .pre .2,
+    )
 
 returns-2 : tie.Need-returns-2 Inv-loop μ-loop
 returns-2 c =
     let a = c .before .before .before .before .before .before .before .before .before .args in
-    let l = c .before .before .before .loop in
-    (sym (l .inv .2 ∙ short (a .file .now) (a .b) (walk-some (a .file .now) (a .b) (l .i) (c .before .if1 .left) (l .inv .0)) (c .if2 .taken)), λ e. absurd (false≢true e))
+    let l = c .before .before .before .loop in (
+      sym (l .inv .2 ∙ short (a .file .now) (a .b) (walk-some (a .file .now) (a .b) (l .i) (c .before .if1 .left) (l .inv .0)) (c .if2 .taken)),
+      λ e. absurd
+          (false≢true e),
+    )
 
 link-field-requires : tie.Need-link-field-requires Inv-loop μ-loop
 link-field-requires c κs = (c .before .before .before .before .before .before .before .before .before .pre .0, omega arith)
@@ -60,8 +68,14 @@ returns-3 : tie.Need-returns-3 Inv-loop μ-loop
 returns-3 c =
     let a = c .before .before .before .before .before .before .before .before .before .before .before .before .before .args in
     let l = c .before .before .before .before .before .before .before .loop in
-    let first = walk-cons (a .file .now) (a .b) (l .i) (c .before .before .before .link-field .result) _ (c .before .before .before .before .before .if1 .left) (l .inv .0) (c .before .before .before .link-field .ensures) refl in
-    (sym (l .inv .2 ∙ differs (a .file .now) (a .b) first (c .before .before .before .before .if2 .left) (l .inv .1) (c .before .before .link-field2 .ensures) (c .before .sort-in .ensures ∙ c .before .before .before .before .before .before .before .before .before .before .before .before .before .pre .1 .noted (c .before .before .link-field2 .result)) refl (c .if3 .taken)), λ e. absurd (false≢true e))
+    let first = walk-cons (a .file .now) (a .b) (l .i) (c .before .before .before .link-field .result) _ (c .before .before .before .before .before .if1 .left)
+    (l .inv .0) (c .before .before .before .link-field .ensures) refl in (
+      sym (l .inv .2 ∙ differs (a .file .now) (a .b) first (c .before .before .before .before .if2 .left) (l .inv .1) (c .before .before .link-field2 .ensures)
+          (c .before .sort-in .ensures
+          ∙ c .before .before .before .before .before .before .before .before .before .before .before .before .before .pre .1 .noted
+          (c .before .before .link-field2 .result)) refl (c .if3 .taken)),
+      λ e. absurd (false≢true e),
+    )
 
 next-link-requires : tie.Need-next-link-requires Inv-loop μ-loop
 next-link-requires c κs = c .before .before .before .before .before .before .before .before .before .before .before .before .before .pre .0
@@ -81,21 +95,34 @@ loop-again c =
     let l = c .before .before .before .before .before .before .before .before .before .loop in
     let m = c .before .next-link in
     let n = c .next-link2 in
-    let first = walk-cons (a .file .now) (a .b) (l .i) (c .before .before .before .before .before .link-field .result) (m .result) (c .before .before .before .before .before .before .before .if1 .left) (l .inv .0) (c .before .before .before .before .before .link-field .ensures) (m .ensures) in (
+    let first = walk-cons (a .file .now) (a .b) (l .i) (c .before .before .before .before .before .link-field .result) (m .result)
+    (c .before .before .before .before .before .before .before .if1 .left) (l .inv .0) (c .before .before .before .before .before .link-field .ensures)
+    (m .ensures) in (
       walk-le (a .file .now) (a .b) (l .i) (m .result) (m .ensures),
       walk-le (a .file .now) (a .b) (l .j) (n .result) (n .ensures),
       l .inv .2
-          ∙ on (a .file .now) (a .b) first (c .before .before .before .before .before .before .if2 .left) (l .inv .1) (c .before .before .before .before .link-field2 .ensures) (c .before .before .before .sort-in .ensures ∙ c .before .before .before .before .before .before .before .before .before .before .before .before .before .before .before .pre .1 .noted (c .before .before .before .before .link-field2 .result)) (n .ensures) (c .before .before .if3 .left),
+          ∙ on (a .file .now) (a .b) first (c .before .before .before .before .before .before .if2 .left) (l .inv .1)
+          (c .before .before .before .before .link-field2 .ensures)
+          (c .before .before .before .sort-in .ensures
+          ∙ c .before .before .before .before .before .before .before .before .before .before .before .before .before .before .before .pre .1 .noted
+          (c .before .before .before .before .link-field2 .result)) (n .ensures) (c .before .before .if3 .left),
     )
 
 far-sorts-requires : tie.Need-far-sorts-requires Inv-loop μ-loop
-far-sorts-requires c κs = (c .before .before .before .before .before .before .before .before .pre .0, c .before .before .before .before .before .before .before .before .pre .1, c .before .before .before .before .before .before .before .before .pre .2, c .before .before .loop .inv .0, c .before .before .loop .inv .1)
+far-sorts-requires c κs = (
+  c .before .before .before .before .before .before .before .before .pre .0,
+  c .before .before .before .before .before .before .before .before .pre .1,
+  c .before .before .before .before .before .before .before .before .pre .2,
+  c .before .before .loop .inv .0,
+  c .before .before .loop .inv .1,
+)
 
 same-length : tie.Need-same-length Inv-loop μ-loop
 same-length c = search needs
 
 returns-4 : tie.Need-returns-4 Inv-loop μ-loop
-returns-4 c = (c .before .before .far-sorts .ensures .0 ∙ sym (c .before .before .before .before .before .loop .inv .2), c .before .before .far-sorts .ensures .1)
+returns-4 c =
+    (c .before .before .far-sorts .ensures .0 ∙ sym (c .before .before .before .before .before .loop .inv .2), c .before .before .far-sorts .ensures .1)
 
 pub same-sorts-spec : {M : Type 1} → statement M
 same-sorts-spec =

@@ -37,7 +37,18 @@ module _ (symbols f : ℕ) where
   unfolding symbolKind
   above h =
       let p : (k : ℕ) → k ≤ 8 → leb f k ≡ false = passed h in
-      rw (p 0 (omega arith), p 1 (omega arith), p 2 (omega arith), p 3 (omega arith), p 4 (omega arith), p 5 (omega arith), p 6 (omega arith), p 7 (omega arith), p 8 (omega arith))
+      rw (
+        p 0 (omega arith),
+        p 1 (omega arith),
+        p 2 (omega arith),
+        p 3 (omega arith),
+        p 4 (omega arith),
+        p 5 (omega arith),
+        p 6 (omega arith),
+        p 7
+            (omega arith),
+        p 8 (omega arith),
+      )
 
 built-in-requires : tie.Need-built-in-requires
 built-in-requires c κs = search needs

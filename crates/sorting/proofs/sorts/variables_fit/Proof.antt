@@ -15,7 +15,8 @@ use Rattle.sorting.proofs.sorts.variables_fit.Tie as tie
 
 abbrev Inv-loop : tie.InvT-loop
 Inv-loop file b sorts variables terms i₀ j₀ i j =
-    (i ≤ b .links) × (j ≤ b .links) × (sameList (variableSorts file b variables) (termSorts file b terms) ≡ sameList (variableSorts file b i) (termSorts file b j))
+    (i ≤ b .links) × (j ≤ b .links)
+    × (sameList (variableSorts file b variables) (termSorts file b terms) ≡ sameList (variableSorts file b i) (termSorts file b j))
 
 abbrev μ-loop : tie.MeasureT-loop
 μ-loop file b sorts variables terms i₀ j₀ i j = length (items (bundleAt file b) i)
@@ -40,7 +41,8 @@ returns : tie.Need-returns Inv-loop μ-loop
 returns c =
     let l = c .before .before .loop in
     let a = c .before .before .before .before .before .before .before .args in
-    sym (l .inv .2 ∙ short (a .file .now) (a .b) (variables-cons (a .file .now) (a .b) (c .before .loop-test .taken) (l .inv .0) refl refl refl) (c .if1 .taken))
+    sym (l .inv .2 ∙ short (a .file .now) (a .b) (variables-cons (a .file .now) (a .b) (c .before .loop-test .taken) (l .inv .0) refl refl refl)
+    (c .if1 .taken))
 
 link-field-requires : tie.Need-link-field-requires Inv-loop μ-loop
 link-field-requires c κs = search needs
@@ -62,8 +64,10 @@ returns-2 c =
     let l = i .before .before .loop in
     let k = i .before .before .before .before .before .before .before in
     let a = k .args in
-    let first = variables-cons (a .file .now) (a .b) (i .before .loop-test .taken) (l .inv .0) (x .before .link-field .ensures) (x .variable-sort .ensures) refl in
-    sym (l .inv .2 ∙ differs (a .file .now) (a .b) first (i .if1 .left) (l .inv .1) (s .before .link-field2 .ensures) (s .sort-in .ensures ∙ k .pre .1 .noted (s .before .link-field2 .result)) refl (c .if2 .taken))
+    let first = variables-cons (a .file .now) (a .b) (i .before .loop-test .taken) (l .inv .0) (x .before .link-field .ensures) (x .variable-sort .ensures)
+    refl in
+    sym (l .inv .2 ∙ differs (a .file .now) (a .b) first (i .if1 .left) (l .inv .1) (s .before .link-field2 .ensures)
+    (s .sort-in .ensures ∙ k .pre .1 .noted (s .before .link-field2 .result)) refl (c .if2 .taken))
 
 next-link-requires : tie.Need-next-link-requires Inv-loop μ-loop
 next-link-requires c κs = c .before .before .before .before .before .before .before .before .before .before .before .before .pre .0
@@ -76,7 +80,11 @@ loop-less c =
     let i = c .before .before .before .before .before .before .before in
     let l = i .before .before .loop in
     let a = i .before .before .before .before .before .before .before .args in
-    omega (arith, walk-length (a .file .now) (a .b) (l .i) (c .before .next-link .result) (i .before .loop-test .taken) (l .inv .0) (c .before .next-link .ensures))
+    omega (
+      arith,
+      walk-length (a .file .now) (a .b) (l .i) (c .before .next-link .result) (i .before .loop-test .taken) (l .inv .0)
+          (c .before .next-link .ensures),
+    )
 
 loop-again : tie.Need-loop-again Inv-loop μ-loop
 loop-again c =
@@ -88,11 +96,13 @@ loop-again c =
     let a = k .args in
     let m = c .before .next-link in
     let n = c .next-link2 in
-    let first = variables-cons (a .file .now) (a .b) (i .before .loop-test .taken) (l .inv .0) (x .before .link-field .ensures) (x .variable-sort .ensures) (m .ensures) in (
+    let first = variables-cons (a .file .now) (a .b) (i .before .loop-test .taken) (l .inv .0) (x .before .link-field .ensures) (x .variable-sort .ensures)
+    (m .ensures) in (
       walk-le (a .file .now) (a .b) (l .i) (m .result) (m .ensures),
       walk-le (a .file .now) (a .b) (l .j) (n .result) (n .ensures),
       l .inv .2
-          ∙ on (a .file .now) (a .b) first (i .if1 .left) (l .inv .1) (s .before .link-field2 .ensures) (s .sort-in .ensures ∙ k .pre .1 .noted (s .before .link-field2 .result)) (n .ensures) (c .before .before .if2 .left),
+          ∙ on (a .file .now) (a .b) first (i .if1 .left) (l .inv .1) (s .before .link-field2 .ensures)
+          (s .sort-in .ensures ∙ k .pre .1 .noted (s .before .link-field2 .result)) (n .ensures) (c .before .before .if2 .left),
     )
 
 returns-3 : tie.Need-returns-3 Inv-loop μ-loop

@@ -20,7 +20,8 @@ step-field-requires-5 : tie.Need-step-field-requires-5
 step-field-requires-5 c κs = search needs
 
 returns : tie.Need-returns
-returns c = step-is _ (c .before .before .before .before .step-field .ensures) (c .before .before .before .step-field2 .ensures) (c .before .before .step-field3 .ensures) (c .before .step-field4 .ensures) (c .step-field5 .ensures)
+returns c = step-is _ (c .before .before .before .before .step-field .ensures) (c .before .before .before .step-field2 .ensures)
+    (c .before .before .step-field3 .ensures) (c .before .step-field4 .ensures) (c .step-field5 .ensures)
 
 pub step-words-spec : {M : Type 1} → statement M
 step-words-spec =

@@ -13,7 +13,8 @@ use Rattle.terms.proofs.duplicates.mixed_items.Statement.{statement}
 use Rattle.terms.proofs.duplicates.mixed_items.Tie as tie
 
 abbrev Inv-loop : tie.InvT-loop
-Inv-loop file b d list sum₀ i₀ left₀ sum i left = (i ≤ b .links) × (sum < 2048) × (mixItems 8 d (items (bundleAt file b) list) ≡ mixItems left sum (items (bundleAt file b) i))
+Inv-loop file b d list sum₀ i₀ left₀ sum i left = (i ≤ b .links) × (sum < 2048)
+    × (mixItems 8 d (items (bundleAt file b) list) ≡ mixItems left sum (items (bundleAt file b) i))
 
 abbrev μ-loop : tie.MeasureT-loop
 μ-loop file b d list sum₀ i₀ left₀ sum i left = left
@@ -32,8 +33,13 @@ loop-holds c =
 
 returns : tie.Need-returns Inv-loop μ-loop
 returns c =
-    let l = c .before .before .loop in
-    (sym (l .inv .2 ∙ ap (mixItems (l .left) (l .sum)) (walk-nil (c .before .before .before .before .before .args .file .now) (c .before .before .before .before .before .args .b) (l .i) (c .if1 .taken)) ∙ mix-none (l .left) (l .sum)), l .inv .1)
+    let l = c .before .before .loop in (
+      sym (l .inv .2
+          ∙ ap (mixItems (l .left) (l .sum))
+          (walk-nil (c .before .before .before .before .before .args .file .now) (c .before .before .before .before .before .args .b) (l .i) (c .if1 .taken))
+          ∙ mix-none (l .left) (l .sum)),
+      l .inv .1,
+    )
 
 link-field-requires : tie.Need-link-field-requires Inv-loop μ-loop
 link-field-requires c κs = search needs
@@ -59,14 +65,21 @@ loop-again c =
       walk-le (a .file .now) (a .b) (l .i) (r .result) (r .ensures),
       c .before .mixed .ensures .1,
       l .inv .2
-          ∙ rw (walk-cons (a .file .now) (a .b) (l .i) (x .result) (r .result) (c .before .before .before .if1 .left) (l .inv .0) (x .ensures) (r .ensures), c .before .mixed .ensures .0)
+          ∙ rw (
+            walk-cons (a .file .now) (a .b) (l .i) (x .result) (r .result) (c .before .before .before .if1 .left) (l .inv .0) (x .ensures) (r .ensures),
+            c .before .mixed .ensures .0,
+          )
           (mix-on (l .left) (l .sum) (x .result) (items (bundleAt (a .file .now) (a .b)) (r .result)) (c .before .before .before .before .loop-test .taken)),
     )
 
 returns-2 : tie.Need-returns-2 Inv-loop μ-loop
 returns-2 c =
-    let l = c .before .loop in
-    (sym (l .inv .2 ∙ mix-full (l .left) (l .sum) (items (bundleAt (c .before .before .before .before .args .file .now) (c .before .before .before .before .args .b)) (l .i)) (c .loop-test .left)), l .inv .1)
+    let l = c .before .loop in (
+      sym (l .inv .2
+          ∙ mix-full (l .left) (l .sum)
+          (items (bundleAt (c .before .before .before .before .args .file .now) (c .before .before .before .before .args .b)) (l .i)) (c .loop-test .left)),
+      l .inv .1,
+    )
 
 pub mixed-items-spec : {M : Type 1} → statement M
 mixed-items-spec =

@@ -36,8 +36,10 @@ loop-holds c =
       refl,
       filed-none _ _ _ (zeros 2048 .zero) (c .before .before .before .before .before .pre .7 .zero),
       rw terms-length (rest-start _ _),
-      noted-none (AllTo (a .file .now) (a .b) 0) (a .b .links) (a .lower .now) (c .before .before .before .before .before .pre .3) (c .before .before .before .before .before .pre .2),
-      noted-none (SortsFit (a .file .now) (a .b)) (a .b .links) (a .fitting .now) (c .before .before .before .before .before .pre .5) (c .before .before .before .before .before .pre .4),
+      noted-none (AllTo (a .file .now) (a .b) 0) (a .b .links) (a .lower .now) (c .before .before .before .before .before .pre .3)
+          (c .before .before .before .before .before .pre .2),
+      noted-none (SortsFit (a .file .now) (a .b)) (a .b .links) (a .fitting .now) (c .before .before .before .before .before .pre .5)
+          (c .before .before .before .before .before .pre .4),
       refl,
       refl,
     )
@@ -49,8 +51,10 @@ term-fault-requires : tie.Need-term-fault-requires Inv-loop μ-loop
 term-fault-requires c κs =
     let p = c .before .before .before .before .before .before .before .before .before .before .before .before .pre in
     let l = c .before .before .before .before .before .before .loop in
-    let d = c .before .before .before .before .digest in
-    ((p .0, p .1, l .inv .5, l .inv .6), (l .inv .3, l .inv .0, omega (arith, c .before .before .before .before .before .loop-test .taken, l .inv .2, p .6), d .ensures .1, d .ensures .0))
+    let d = c .before .before .before .before .digest in (
+      (p .0, p .1, l .inv .5, l .inv .6),
+      (l .inv .3, l .inv .0, omega (arith, c .before .before .before .before .before .loop-test .taken, l .inv .2, p .6), d .ensures .1, d .ensures .0),
+    )
 
 same-length : tie.Need-same-length Inv-loop μ-loop
 same-length c = search needs
@@ -62,7 +66,10 @@ same-length-3 : tie.Need-same-length-3 Inv-loop μ-loop
 same-length-3 c = search needs
 
 returns : tie.Need-returns Inv-loop μ-loop
-returns c = sym (c .before .before .before .before .before .before .before .before .before .before .before .before .loop .inv .4 ∙ rest-here _ _ _ (c .before .before .before .before .before .term-fault .ensures .0) (c .before .before .before .before .before .before .before .before .before .before .before .loop-test .taken) (c .if1 .taken))
+returns c =
+    sym (c .before .before .before .before .before .before .before .before .before .before .before .before .loop .inv .4
+    ∙ rest-here _ _ _ (c .before .before .before .before .before .term-fault .ensures .0)
+    (c .before .before .before .before .before .before .before .before .before .before .before .loop-test .taken) (c .if1 .taken))
 
 mul-next : tie.Need-mul-next Inv-loop μ-loop
 mul-next c = search needs
@@ -74,7 +81,13 @@ mul-next-2 : tie.Need-mul-next-2 Inv-loop μ-loop
 mul-next-2 c = search needs
 
 slice-write-next : tie.Need-slice-write-next Inv-loop μ-loop
-slice-write-next c = omega (arith, c .before .before .before .before .before .before .before .before .before .before .before .loop-test .taken, c .before .before .before .before .before .before .before .before .before .before .before .before .loop .inv .2, c .before .before .before .before .before .before .before .before .before .before .before .before .before .before .before .before .before .before .pre .6)
+slice-write-next c =
+    omega (
+      arith,
+      c .before .before .before .before .before .before .before .before .before .before .before .loop-test .taken,
+      c .before .before .before .before .before .before .before .before .before .before .before .before .loop .inv .2,
+      c .before .before .before .before .before .before .before .before .before .before .before .before .before .before .before .before .before .before .pre .6,
+    )
 
 cast-heads : tie.Need-cast-heads Inv-loop μ-loop
 cast-heads c = search needs
@@ -93,18 +106,27 @@ loop-less c = search needs
 
 loop-again : tie.Need-loop-again Inv-loop μ-loop
 loop-again c =
-    let a = c .before .before .before .before .before .before .before .before .before .before .before .before .before .before .before .before .before .before .args in
+    let a = c .before .before .before .before .before .before .before .before .before .before .before .before .before .before .before .before .before .before
+    .args in
     let l = c .before .before .before .before .before .before .before .before .before .before .before .before .loop in
     let d = c .before .before .before .before .before .before .before .before .before .before .digest in
     let none = c .if1 .left in
     let noted = c .before .before .before .before .before .term-fault .ensures .1 none in
     let heads-room : d .result < length (l .heads) = omega (arith, d .ensures .1, l .inv .1) in
-    let next-room : l .i < length (l .next) = omega (arith, c .before .before .before .before .before .before .before .before .before .before .before .loop-test .taken, l .inv .2, c .before .before .before .before .before .before .before .before .before .before .before .before .before .before .before .before .before .before .pre .6) in (
+    let next-room : l .i < length (l .next) =
+    omega (
+      arith,
+      c .before .before .before .before .before .before .before .before .before .before .before .loop-test .taken,
+      l .inv .2,
+      c .before .before .before .before .before .before .before .before .before .before .before .before .before .before .before .before .before .before .pre
+          .6,
+    ) in (
       omega arith,
       length-set (l .heads) (d .result) (l .i) ∙ l .inv .1,
       length-set (l .next) (l .i) _ ∙ l .inv .2,
       term-filed (bundleAt (a .file .now) (a .b)) (l .heads) (l .next) (l .i) (d .result) (l .inv .0) (l .inv .3) (d .ensures .0) heads-room next-room,
-      l .inv .4 ∙ rest-on _ _ _ (c .before .before .before .before .before .term-fault .ensures .0) (c .before .before .before .before .before .before .before .before .before .before .before .loop-test .taken) none,
+      l .inv .4 ∙ rest-on _ _ _ (c .before .before .before .before .before .term-fault .ensures .0)
+          (c .before .before .before .before .before .before .before .before .before .before .before .loop-test .taken) none,
       lower-up (a .file .now) (a .b) (l .i - 1) (l .i + 1 - 1) _ (omega arith) (noted .0),
       noted .1,
       search needs,

@@ -16,16 +16,28 @@ unfolding termFault
 told b i = refl
 
 term-refers-requires : tie.Need-term-refers-requires
-term-refers-requires c κs = (c .before .before .before .before .before .before .pre .0 .0, c .before .before .before .before .before .before .pre .0 .2, c .before .before .before .before .before .before .pre .1 .1)
+term-refers-requires c κs = (
+  c .before .before .before .before .before .before .pre .0 .0,
+  c .before .before .before .before .before .before .pre .0 .2,
+  c .before .before .before .before .before .before .pre .1 .1,
+)
 
 same-length : tie.Need-same-length
 same-length c = search needs
 
 returns : tie.Need-returns
-returns c = (rw (told, ← c .before .before .before .term-refers .ensures .0, not-true (c .before .before .before .term-refers .result) (c .if1 .taken)), λ e. absurd (omega (arith, e)))
+returns c = (
+  rw (told, ← c .before .before .before .term-refers .ensures .0, not-true (c .before .before .before .term-refers .result) (c .if1 .taken)),
+  λ e. absurd
+      (omega (arith, e)),
+)
 
 term-sorted-requires : tie.Need-term-sorted-requires
-term-sorted-requires c κs = (c .before .before .before .before .before .before .before .before .before .before .before .pre .0 .0, c .before .before .before .before .before .before .before .before .before .before .before .pre .0 .1, c .before .before .before .before .before .before .before .before .before .before .before .pre .0 .3)
+term-sorted-requires c κs = (
+  c .before .before .before .before .before .before .before .before .before .before .before .pre .0 .0,
+  c .before .before .before .before .before .before .before .before .before .before .before .pre .0 .1,
+  c .before .before .before .before .before .before .before .before .before .before .before .pre .0 .3,
+)
 
 same-length-2 : tie.Need-same-length-2
 same-length-2 c = search needs
@@ -46,7 +58,13 @@ returns-2 c = (
 )
 
 is-new-requires : tie.Need-is-new-requires
-is-new-requires c κs = (c .before .before .before .before .before .before .before .before .before .before .before .before .before .before .before .pre .0 .0, c .before .before .before .before .before .before .before .before .before .before .before .before .before .before .before .pre .1 .0, c .before .before .before .before .before .before .before .before .before .before .before .before .before .before .before .pre .1 .2, c .before .before .before .before .before .before .before .before .before .before .before .before .before .before .before .pre .1 .3, c .before .before .before .before .before .before .before .before .before .before .before .before .before .before .before .pre .1 .4)
+is-new-requires c κs = (
+  c .before .before .before .before .before .before .before .before .before .before .before .before .before .before .before .pre .0 .0,
+  c .before .before .before .before .before .before .before .before .before .before .before .before .before .before .before .pre .1 .0,
+  c .before .before .before .before .before .before .before .before .before .before .before .before .before .before .before .pre .1 .2,
+  c .before .before .before .before .before .before .before .before .before .before .before .before .before .before .before .pre .1 .3,
+  c .before .before .before .before .before .before .before .before .before .before .before .before .before .before .before .pre .1 .4,
+)
 
 same-length-4 : tie.Need-same-length-4
 same-length-4 c = search needs
@@ -59,7 +77,8 @@ returns-3 c = (
   rw (
     told,
     ← c .before .before .before .before .before .before .before .before .before .before .term-refers .ensures .0,
-    not-false (c .before .before .before .before .before .before .before .before .before .before .term-refers .result) (c .before .before .before .before .before .before .before .if1 .left),
+    not-false (c .before .before .before .before .before .before .before .before .before .before .term-refers .result)
+        (c .before .before .before .before .before .before .before .if1 .left),
     ← c .before .before .before .before .before .term-sorted .ensures .0,
     not-false (c .before .before .before .before .before .term-sorted .result) (c .before .before .if2 .left),
     ← c .before .is-new .ensures,
@@ -79,13 +98,20 @@ returns-4 c = (
   rw (
     told,
     ← c .before .before .before .before .before .before .before .before .before .before .term-refers .ensures .0,
-    not-false (c .before .before .before .before .before .before .before .before .before .before .term-refers .result) (c .before .before .before .before .before .before .before .if1 .left),
+    not-false (c .before .before .before .before .before .before .before .before .before .before .term-refers .result)
+        (c .before .before .before .before .before .before .before .if1 .left),
     ← c .before .before .before .before .before .term-sorted .ensures .0,
     not-false (c .before .before .before .before .before .term-sorted .result) (c .before .before .if2 .left),
     ← c .before .is-new .ensures,
     not-false (c .before .is-new .result) (c .if3 .left),
   ),
-  λ e. (c .before .before .before .before .before .before .before .before .before .before .term-refers .ensures .1 (not-false (c .before .before .before .before .before .before .before .before .before .before .term-refers .result) (c .before .before .before .before .before .before .before .if1 .left)), c .before .before .before .before .before .term-sorted .ensures .1 (not-false (c .before .before .before .before .before .term-sorted .result) (c .before .before .if2 .left))),
+  λ e. (
+    c .before .before .before .before .before .before .before .before .before .before .term-refers .ensures .1
+        (not-false (c .before .before .before .before .before .before .before .before .before .before .term-refers .result)
+        (c .before .before .before .before .before .before .before .if1 .left)),
+    c .before .before .before .before .before .term-sorted .ensures .1
+        (not-false (c .before .before .before .before .before .term-sorted .result) (c .before .before .if2 .left)),
+  ),
 )
 
 pub term-fault-spec : {M : Type 1} → statement M

@@ -56,7 +56,8 @@ is-number-requires-3 c κs = search needs
 returns-2 : tie.Need-returns-2
 unfolding refers
 returns-2 c =
-    let q = kind-binder (c .before .before .before .before .before .before .before .before .term-field .result) (sym (c .before .before .before .is-binder .ensures) ∙ c .before .before .if2 .taken) in (
+    let q = kind-binder (c .before .before .before .before .before .before .before .before .term-field .result)
+    (sym (c .before .before .before .is-binder .ensures) ∙ c .before .before .if2 .taken) in (
       rw (
         ← c .before .before .before .before .before .before .before .before .term-field .ensures,
         q .1,
@@ -72,7 +73,16 @@ returns-2 c =
 
 returns-3 : tie.Need-returns-3
 unfolding refers
-returns-3 c = (rw (← c .before .before .before .before .before .before .before .term-field .ensures, kind-none (c .before .before .before .before .before .before .before .term-field .result) (c .before .before .before .if1 .left) (sym (c .before .before .is-binder .ensures) ∙ c .before .if2 .left) (c .if3 .taken)), λ e. c .before .before .before .before .before .before .before .before .before .before .pre .1)
+returns-3 c = (
+  rw (
+    ← c .before .before .before .before .before .before .before .term-field .ensures,
+    kind-none
+        (c .before .before .before .before .before .before .before .term-field .result) (c .before .before .before .if1 .left)
+        (sym (c .before .before .is-binder .ensures) ∙ c .before .if2 .left) (c .if3 .taken),
+  ),
+  λ e.
+      c .before .before .before .before .before .before .before .before .before .before .pre .1,
+)
 
 all-lower-requires : tie.Need-all-lower-requires
 all-lower-requires c κs = search needs
@@ -90,7 +100,9 @@ returns-4 : tie.Need-returns-4
 unfolding refers
 returns-4 c =
     let known = c .is-known .result in
-    let starts = leb (c .before .before .before .before .before .before .before .before .before .before .before .before .term-field3 .result) (c .before .before .before .before .before .before .before .before .before .before .before .before .before .before .before .before .before .args .b .links) in
+    let starts = leb (c .before .before .before .before .before .before .before .before .before .before .before .before .term-field3 .result)
+    (c .before .before .before .before .before .before .before .before .before .before .before .before .before .before .before .before .before .args .b
+    .links) in
     let all = c .before .before .before .before .before .all-lower .result in
     let none = eqb (c .before .before .before .before .before .before .before .before .before .before .before .term-field4 .result) 0 in (
       rw (
@@ -120,11 +132,17 @@ same-length-2 c = search needs
 returns-5 : tie.Need-returns-5
 unfolding refers
 returns-5 c =
-    let first = leb (c .before .before .before .before .before .before .before .before .before .before .before .before .before .term-field2 .result) (c .before .before .before .before .before .before .before .before .before .before .before .before .before .before .before .before .before .args .b .links) && c .before .all-numbers .result && leb (c .before .before .before .before .before .before .before .before .before .before .before .before .term-field3 .result) (c .before .before .before .before .before .before .before .before .before .before .before .before .before .before .before .before .before .args .b .links) in
+    let first = leb (c .before .before .before .before .before .before .before .before .before .before .before .before .before .term-field2 .result)
+    (c .before .before .before .before .before .before .before .before .before .before .before .before .before .before .before .before .before .args .b
+    .links) && c .before .all-numbers .result
+    && leb (c .before .before .before .before .before .before .before .before .before .before .before .before .term-field3 .result)
+    (c .before .before .before .before .before .before .before .before .before .before .before .before .before .before .before .before .before .args .b
+    .links) in
     let all = c .before .before .before .before .before .all-lower .result in (
       rw (
         ← c .before .before .before .before .before .before .before .before .before .before .before .before .before .before .term-field .ensures,
-        kind-let (c .before .before .before .before .before .before .before .before .before .before .before .before .before .before .term-field .result) (c .before .before .if4 .left) (c .before .before .before .before .before .before .before .if3 .left),
+        kind-let (c .before .before .before .before .before .before .before .before .before .before .before .before .before .before .term-field .result)
+            (c .before .before .if4 .left) (c .before .before .before .before .before .before .before .if3 .left),
         ← c .before .before .before .before .before .before .before .before .before .before .before .before .before .term-field2 .ensures,
         ← c .before .before .before .before .before .before .before .before .before .before .before .before .term-field3 .ensures,
         ← c .before .before .before .before .before .before .before .before .before .before .before .term-field4 .ensures,

@@ -59,8 +59,19 @@ sort-in-requires c κs = search needs
 returns-2 : tie.Need-returns-2
 unfolding sorted
 returns-2 c =
-    let q = kind-binder (c .before .before .before .before .before .before .term-field .result) (sym (c .before .before .is-binder .ensures) ∙ c .before .if2 .taken) in
-    (rw (← c .before .before .before .before .before .before .term-field .ensures, q .1, ← c .before .before .before .before .term-field3 .ensures, ← c .before .before .before .before .before .before .before .before .before .before .pre .1 .noted (c .before .before .before .before .term-field3 .result), ← c .sort-in .ensures), λ e. c .before .before .before .before .before .before .before .before .before .before .pre .2)
+    let q = kind-binder (c .before .before .before .before .before .before .term-field .result)
+    (sym (c .before .before .is-binder .ensures) ∙ c .before .if2 .taken) in (
+      rw (
+        ← c .before .before .before .before .before .before .term-field .ensures,
+        q .1,
+        ← c .before .before .before .before .term-field3 .ensures,
+        ← c .before .before .before .before .before .before .before .before .before .before .pre .1 .noted
+            (c .before .before .before .before .term-field3 .result),
+        ← c .sort-in .ensures,
+      ),
+      λ e.
+          c .before .before .before .before .before .before .before .before .before .before .pre .2,
+    )
 
 lists-agree-requires : tie.Need-lists-agree-requires
 lists-agree-requires c κs = search needs
@@ -81,8 +92,14 @@ returns-3 c = (
 returns-4 : tie.Need-returns-4
 unfolding sorted
 returns-4 c =
-    let k = c .before .before .before .before .before .before .term-field in
-    (rw (← k .ensures, kind-rest (k .result) (c .before .before .before .if1 .left) (sym (c .before .before .is-binder .ensures) ∙ c .before .if2 .left) (c .if3 .left)) (nothing-asked _ _ (eqb (k .result) 1)), λ e. c .before .before .before .before .before .before .before .before .before .before .pre .2)
+    let k = c .before .before .before .before .before .before .term-field in (
+      rw (
+        ← k .ensures,
+        kind-rest (k .result) (c .before .before .before .if1 .left) (sym (c .before .before .is-binder .ensures) ∙ c .before .if2 .left)
+            (c .if3 .left),
+      ) (nothing-asked _ _ (eqb (k .result) 1)),
+      λ e. c .before .before .before .before .before .before .before .before .before .before .pre .2,
+    )
 
 pub term-sorted-spec : {M : Type 1} → statement M
 term-sorted-spec =

@@ -17,15 +17,21 @@ claim-right-requires c κs = whole-long _ _ (c .before .before .before .pre .0)
 returns : tie.Need-returns
 returns c =
     let at-claim-left = c .before .before in
-    let at-start = at-claim-left .before .before .before in
-    (refl, not-empty (at-start .args .job .now) (at-start .args .b) (at-claim-left .claim-left .result) (c .before .claim-right .result) (at-claim-left .claim-left .ensures .0) (c .before .claim-right .ensures .0) (c .if1 .taken))
+    let at-start = at-claim-left .before .before .before in (
+      refl,
+      not-empty (at-start .args .job .now) (at-start .args .b) (at-claim-left .claim-left .result) (c .before .claim-right .result)
+          (at-claim-left .claim-left .ensures .0) (c .before .claim-right .ensures .0) (c .if1 .taken),
+    )
 
 returns-2 : tie.Need-returns-2
 returns-2 c =
     let at-claim-right = c .before .before in
     let at-claim-left = at-claim-right .before in
-    let at-start = at-claim-left .before .before .before in
-    (refl, not-known (at-start .args .job .now) (at-start .args .b) (at-claim-left .claim-left .result) (at-claim-right .claim-right .result) (at-claim-left .claim-left .ensures .0) (at-claim-right .claim-right .ensures .0) (c .before .if1 .left) (c .if2 .taken))
+    let at-start = at-claim-left .before .before .before in (
+      refl,
+      not-known (at-start .args .job .now) (at-start .args .b) (at-claim-left .claim-left .result) (at-claim-right .claim-right .result)
+          (at-claim-left .claim-left .ensures .0) (at-claim-right .claim-right .ensures .0) (c .before .if1 .left) (c .if2 .taken),
+    )
 
 free-sets-requires : tie.Need-free-sets-requires
 free-sets-requires c κs = search needs
@@ -36,7 +42,8 @@ sub-is-closed c =
     let at-claim-right = at-if2 .before .before in
     let at-claim-left = at-claim-right .before in
     let at-start = at-claim-left .before .before .before in
-    left-known (at-start .args .job .now) (at-start .args .b) (at-claim-left .claim-left .result) (at-claim-right .claim-right .result) (at-claim-left .claim-left .ensures .0) (at-claim-right .claim-right .ensures .0) (at-if2 .if2 .left) .0
+    left-known (at-start .args .job .now) (at-start .args .b) (at-claim-left .claim-left .result) (at-claim-right .claim-right .result)
+    (at-claim-left .claim-left .ensures .0) (at-claim-right .claim-right .ensures .0) (at-if2 .if2 .left) .0
 
 mul-is-closed : tie.Need-mul-is-closed
 mul-is-closed c = search needs
@@ -48,7 +55,16 @@ is-closed-requires c κs =
     let at-claim-right = at-if2 .before .before in
     let at-claim-left = at-claim-right .before in
     let at-start = at-claim-left .before .before .before in
-    omega (arith, left-known (at-start .args .job .now) (at-start .args .b) (at-claim-left .claim-left .result) (at-claim-right .claim-right .result) (at-claim-left .claim-left .ensures .0) (at-claim-right .claim-right .ensures .0) (at-if2 .if2 .left) .0, left-known (at-start .args .job .now) (at-start .args .b) (at-claim-left .claim-left .result) (at-claim-right .claim-right .result) (at-claim-left .claim-left .ensures .0) (at-claim-right .claim-right .ensures .0) (at-if2 .if2 .left) .1, at-start .pre .1, at-sets .sets .given)
+    omega (
+      arith,
+      left-known (at-start .args .job .now) (at-start .args .b) (at-claim-left .claim-left .result) (at-claim-right .claim-right .result)
+          (at-claim-left .claim-left .ensures .0) (at-claim-right .claim-right .ensures .0) (at-if2 .if2 .left) .0,
+      left-known (at-start .args .job .now)
+          (at-start .args .b) (at-claim-left .claim-left .result) (at-claim-right .claim-right .result) (at-claim-left .claim-left .ensures .0)
+          (at-claim-right .claim-right .ensures .0) (at-if2 .if2 .left) .1,
+      at-start .pre .1,
+      at-sets .sets .given,
+    )
 
 same-length : tie.Need-same-length
 same-length c = search needs
@@ -63,8 +79,14 @@ returns-3 c =
     let at-claim-left = at-claim-right .before in
     let at-start = at-claim-left .before .before .before in (
       at-sets .sets .given,
-      not-closed (at-start .args .job .now) (at-start .args .b) (at-claim-left .claim-left .result) (at-claim-right .claim-right .result) (at-claim-left .claim-left .ensures .0) (at-claim-right .claim-right .ensures .0) (c .before .is-closed .result)
-          (c .before .is-closed .ensures ∙ closed-is (at-start .args .job .now) (at-start .args .b) (length (at-start .args .sets .now)) _ (at-claim-left .claim-left .result) (at-start .pre .0) (omega (arith, at-start .pre .1)) (at-free-sets .free-sets .ensures) (left-known (at-start .args .job .now) (at-start .args .b) (at-claim-left .claim-left .result) (at-claim-right .claim-right .result) (at-claim-left .claim-left .ensures .0) (at-claim-right .claim-right .ensures .0) (at-if2 .if2 .left) .0) (left-known (at-start .args .job .now) (at-start .args .b) (at-claim-left .claim-left .result) (at-claim-right .claim-right .result) (at-claim-left .claim-left .ensures .0) (at-claim-right .claim-right .ensures .0) (at-if2 .if2 .left) .1))
+      not-closed (at-start .args .job .now) (at-start .args .b) (at-claim-left .claim-left .result) (at-claim-right .claim-right .result)
+          (at-claim-left .claim-left .ensures .0) (at-claim-right .claim-right .ensures .0) (c .before .is-closed .result)
+          (c .before .is-closed .ensures ∙ closed-is (at-start .args .job .now) (at-start .args .b) (length (at-start .args .sets .now)) _
+          (at-claim-left .claim-left .result) (at-start .pre .0) (omega (arith, at-start .pre .1)) (at-free-sets .free-sets .ensures)
+          (left-known (at-start .args .job .now) (at-start .args .b) (at-claim-left .claim-left .result) (at-claim-right .claim-right .result)
+          (at-claim-left .claim-left .ensures .0) (at-claim-right .claim-right .ensures .0) (at-if2 .if2 .left) .0)
+          (left-known (at-start .args .job .now) (at-start .args .b) (at-claim-left .claim-left .result) (at-claim-right .claim-right .result)
+          (at-claim-left .claim-left .ensures .0) (at-claim-right .claim-right .ensures .0) (at-if2 .if2 .left) .1))
           (at-if1 .if1 .left) (at-if2 .if2 .left) (c .if3 .taken),
     )
 
@@ -81,8 +103,14 @@ returns-4 c =
     let at-claim-left = at-claim-right .before in
     let at-start = at-claim-left .before .before .before in (
       at-sets .sets .given,
-      all-hold (at-start .args .job .now) (at-start .args .b) (at-claim-left .claim-left .result) (at-claim-right .claim-right .result) (at-claim-left .claim-left .ensures .0) (at-claim-right .claim-right .ensures .0) (c .before .is-closed .result)
-          (c .before .is-closed .ensures ∙ closed-is (at-start .args .job .now) (at-start .args .b) (length (at-start .args .sets .now)) _ (at-claim-left .claim-left .result) (at-start .pre .0) (omega (arith, at-start .pre .1)) (at-free-sets .free-sets .ensures) (left-known (at-start .args .job .now) (at-start .args .b) (at-claim-left .claim-left .result) (at-claim-right .claim-right .result) (at-claim-left .claim-left .ensures .0) (at-claim-right .claim-right .ensures .0) (at-if2 .if2 .left) .0) (left-known (at-start .args .job .now) (at-start .args .b) (at-claim-left .claim-left .result) (at-claim-right .claim-right .result) (at-claim-left .claim-left .ensures .0) (at-claim-right .claim-right .ensures .0) (at-if2 .if2 .left) .1))
+      all-hold (at-start .args .job .now) (at-start .args .b) (at-claim-left .claim-left .result) (at-claim-right .claim-right .result)
+          (at-claim-left .claim-left .ensures .0) (at-claim-right .claim-right .ensures .0) (c .before .is-closed .result)
+          (c .before .is-closed .ensures ∙ closed-is (at-start .args .job .now) (at-start .args .b) (length (at-start .args .sets .now)) _
+          (at-claim-left .claim-left .result) (at-start .pre .0) (omega (arith, at-start .pre .1)) (at-free-sets .free-sets .ensures)
+          (left-known (at-start .args .job .now) (at-start .args .b) (at-claim-left .claim-left .result) (at-claim-right .claim-right .result)
+          (at-claim-left .claim-left .ensures .0) (at-claim-right .claim-right .ensures .0) (at-if2 .if2 .left) .0)
+          (left-known (at-start .args .job .now) (at-start .args .b) (at-claim-left .claim-left .result) (at-claim-right .claim-right .result)
+          (at-claim-left .claim-left .ensures .0) (at-claim-right .claim-right .ensures .0) (at-if2 .if2 .left) .1))
           (at-if1 .if1 .left) (at-if2 .if2 .left) (c .if3 .left),
     )
 
