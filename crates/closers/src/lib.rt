@@ -11,7 +11,7 @@ ghost use Rattle.scratch.specs.Stack.{halves};
 ghost use Rattle.filing.specs.Filing.{Indexed};
 ghost use Rattle.expansion.specs.Nodes.{leaf};
 ghost use Rattle.expansion.specs.Visit.{visit, concluded, replacing, renaming, openBinder, closeApplication, closeBinder};
-ghost use Rattle.placing.specs.Outcomes.{VisitOutcome, OpenOutcome, VisitIndexed, RecordIndexed};
+ghost use Rattle.placing.specs.Outcomes.{VisitOutcome, OpenOutcome, BinderOutcome, VisitIndexed, BinderIndexed};
 use bundle::Bundle;
 use bundle::digests::DIGESTS;
 use logic::Image;
@@ -20,6 +20,7 @@ use logic::kinds::REPLACES;
 use logic::rules::BIND;
 use logic::rules::CONG;
 use logic::rules::REFL;
+use placing::Opened;
 use placing::Recorded;
 use placing::Visited;
 use placing::add_context;
@@ -209,25 +210,38 @@ fn open_renaming(
     }
 }
 
-// The new variable, its term and the contexts of a quantifier over x.
+// The new variable, its term and the contexts of a quantifier over x. Its result binds the new variable.
 pub fn open_quantifier(
     words: &mut [u32],
     c: Bundle,
     x: usize,
     context: usize,
     index: &mut [u16; DIGESTS + Bundle::TERMS + 1],
-) -> Recorded
+) -> Opened
     requires { ⌜ Ready (now words) c × (x ≤ 4294967295) × (context ≤ 4294967295) × Indexed (bundleIn (now words) c) (now index) ⌝ }
-    ensures { λ r. ⌜ (length (now (words .exit)) ≡ length (now (words .entry))) × OpenOutcome (openBinder (bundleIn (now (words .entry)) c) x context) (now (words .exit)) r × RecordIndexed (now (words .exit)) (now (index .exit)) r ⌝ }
+    ensures { λ r. ⌜ (length (now (words .exit)) ≡ length (now (words .entry))) × BinderOutcome (openBinder (bundleIn (now (words .entry)) c) x context) (now (words .exit)) r × BinderIndexed (now (words .exit)) (now (index .exit)) r ⌝ }
 {
     let y = c.variables + 1;
     let placed = place_fresh(words, c, x, index);
     match placed {
-        Recorded::Full => Recorded::Full,
+        Recorded::Full => Opened::Full,
         Recorded::Done {
-            counts,
+            counts: with_y,
             number: term,
-        } => open_renaming(words, counts, x, y, term, context),
+        } => {
+            let renamed = open_renaming(words, with_y, x, y, term, context);
+            match renamed {
+                Recorded::Full => Opened::Full,
+                Recorded::Done {
+                    counts,
+                    number: inner,
+                } => Opened::Done {
+                    counts,
+                    context: inner,
+                    variable: y,
+                },
+            }
+        }
     }
 }
 

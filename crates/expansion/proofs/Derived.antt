@@ -53,7 +53,7 @@ module _ (b : Bundle) (tables : TablesFormed b) (contexts : b .contexts ≡ []) 
   start-substitutes = record {
     here = omega arith;
     job = omega arith;
-    past = λ x n. absurd n;
+    itself = λ x n. absurd n;
     gives = λ x r e. own-gives (sym (image-empty b x) ∙ e);
     stays = λ x l. image-empty b x;
   }
@@ -64,7 +64,7 @@ module _ (b : Bundle) (tables : TablesFormed b) (contexts : b .contexts ≡ []) 
       let (is, stands) = standing b tables (b .left) left in
       let τ : Node = nodeAt b (b .left) in
       subst (λ (t : ℕ). Visited (λ x. ⊥) 0 t (visit τ 0 b)) is
-      (visit-visited τ b 0 start-checked start-substitutes stands (λ x f. absurd (closed x (rw is at f))))
+      (visit-visited τ b 0 start-checked start-substitutes (λ x n. absurd n) stands (λ x f. absurd (closed x (rw is at f))))
 
   pub derived : Derived b (expanded b)
   unfolding expanded visited

@@ -1,6 +1,7 @@
 -- A visit only appends, whatever it is given.
 --     placed-longer, variable-longer, application-longer, binder-longer                placed terms
 --     concluded-longer, replacing-longer, fixing-longer, fresh-longer, open-longer     openers and closers
+--     listed-longer, fixed-longer, renaming-longer                                     the contexts of a quantifier
 --     visit-longer, visitAll-longer                                                    the visits
 --     claiming, claiming-longer, expanded-longer                                       the bundle that is written
 use Prim.Native.Nat.{ℕ, zero, suc}
@@ -12,7 +13,7 @@ use Rattle.logic.specs.Longer.{Longer, withVariables, addList, listStart}
 use Rattle.logic.proofs.Longer.{longer-refl, longer-trans, list-longer, terms-longer, variables-longer, contexts-longer, steps-longer}
 use Rattle.expansion.specs.Nodes.{Node, Nodes, leaf, node, scope, block, nil, cons, nodeAt}
 use Rattle.logic.specs.Lookup.{seek, sameVariable, sameApplication, sameBinder}
-use Rattle.expansion.specs.Visit.{PlacedTerm, placed, placeVariable, placeApplication, placeBinder, Visit, Visits, concluded, OpenedContext, replacing, fixing, imageTerm, newVariable, fresh, openBinder, visit, visitAll, visited, expanded, claiming}
+use Rattle.expansion.specs.Visit.{placed, placeVariable, placeApplication, placeBinder, Visit, Visits, concluded, OpenedContext, replacing, fixing, imageTerm, newVariable, fresh, renaming, OpenedBinder, openBinder, visit, visitAll, visited, expanded, claiming}
 
 pub placed-longer : (b : Bundle) (vs : List ℕ) (r : ℕ → TermRecord) (n : ℕ) → Longer b (placed b vs r n .bundle)
 placed-longer b vs r zero = longer-trans (list-longer b vs) (terms-longer (addList b vs) (r (listStart b vs) ∷ []))
@@ -43,14 +44,19 @@ pub fresh-longer : (b : Bundle) (x : ℕ) → Longer b (fresh b x .bundle)
 fresh-longer b x =
     longer-trans (variables-longer b (sortOfVariable b x ∷ [])) (variable-longer (withVariables b (sortOfVariable b x ∷ [])) (newVariable b))
 
+pub listed-longer : (b : Bundle) (x y t c : ℕ) → Longer (addList (fixing b y c .bundle) (x ∷ [])) (renaming b x y t c .bundle)
+listed-longer b x y t c =
+    let f : OpenedContext = fixing b y c in
+    replacing-longer (addList (f .bundle) (x ∷ [])) (listStart (f .bundle) (x ∷ [])) _ (t ∷ [])
+
+pub fixed-longer : (b : Bundle) (x y t c : ℕ) → Longer (fixing b y c .bundle) (renaming b x y t c .bundle)
+fixed-longer b x y t c = longer-trans (list-longer (fixing b y c .bundle) (x ∷ [])) (listed-longer b x y t c)
+
+pub renaming-longer : (b : Bundle) (x y t c : ℕ) → Longer b (renaming b x y t c .bundle)
+renaming-longer b x y t c = longer-trans (fixing-longer b y c) (fixed-longer b x y t c)
+
 pub open-longer : (b : Bundle) (x c : ℕ) → Longer b (openBinder b x c .bundle)
-open-longer b x c =
-    let p : PlacedTerm = fresh b x in
-    let f : OpenedContext = fixing (p .bundle) (newVariable b) c in
-    longer-trans (fresh-longer b x)
-    (longer-trans (fixing-longer (p .bundle) (newVariable b) c)
-    (longer-trans (list-longer (f .bundle) (x ∷ []))
-    (replacing-longer (addList (f .bundle) (x ∷ [])) (listStart (f .bundle) (x ∷ [])) _ (p .term ∷ []))))
+open-longer b x c = longer-trans (fresh-longer b x) (renaming-longer (fresh b x .bundle) x (newVariable b) (fresh b x .term) c)
 
 mutual
   unfolding visit
@@ -62,11 +68,11 @@ mutual
       longer-trans (visitAll-longer ns c b)
       (longer-trans (application-longer (v .bundle) f (v .results)) (concluded-longer _ 2 c t _ (v .steps)))
   visit-longer (scope t q x u) c b =
-      let o : OpenedContext = openBinder b x c in
+      let o : OpenedBinder = openBinder b x c in
       let v : Visit = visit u (o .context) (o .bundle) in
       longer-trans (open-longer b x c)
       (longer-trans (visit-longer u (o .context) (o .bundle))
-      (longer-trans (binder-longer (v .bundle) q (newVariable b) (v .result)) (concluded-longer _ 4 c t _ (v .step ∷ []))))
+      (longer-trans (binder-longer (v .bundle) q (o .variable) (v .result)) (concluded-longer _ 4 c t _ (v .step ∷ []))))
   visit-longer (block t s vs ns u) c b =
       let v : Visits = visitAll ns c b in
       let o : OpenedContext = replacing (v .bundle) s c (v .results) in

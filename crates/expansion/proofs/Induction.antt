@@ -1,4 +1,5 @@
 -- THE INDUCTION: each visit leaves a checked bundle, a result and a step that carries the visited term to it.
+--     Open, not-open                       what may be free in a result is new, hence no variable of the job
 --     Covers, CoverAll                     every free variable of a tree, or of a list of trees, has an image in the context
 --     refl-instance, leaf-visited          a variable
 --     cong-instance, node-visited          an application
@@ -13,7 +14,7 @@ use mathlib.Core.List.{List, [], _∷_, _++_}
 use native.Mathlib.Omega.{arith}
 use lib.ListN.{length, length-append}
 use lib.Dec.{eqb}
-use borrow.Author.Tests.{ne-eqb}
+use borrow.Author.Tests.{eq-eqb, ne-eqb}
 use Rattle.bundle.specs.Bundle.{Bundle, sortOfVariable}
 use Rattle.logic.specs.declared.Image.{Image}
 use Rattle.logic.specs.declared.Image.the-variants.{Own, Gives}
@@ -22,7 +23,7 @@ use Rattle.logic.specs.Terms.{Binder, Term, Terms, var, app, bind, letIn, none,
 use Rattle.logic.specs.Free.{Free, Frees}
 use Rattle.logic.specs.Lets.{holdsLet, holdLets}
 use Rattle.logic.specs.Sorts.{binderSort, sort}
-use Rattle.logic.specs.Contexts.{lookup, first, image, treeOfImage, imageTree}
+use Rattle.logic.specs.Contexts.{lookup, first, image, treeOfImage, imageTree, by-fixing}
 use Rattle.logic.specs.Rules.{ruleOf}
 use Rattle.logic.specs.WellFormed.{ListsFormed, WellFormed}
 use Rattle.logic.specs.Instance.{Instance, refl-image, by-cong, by-bind, by-let, Replaces}
@@ -33,13 +34,22 @@ use Rattle.logic.proofs.Longer.{longer-refl, longer-trans, sizes, variable-adde
 use Rattle.logic.proofs.Kept.{variable-kept, tree-kept, image-kept}
 use Rattle.logic.proofs.FormedKept.{image-tree-kept}
 use Rattle.expansion.specs.Nodes.{Node, Nodes, leaf, node, scope, block, nil, cons, number}
-use Rattle.expansion.specs.Visit.{PlacedTerm, placeApplication, placeBinder, Visit, Visits, concluded, OpenedContext, replacing, fixing, imageTerm, closeApplication, newVariable, fresh, openBinder, closeBinder, visit, visitAll}
+use Rattle.expansion.specs.Visit.{PlacedTerm, placeApplication, placeBinder, Visit, Visits, concluded, OpenedContext, replacing, fixing, imageTerm, closeApplication, newVariable, fresh, renaming, openBinder, closeBinder, visit, visitAll}
 use Rattle.expansion.proofs.Grown.{variable-longer, application-longer, binder-longer, fresh-longer, fixing-longer, replacing-longer, open-longer, visit-longer, visitAll-longer}
 use Rattle.expansion.proofs.AppendedChecked.{Checked, list-checked, list-start, variable-checked}
 use Rattle.expansion.proofs.Placement.{all-map, all-snoc, gather-kept, PlacedAs, variable-placed, application-placed, binder-placed}
-use Rattle.expansion.proofs.Substitution.{Result, Substitutes, replaced-old, substitutes-kept, new-not-free, new-not-in-image, lookup-covers, fixing-says, replacing-says, Opens, fixing-opens, replacing-opens}
+use Rattle.expansion.proofs.Mentioned.{FixedIn}
+use Rattle.expansion.proofs.Substitution.{Result, Substitutes, replaced-old, substitutes-kept, new-not-free, new-not-in-image, not-listed, not-new, lookup-covers, fixing-says, replacing-says, Opens, fixing-opens, replacing-opens}
 use Rattle.expansion.proofs.Conclusions.{done-says, done-kept, done-none, done-more, done-all-kept, done-results, done-sorts, done-steps, say-all, Visited, VisitedAll, conclude}
 use Rattle.expansion.proofs.Standing.{numbersOf, StandsAs, Stands, Stand, stands-term, stand-terms, stands-kept, stand-kept, application-sorts, binder-sorts, let-lists}
+
+-- what may be free in a result: the variables of the binders that the visit has opened and not closed, all of them new
+abbrev pub Open : ℕ → (ℕ → Type 0) → Type 0
+Open V₀ N = (x : ℕ) → N x → V₀ < x
+
+-- so no variable that the job binds, be it in a list or not
+not-open : {V₀ : ℕ} {N : ℕ → Type 0} → Open V₀ N → (vs : List ℕ) → All (Number V₀) vs → (x : ℕ) → N x → Among x vs → ⊥
+not-open {V₀} new vs nv x n = not-new V₀ x vs nv (new x n)
 
 -- every free variable of a tree is given an image
 abbrev pub Covers : Bundle → ℕ → Term → Type 0
@@ -73,7 +83,7 @@ leaf-visited {N = N} b c t x old s stands covers =
 
 -- ---- an application: CONG
 
--- lists of results hold no let and have only new variables free
+-- lists of results hold no let, and only variables that N allows are free in them
 gather-plain : (N : ℕ → Type 0) (b : Bundle) (rs : List ℕ) → All (Result N b) rs → holdLets (gather (tree b) rs) ≡ false
 unfolding gather holdsLet
 gather-plain N b [] h = refl
@@ -142,7 +152,7 @@ abbrev And : (ℕ → Type 0) → ℕ → ℕ → Type 0
 And N y x = N x ⊎ (x ≡ y)
 
 -- x is bound, and y is the new variable
-module _ {V₀ : ℕ} {N : ℕ → Type 0} (b : Bundle) (c x : ℕ) (old : Checked b) (s : Substitutes V₀ N b c) (nx : Number V₀ x) where
+module _ {V₀ : ℕ} {N : ℕ → Type 0} (b : Bundle) (c x : ℕ) (old : Checked b) (s : Substitutes V₀ N b c) (new : Open V₀ N) (nx : Number V₀ x) where
   abbrev y : ℕ
   y = newVariable b
 
@@ -174,8 +184,8 @@ module _ {V₀ : ℕ} {N : ℕ → Type 0} (b : Bundle) (c x : ℕ) (old : Check
 
   fixed-opens : Opens V₀ N (fixing withTerm y c) (λ z. cond (eqb y z) Own (image withTerm c z))
   fixed-opens =
-      fixing-opens withTerm c (term-placed .checked) (substitutes-kept s (fresh-longer b x) (old .formed) (λ z n. n) (s .past)) y
-      (omega (arith, s .job)) (omega (arith, y-number .1, sizes to-term .variables))
+      fixing-opens withTerm c (term-placed .checked) (substitutes-kept s (fresh-longer b x) (old .formed) (λ z n. n) (s .itself)) y
+      (y-number .0, omega (arith, y-number .1, sizes to-term .variables))
 
   list-ok : Checked withList
   list-ok = list-checked withFixed (x ∷ []) (fixed-opens .checked)
@@ -183,13 +193,25 @@ module _ {V₀ : ℕ} {N : ℕ → Type 0} (b : Bundle) (c x : ℕ) (old : Check
   from-term : Longer withTerm withList
   from-term = longer-trans (fixing-longer withTerm y c) (list-longer withFixed (x ∷ []))
 
+  -- in the body y may be free too: it is fixed
+  binder-open : Open V₀ (And N y)
+  binder-open z (inl n) = new z n
+  binder-open z (inr e) = omega (arith, s .job)
+
   list-substitutes : Substitutes V₀ (And N y) withList fixed
+  unfolding imageTree treeOfImage
   list-substitutes =
-      substitutes-kept (fixed-opens .substitutes) (list-longer withFixed (x ∷ [])) (fixed-opens .checked .formed) (λ z n. inl n) past
+      substitutes-kept (fixed-opens .substitutes) (list-longer withFixed (x ∷ [])) (fixed-opens .checked .formed) (λ z n. inl n) itself
     where
-      past : (z : ℕ) → And N y z → V₀ < z
-      past z (inl n) = s .past z n
-      past z (inr e) = omega (arith, s .job)
+      itself : (z : ℕ) → And N y z → FixedIn withFixed fixed z
+      itself z (inl n) = fixed-opens .substitutes .itself z n
+      itself z (inr e) =
+          let fixes = fixing-says withTerm y c (longer-refl withFixed) in
+          record {
+            mentioned = by-fixing (fixes .kind) (fixes .variable ∙ sym e);
+            image = ap (λ (i : Image). treeOfImage withFixed i z)
+                (fixed-opens .images z ∙ ap (λ (p : Bool). cond p Own (image withTerm c z)) (eq-eqb y z (sym e)));
+          }
 
   -- the new variable's term
   y-tree : {B : Bundle} → Longer withTerm B → tree B (fresh b x .term) ≡ var y
@@ -215,10 +237,11 @@ module _ {V₀ : ℕ} {N : ℕ → Type 0} (b : Bundle) (c x : ℕ) (old : Check
         ∙ sym (ap (sort withList) (y-tree from-term)));
   }
 
-  binder-opens : Opens V₀ (And N y) (openBinder b x c) (λ z. first (lookup (x ∷ []) (fresh b x .term ∷ []) z) (image withList fixed z))
+  binder-opens : Opens V₀ (And N y) (renaming withTerm x y (fresh b x .term) c) (λ z. first (lookup (x ∷ []) (fresh b x .term ∷ []) z) (image withList fixed z))
   binder-opens =
       replacing-opens withList fixed list-ok list-substitutes (listStart withFixed (x ∷ [])) (x ∷ []) (fresh b x .term ∷ [])
       (list-start withFixed (x ∷ []) (longer-refl withList)) (list-added withFixed (x ∷ []) (longer-refl withList)) (nx, tt) y-lists (y-result, tt)
+      (λ z n. not-listed withList z (x ∷ []) (fresh b x .term ∷ []) (not-open binder-open (x ∷ []) (nx, tt) z n))
 
   opened : Longer withList (openBinder b x c .bundle)
   opened = replacing-longer withList (listStart withFixed (x ∷ [])) fixed (fresh b x .term ∷ [])
@@ -319,7 +342,7 @@ module _ {V₀ : ℕ} {N : ℕ → Type 0} (b : Bundle) (c x : ℕ) (old : Check
 
 -- term t is a let of the variables vs, its list at l, bound terms ns and body u; v is what the visits to the bound terms leave
 module _ {V₀ : ℕ} {N : ℕ → Type 0} (b : Bundle) (c t l : ℕ) (vs : List ℕ) (ns : Nodes) (u : Node) (old : Checked b) (s : Substitutes V₀ N b c)
-    (stands : Stands V₀ b (block t l vs ns u)) (v : Visits) (longer : Longer b (v .bundle)) (ih : VisitedAll N c (numbersOf ns) v) where
+    (new : Open V₀ N) (stands : Stands V₀ b (block t l vs ns u)) (v : Visits) (longer : Longer b (v .bundle)) (ih : VisitedAll N c (numbersOf ns) v) where
   abbrev bound : OpenedContext
   bound = replacing (v .bundle) l c (v .results)
 
@@ -334,8 +357,9 @@ module _ {V₀ : ℕ} {N : ℕ → Type 0} (b : Bundle) (c t l : ℕ) (vs : List
   block-opens : Opens V₀ N bound (λ x. first (lookup vs (v .results) x) (image (v .bundle) c x))
   block-opens =
       let binds = let-there (v .bundle) longer .1 in
-      replacing-opens (v .bundle) c (ih .checked) (substitutes-kept s longer (old .formed) (λ x n. n) (s .past)) l vs (v .results)
+      replacing-opens (v .bundle) c (ih .checked) (substitutes-kept s longer (old .formed) (λ x n. n) (s .itself)) l vs (v .results)
       (binds .start) (binds .list) (binds .variables) bound-lists (done-results (ih .done))
+      (λ x n. not-listed (v .bundle) x vs (v .results) (not-open new vs (binds .variables) x n))
 
   -- the body's free variables are the let's, and those of its list
   block-covers : (τs : Terms) (τ : Term) → Covers b c (letIn vs τs τ) → Covers (bound .bundle) (bound .context) τ
@@ -380,41 +404,42 @@ module _ {V₀ : ℕ} {N : ℕ → Type 0} (b : Bundle) (c t l : ℕ) (vs : List
 mutual
   unfolding visit gather
 
-  pub visit-visited : (τ : Node) {V₀ : ℕ} {N : ℕ → Type 0} (b : Bundle) (c : ℕ) → Checked b → Substitutes V₀ N b c → Stands V₀ b τ
+  pub visit-visited : (τ : Node) {V₀ : ℕ} {N : ℕ → Type 0} (b : Bundle) (c : ℕ) → Checked b → Substitutes V₀ N b c → Open V₀ N → Stands V₀ b τ
       → Covers b c (tree b (number τ)) → Visited N c (number τ) (visit τ c b)
-  visit-visited (leaf t x) b c old s stands covers = leaf-visited b c t x old s stands covers
-  visit-visited (node t f ns) b c old s stands covers =
+  visit-visited (leaf t x) b c old s new stands covers = leaf-visited b c t x old s stands covers
+  visit-visited (node t f ns) b c old s new stands covers =
       node-visited b c t f ns old s stands (visitAll ns c b) (visitAll-longer ns c b)
-      (visitAll-visited ns b c old s (stands .1) (rw (stands .0 .1) at covers))
-  visit-visited (scope t q x u) {V₀} b c old s stands covers =
+      (visitAll-visited ns b c old s new (stands .1) (rw (stands .0 .1) at covers))
+  visit-visited (scope t q x u) {V₀} b c old s new stands covers =
       let o = openBinder b x c in
-      let opens = binder-opens b c x old s (stands .1) in
-      binder-visited b c x old s (stands .1) t q u stands (visit u (o .context) (o .bundle)) (visit-longer u (o .context) (o .bundle))
-      (visit-visited u (o .bundle) (o .context) (opens .checked) (opens .substitutes) (stands-kept V₀ (open-longer b x c) (old .formed .tables) u (stands .2))
+      let opens = binder-opens b c x old s new (stands .1) in
+      binder-visited b c x old s new (stands .1) t q u stands (visit u (o .context) (o .bundle)) (visit-longer u (o .context) (o .bundle))
+      (visit-visited u (o .bundle) (o .context) (opens .checked) (opens .substitutes) (binder-open b c x old s new (stands .1))
+      (stands-kept V₀ (open-longer b x c) (old .formed .tables) u (stands .2))
       (subst (Covers (o .bundle) (o .context)) (sym (tree-kept (open-longer b x c) (old .formed .tables) (number u) (stands-term V₀ b u (stands .2) .1)))
-      (binder-covers b c x old s (stands .1) q (tree b (number u)) (rw (stands .0 .1) at covers))))
-  visit-visited (block t l vs ns u) {V₀} {N} b c old s stands covers =
+      (binder-covers b c x old s new (stands .1) q (tree b (number u)) (rw (stands .0 .1) at covers))))
+  visit-visited (block t l vs ns u) {V₀} {N} b c old s new stands covers =
       let v = visitAll ns c b in
       let longer = visitAll-longer ns c b in
       let all : Covers b c (letIn vs (gather (tree b) (numbersOf ns)) (tree b (number u))) = rw (stands .0 .1) at covers in
-      let ih : VisitedAll N c (numbersOf ns) v = visitAll-visited ns b c old s (stands .2) (λ x f. all x (inl f)) in
+      let ih : VisitedAll N c (numbersOf ns) v = visitAll-visited ns b c old s new (stands .2) (λ x f. all x (inl f)) in
       let o = replacing (v .bundle) l c (v .results) in
-      let opens = block-opens b c t l vs ns u old s stands v longer ih in
+      let opens = block-opens b c t l vs ns u old s new stands v longer ih in
       let since : Longer b (o .bundle) = longer-trans longer (replacing-longer (v .bundle) l c (v .results)) in
-      block-visited b c t l vs ns u old s stands v longer ih (visit u (o .context) (o .bundle)) (visit-longer u (o .context) (o .bundle))
-      (visit-visited u (o .bundle) (o .context) (opens .checked) (opens .substitutes) (stands-kept V₀ since (old .formed .tables) u (stands .3))
+      block-visited b c t l vs ns u old s new stands v longer ih (visit u (o .context) (o .bundle)) (visit-longer u (o .context) (o .bundle))
+      (visit-visited u (o .bundle) (o .context) (opens .checked) (opens .substitutes) new (stands-kept V₀ since (old .formed .tables) u (stands .3))
       (subst (Covers (o .bundle) (o .context)) (sym (tree-kept since (old .formed .tables) (number u) (stands-term V₀ b u (stands .3) .1)))
-      (block-covers b c t l vs ns u old s stands v longer ih (gather (tree b) (numbersOf ns)) (tree b (number u)) all)))
+      (block-covers b c t l vs ns u old s new stands v longer ih (gather (tree b) (numbersOf ns)) (tree b (number u)) all)))
 
-  pub visitAll-visited : (ns : Nodes) {V₀ : ℕ} {N : ℕ → Type 0} (b : Bundle) (c : ℕ) → Checked b → Substitutes V₀ N b c → Stand V₀ b ns
+  pub visitAll-visited : (ns : Nodes) {V₀ : ℕ} {N : ℕ → Type 0} (b : Bundle) (c : ℕ) → Checked b → Substitutes V₀ N b c → Open V₀ N → Stand V₀ b ns
       → CoverAll b c (gather (tree b) (numbersOf ns)) → VisitedAll N c (numbersOf ns) (visitAll ns c b)
-  visitAll-visited nil b c old s stand covers = record { checked = old; done = done-none }
-  visitAll-visited (cons τ ns) {V₀} {N} b c old s stand covers =
+  visitAll-visited nil b c old s new stand covers = record { checked = old; done = done-none }
+  visitAll-visited (cons τ ns) {V₀} {N} b c old s new stand covers =
       let v = visit τ c b in
       let longer = visit-longer τ c b in
-      let head : Visited N c (number τ) v = visit-visited τ b c old s (stand .0) (λ x f. covers x (inl f)) in
+      let head : Visited N c (number τ) v = visit-visited τ b c old s new (stand .0) (λ x f. covers x (inl f)) in
       let tail : VisitedAll N c (numbersOf ns) (visitAll ns c (v .bundle)) =
-      visitAll-visited ns (v .bundle) c (head .checked) (substitutes-kept s longer (old .formed) (λ x n. n) (s .past))
+      visitAll-visited ns (v .bundle) c (head .checked) (substitutes-kept s longer (old .formed) (λ x n. n) (s .itself)) new
       (stand-kept V₀ longer (old .formed .tables) ns (stand .1))
       (rw (gather-kept longer (old .formed .tables) (numbersOf ns) (stand-terms V₀ b ns (stand .1)))
       (λ x f. let (r, e) = covers x (inr f) in (r, image-stays longer (old .formed) c (s .here) x e))) in

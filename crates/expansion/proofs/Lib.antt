@@ -2,7 +2,8 @@
 --     Grown             a visit only appends
 --     AppendedChecked   appends keep a bundle checked
 --     Placement         terms looked up, and appended where they are not found
---     Substitution      contexts of the visits: images are results, which hold no let and have only new variables free
+--     Mentioned         variables that an entry of a context mentions
+--     Substitution      contexts of the visits: images are results, which hold no let and whose free variables are their own images
 --     Conclusions       steps that a visit appends: each is an instance of its rule
 --     Standing          nodes that stand for terms of a bundle
 --     Induction         THE INDUCTION: what each visit leaves
@@ -18,6 +19,7 @@
 pub mod Grown
 pub mod AppendedChecked
 pub mod Placement
+pub mod Mentioned
 pub mod Substitution
 pub mod Conclusions
 pub mod Standing

@@ -31,11 +31,11 @@ use Rattle.logic.proofs.Tables.{table-all}
 use Rattle.logic.proofs.Longer.{longer-refl, longer-trans, sizes, list-longer, terms-longer, contexts-longer, steps-longer, consecutive-length}
 use Rattle.expansion.specs.Nodes.{Node, Nodes, leaf, node, scope, block, nil, cons, Numbered, numbered, gatherNodes, noNode, nodeAs, nodeBy, nodeAt}
 use Rattle.logic.specs.Lookup.{after, seek, sameVariable, sameApplication, sameBinder}
-use Rattle.expansion.specs.Visit.{PlacedTerm, placed, placeApplication, placeBinder, Visit, Visits, concluded, OpenedContext, replacing, fixing, imageTerm, newVariable, fresh, renaming, openBinder, visit, visitAll, visited, expanded}
+use Rattle.expansion.specs.Visit.{PlacedTerm, placed, placeApplication, placeBinder, Visit, Visits, concluded, OpenedContext, replacing, fixing, imageTerm, newVariable, fresh, renaming, OpenedBinder, openBinder, visit, visitAll, visited, expanded}
 use Rattle.expansion.specs.File.{countsIn, symbolWords, variableWords, termWords, linkWords, contextWords, stepWords}
 use Rattle.expansion.specs.Demands.{Bytes}
 use Rattle.expansion.proofs.SmallNumbers.{Word, SmallBundle, all-append, all-snoc, all-getD, all-at, all-tab}
-use Rattle.expansion.proofs.Grown.{placed-longer, concluded-longer, replacing-longer, fixing-longer, visit-longer, visitAll-longer}
+use Rattle.expansion.proofs.Grown.{placed-longer, concluded-longer, replacing-longer, fixing-longer, listed-longer, visit-longer, visitAll-longer}
 
 -- ---- a bundle that is read out of words, and out of bytes
 
@@ -281,6 +281,11 @@ pub record SmallOpened (o : OpenedContext) : Type 0 where
   pub bundle : SmallBundle (o .bundle)
   pub context : Word (o .context)
 
+pub record SmallBinder (o : OpenedBinder) : Type 0 where
+  pub bundle : SmallBundle (o .bundle)
+  pub context : Word (o .context)
+  pub variable : Word (o .variable)
+
 pub record SmallVisit (v : Visit) : Type 0 where
   pub bundle : SmallBundle (v .bundle)
   pub result : Word (v .result)
@@ -294,14 +299,6 @@ pub record SmallVisits (v : Visits) : Type 0 where
 binder-word : (q : Binder) → Word (numberOf (binder q))
 binder-word forAll = omega arith
 binder-word exists = omega arith
-
--- what follows the new variable
-renaming-longer : (b : Bundle) (x y t c : ℕ) → Longer b (renaming b x y t c .bundle)
-renaming-longer b x y t c =
-    let f : OpenedContext = fixing b y c in
-    longer-trans (fixing-longer b y c)
-    (longer-trans (list-longer (f .bundle) (x ∷ []))
-    (replacing-longer (addList (f .bundle) (x ∷ [])) (listStart (f .bundle) (x ∷ [])) _ (t ∷ [])))
 
 -- `end` is the last bundle, and within the limits.
 module _ {end : Bundle} (fit : Within (countsIn end)) where
@@ -372,18 +369,19 @@ module _ {end : Bundle} (fit : Within (countsIn end)) where
       (seek (sameVariable (newVariable b)) (b .terms)) (small-variables small s (sort .0)) tt
       (λ s w. (omega arith, (y, (omega arith, (omega arith, tt))))) (seek-le (sameVariable (newVariable b)) (b .terms)) e
 
-  pub open-small : (b : Bundle) (x c : ℕ) → SmallBundle b → Word x → Word c → Longer (openBinder b x c .bundle) end → SmallOpened (openBinder b x c)
+  pub open-small : (b : Bundle) (x c : ℕ) → SmallBundle b → Word x → Word c → Longer (openBinder b x c .bundle) end → SmallBinder (openBinder b x c)
   open-small b x c small hx hc e =
       let p : PlacedTerm = fresh b x in
       let f : OpenedContext = fixing (p .bundle) (newVariable b) c in
-      let e₃ : Longer (addList (f .bundle) (x ∷ [])) end =
-      longer-trans (replacing-longer (addList (f .bundle) (x ∷ [])) (listStart (f .bundle) (x ∷ [])) (f .context) (p .term ∷ [])) e in
+      let e₃ : Longer (addList (f .bundle) (x ∷ [])) end = longer-trans (listed-longer (p .bundle) x (newVariable b) (p .term) c) e in
       let e₂ : Longer (f .bundle) end = longer-trans (list-longer (f .bundle) (x ∷ [])) e₃ in
       let e₁ : Longer (p .bundle) end = longer-trans (fixing-longer (p .bundle) (newVariable b) c) e₂ in
       let sp : SmallPlaced p = fresh-small b x small e₁ in
       let sf : SmallOpened f = fixing-small (p .bundle) (newVariable b) c (sp .bundle) (new-small b x e₁) hc e₂ in
+      let so : SmallOpened (renaming (p .bundle) x (newVariable b) (p .term) c) =
       replacing-small (addList (f .bundle) (x ∷ [])) (listStart (f .bundle) (x ∷ [])) (f .context) (p .term ∷ [])
-      (list-small (f .bundle) (x ∷ []) (sf .bundle) (hx, tt) e₃) (start-small (f .bundle) (x ∷ []) e₃) (sf .context) (sp .term, tt) e
+      (list-small (f .bundle) (x ∷ []) (sf .bundle) (hx, tt) e₃) (start-small (f .bundle) (x ∷ []) e₃) (sf .context) (sp .term, tt) e in
+      record { bundle = so .bundle; context = so .context; variable = new-small b x e₁ }
 
   -- ---- the visits
 
@@ -406,8 +404,8 @@ module _ {end : Bundle} (fit : Within (countsIn end)) where
         (seek-le (sameApplication (v .bundle) f (v .results)) (v .bundle .terms)) e₂ in
         concluded-small (p .bundle) 2 c t (p .term) (v .steps) (sp .bundle) (omega arith) hc (h .0) (sp .term) (sv .steps) e
     visit-small (scope t q x u) c b h hc small e =
-        let y : ℕ = newVariable b in
-        let o : OpenedContext = openBinder b x c in
+        let o : OpenedBinder = openBinder b x c in
+        let y : ℕ = o .variable in
         let v : Visit = visit u (o .context) (o .bundle) in
         let p : PlacedTerm = placeBinder (v .bundle) q y (v .result) in
         let n : ℕ = seek (sameBinder q y (v .result)) (v .bundle .terms) in
@@ -415,11 +413,10 @@ module _ {end : Bundle} (fit : Within (countsIn end)) where
         let e₃ : Longer (p .bundle) end = longer-trans (concluded-longer (p .bundle) 4 c t (p .term) (v .step ∷ [])) e in
         let e₂ : Longer (v .bundle) end = longer-trans (placed-longer (v .bundle) [] made n) e₃ in
         let e₁ : Longer (o .bundle) end = longer-trans (visit-longer u (o .context) (o .bundle)) e₂ in
-        let so : SmallOpened o = open-small b x c small (h .1) hc e₁ in
+        let so : SmallBinder o = open-small b x c small (h .1) hc e₁ in
         let sv : SmallVisit v = visit-small u (o .context) (o .bundle) (h .2) (so .context) (so .bundle) e₂ in
-        let hy : Word y = new-small b x (longer-trans (renaming-longer (fresh b x .bundle) x y (fresh b x .term) c) e₁) in
         let sp : SmallPlaced p =
-        placed-small (v .bundle) [] made n (sv .bundle) tt (λ s w. (binder-word q, (hy, (sv .result, (omega arith, tt)))))
+        placed-small (v .bundle) [] made n (sv .bundle) tt (λ s w. (binder-word q, (so .variable, (sv .result, (omega arith, tt)))))
         (seek-le (sameBinder q y (v .result)) (v .bundle .terms)) e₃ in
         concluded-small (p .bundle) 4 c t (p .term) (v .step ∷ []) (sp .bundle) (omega arith) hc (h .0) (sp .term) (sv .step, tt) e
     visit-small (block t s vs ns u) c b h hc small e =

@@ -1,9 +1,10 @@
 -- Contexts of the visits, and the results that they put in for variables. V₀ is the number of the job's variables; those past it are new. N x says
--- that x may be free in a result: nothing at the start, and in a quantifier's body its new variable too.
+-- that x may be free in a result: nothing at the start, and in a quantifier's body the variable that its result binds too.
 --     Result, result-kept                  a result holds no let, and only variables that N allows are free in it
---     Substitutes, substitutes-kept        the invariant of a context: images are results, new variables are never replaced
---     new-not-mentioned                    an entry replaces no new variable
---     results-new, results-settled         results have only new variables free; so everything put into a replacing context is settled
+--     Substitutes, substitutes-kept        the invariant of a context: images are results; what may be free in a result is mentioned, and its own
+--                                          image; new variables are never replaced
+--     results-settled                      so everything put into a replacing context is settled
+--     ByItself, not-listed, not-new        lists that replace a variable by itself, if at all: it is not in the list; it is new
 --     new-not-free, new-not-in-image       a new variable is in no old term, and in no image made before it
 --     fixing-says, replacing-says          what the rules say of a context just appended, in every longer bundle
 --     Opens                                what holds of it
@@ -21,11 +22,12 @@ use lib.Dec.{eqb}
 use borrow.Author.Tests.{eqb-true, eqb-false, ne-eqb}
 use Rattle.bundle.specs.Bundle.{Bundle, Context, contextOf, sortOfVariable}
 use Rattle.bundle.specs.Links.{items}
-use Rattle.logic.specs.declared.Mention.the-variants.{Replaced, Absent}
+use Rattle.logic.specs.declared.Mention.{Mention}
+use Rattle.logic.specs.declared.Mention.the-variants.{Fixed, Replaced, Absent}
 use Rattle.logic.specs.declared.Image.{Image}
 use Rattle.logic.specs.declared.Image.the-variants.{Own, Gives}
 use Rattle.logic.specs.Lists.{Among, All, Number}
-use Rattle.logic.specs.Terms.{gather, tree}
+use Rattle.logic.specs.Terms.{var, gather, tree}
 use Rattle.logic.specs.Free.{Free}
 use Rattle.logic.specs.Lets.{holdsLet}
 use Rattle.logic.specs.Contexts.{lookup, first, image, treeOfImage, imageTree, Settled}
@@ -41,6 +43,7 @@ use Rattle.expansion.specs.Visit.{OpenedContext, replacing, fixing, newV
 use Rattle.expansion.proofs.Grown.{replacing-longer, fixing-longer}
 use Rattle.expansion.proofs.AppendedChecked.{Checked, list-checked, list-start, context-checked}
 use Rattle.expansion.proofs.Placement.{all-map}
+use Rattle.expansion.proofs.Mentioned.{mentioned-above, FixedIn, fixed-kept}
 
 -- ---- results
 
@@ -63,8 +66,8 @@ result-kept {r = r} longer formed wider h =
 pub record Substitutes (V₀ : ℕ) (N : ℕ → Type 0) (b : Bundle) (c : ℕ) : Type 0 where
   pub here : c ≤ length (b .contexts)
   pub job : V₀ ≤ length (b .variables)
-  -- what may be free in a result is new
-  pub past : (x : ℕ) → N x → V₀ < x
+  -- what may be free in a result is mentioned, and its own image
+  pub itself : (x : ℕ) → N x → FixedIn b c x
   -- an image is a result, of its variable's sort
   pub gives : (x r : ℕ) → image b c x ≡ Gives r → Result N b r × (sortOfTerm b r ≡ sortOfVariable b x)
   -- new variables are never replaced
@@ -83,14 +86,14 @@ module _ {V₀ : ℕ} {N : ℕ → Type 0} {b : Bundle} {c : ℕ} (s : Substitut
       go (yes l) = l
       go (no l) = own-gives (sym (s .stays x (omega arith)) ∙ e)
 
-  pub substitutes-kept : {b′ : Bundle} {M : ℕ → Type 0} → Longer b b′ → WellFormed b → ((x : ℕ) → N x → M x) → ((x : ℕ) → M x → V₀ < x)
+  pub substitutes-kept : {b′ : Bundle} {M : ℕ → Type 0} → Longer b b′ → WellFormed b → ((x : ℕ) → N x → M x) → ((x : ℕ) → M x → FixedIn b c x)
       → Substitutes V₀ M b′ c
-  substitutes-kept {b′} longer well wider past =
+  substitutes-kept {b′} longer well wider itself =
       let same = image-kept longer well c (s .here) in
       record {
         here = omega (arith, s .here, sizes longer .contexts);
         job = omega (arith, s .job, sizes longer .variables);
-        past = past;
+        itself = λ x m. fixed-kept longer well c x (s .here) (itself x m);
         gives = λ x r e.
             let was : image b c x ≡ Gives r = sym (ap (λ (f : ℕ → Image). f x) same) ∙ e in
             let h = s .gives x r was in (
@@ -101,14 +104,9 @@ module _ {V₀ : ℕ} {N : ℕ → Type 0} {b : Bundle} {c : ℕ} (s : Substitut
         stays = λ x l. ap (λ (f : ℕ → Image). f x) same ∙ s .stays x l;
       }
 
-  -- a result has only new variables free,
-  pub results-new : (r : ℕ) → Result N b r → (x : ℕ) → Free x (tree b r) → V₀ < x
-  results-new r h x f = s .past x (h .new x f)
-
-  -- so everything that is put into a replacing context is settled in its parent
+  -- everything that is put into a replacing context is settled in its parent
   pub results-settled : (r : ℕ) → Result N b r → Settled b c (tree b r)
-  unfolding imageTree treeOfImage
-  results-settled r h x f = ap (λ (i : Image). treeOfImage b i x) (s .stays x (results-new r h x f))
+  results-settled r h x f = s .itself x (h .new x f) .image
 
 -- ---- a new variable
 
@@ -128,12 +126,33 @@ module _ (b : Bundle) (formed : TablesFormed b) where
 
 -- ---- what two lists give
 
--- a list of the job's variables mentions no new one
-pub new-not-mentioned : (V₀ x : ℕ) (vs ts : List ℕ) → All (Number V₀) vs → V₀ < x → lookup vs ts x ≡ Absent
+-- the lists replace x by x, if at all
+abbrev pub ByItself : Bundle → List ℕ → List ℕ → ℕ → Type 0
+ByItself b vs ts x = (r : ℕ) → lookup vs ts x ≡ Replaced r → (r ≤ length (b .terms)) × (tree b r ≡ var x)
+
+-- they say nothing of a variable that is not in the list
+not-mentioned : (x : ℕ) (vs ts : List ℕ) → (Among x vs → ⊥) → lookup vs ts x ≡ Absent
 unfolding lookup
-new-not-mentioned V₀ x [] ts h l = refl
-new-not-mentioned V₀ x (v ∷ vs) [] h l = refl
-new-not-mentioned V₀ x (v ∷ vs) (t ∷ ts) h l = rw (ne-eqb v x (λ e. omega (arith, h .0 .1))) (new-not-mentioned V₀ x vs ts (h .1) l)
+not-mentioned x [] ts out = refl
+not-mentioned x (v ∷ vs) [] out = refl
+not-mentioned x (v ∷ vs) (t ∷ ts) out = rw (ne-eqb v x (λ e. out (inl (sym e)))) (not-mentioned x vs ts (λ m. out (inr m)))
+
+pub not-listed : (b : Bundle) (x : ℕ) (vs ts : List ℕ) → (Among x vs → ⊥) → ByItself b vs ts x
+not-listed b x vs ts out r e = let none = not-mentioned x vs ts out in let z : _≡_ {A = ℕ} 0 1 = cc in absurd (omega arith)
+
+-- and no variable of the job is new
+pub not-new : (V₀ x : ℕ) (vs : List ℕ) → All (Number V₀) vs → V₀ < x → Among x vs → ⊥
+not-new V₀ x [] h l m = m
+not-new V₀ x (v ∷ vs) h l (inl e) = omega (arith, h .0 .1)
+not-new V₀ x (v ∷ vs) h l (inr m) = not-new V₀ x vs (h .1) l m
+
+-- what a mention and an image give, as a tree
+first-itself : (b : Bundle) (m : Mention) (i : Image) (x : ℕ) → ((r : ℕ) → m ≡ Replaced r → tree b r ≡ var x) → treeOfImage b i x ≡ var x
+    → treeOfImage b (first m i) x ≡ var x
+unfolding first treeOfImage
+first-itself b Fixed i x h e = refl
+first-itself b (Replaced t) i x h e = h t refl
+first-itself b Absent i x h e = e
 
 module _ (b : Bundle) where
   -- variables of the first list have images, if the second is as long
@@ -197,15 +216,18 @@ pub record Opens (V₀ : ℕ) (N : ℕ → Type 0) (o : OpenedContext) (f : ℕ 
   pub images : (x : ℕ) → image (o .bundle) (o .context) x ≡ f x
 
 module _ {V₀ : ℕ} {N : ℕ → Type 0} (b : Bundle) (c : ℕ) (old : Checked b) (s : Substitutes V₀ N b c) where
-  -- a context that fixes a new variable
-  pub fixing-opens : (y : ℕ) → V₀ < y → y ≤ length (b .variables)
-      → Opens V₀ N (fixing b y c) (λ x. cond (eqb y x) Own (image b c x))
-  fixing-opens y lo hi = record {
-    checked = context-checked b r old (fixes y c is (omega arith, hi) (omega (arith, s .here)));
+  -- a context that fixes a variable
+  pub fixing-opens : (y : ℕ) → Number (length (b .variables)) y → Opens V₀ N (fixing b y c) (λ x. cond (eqb y x) Own (image b c x))
+  unfolding imageTree treeOfImage
+  fixing-opens y ny = record {
+    checked = context-checked b r old (fixes y c is ny (omega (arith, s .here)));
     substitutes = record {
       here = omega (arith, length-append (b .contexts) (r ∷ []));
       job = s .job;
-      past = s .past;
+      itself = λ x n. record {
+        mentioned = mentioned-above is refl (kept .itself x n .mentioned);
+        image = ap (λ (i : Image). treeOfImage B i x) (images-in x) ∙ fixed (eqb y x) x (kept .itself x n .image);
+      };
       gives = λ x t e. kept .gives x t (ap (λ (f : ℕ → Image). f x) same ∙ given (eqb y x) (image b c x) t (sym (images x) ∙ e));
       stays = λ x l. images x ∙ own (eqb y x) (image b c x) (s .stays x l);
     };
@@ -225,16 +247,22 @@ module _ {V₀ : ℕ} {N : ℕ → Type 0} (b : Bundle) (c : ℕ) (old : Checked
       is = context-added b r (longer-refl B)
 
       kept : Substitutes V₀ N B c
-      kept = substitutes-kept s (fixing-longer b y c) (old .formed) (λ x n. n) (s .past)
+      kept = substitutes-kept s (fixing-longer b y c) (old .formed) (λ x n. n) (s .itself)
 
       same : image B c ≡ image b c
       same = image-kept (fixing-longer b y c) (old .formed) c (s .here)
 
-      images : (x : ℕ) → image B d x ≡ cond (eqb y x) Own (image b c x)
-      images x =
+      images-in : (x : ℕ) → image B d x ≡ cond (eqb y x) Own (image B c x)
+      images-in x =
           image-fixes B d (ap (λ (k : Context). k .kind) is) (subst (λ (k : Context). k .parent < d) (sym is) (omega (arith, s .here))) x
           ∙ ap (λ (k : Context). cond (eqb (k .a) x) Own (image B (k .parent) x)) is
-          ∙ ap (λ (f : ℕ → Image). cond (eqb y x) Own (f x)) same
+
+      images : (x : ℕ) → image B d x ≡ cond (eqb y x) Own (image b c x)
+      images x = images-in x ∙ ap (λ (f : ℕ → Image). cond (eqb y x) Own (f x)) same
+
+      fixed : (p : Bool) (x : ℕ) → treeOfImage B (image B c x) x ≡ var x → treeOfImage B (cond p Own (image B c x)) x ≡ var x
+      fixed true x e = refl
+      fixed false x e = e
 
       given : (p : Bool) (i : Image) (t : ℕ) → cond p Own i ≡ Gives t → i ≡ Gives t
       given true i t q = own-gives q
@@ -244,11 +272,11 @@ module _ {V₀ : ℕ} {N : ℕ → Type 0} (b : Bundle) (c : ℕ) (old : Checked
       own true i q = refl
       own false i q = q
 
-  -- a context that replaces variables of the job, those of the list vs at v, by results
+  -- a context that replaces variables of the job, those of the list vs at v, by results; what may be free in a result by itself, if at all
   pub replacing-opens : (v : ℕ) (vs ts : List ℕ) → StartsList b v → items b v ≡ vs → All (Number V₀) vs → ListsFormed b vs ts → All (Result N b) ts
-      → Opens V₀ N (replacing b v c ts) (λ x. first (lookup vs ts x) (image b c x))
-  unfolding first
-  replacing-opens v vs ts start li nv lists res = record {
+      → ((x : ℕ) → N x → ByItself b vs ts x) → Opens V₀ N (replacing b v c ts) (λ x. first (lookup vs ts x) (image b c x))
+  unfolding first imageTree
+  replacing-opens v vs ts start li nv lists res by-itself = record {
     checked = context-checked (addList b ts) r (list-checked b ts old)
         (replaces v (listStart b ts) c is (omega (arith, start, sizes longer .links)) (rw vs-here nv-here)
         (list-start b ts listed) (rw ts-here nt) (rw (vs-here, ts-here) lists-here)
@@ -256,10 +284,14 @@ module _ {V₀ : ℕ} {N : ℕ → Type 0} (b : Bundle) (c : ℕ) (old : Checked
     substitutes = record {
       here = omega (arith, length-append (b .contexts) (r ∷ []));
       job = s .job;
-      past = s .past;
+      itself = λ x n. record {
+        mentioned = mentioned-above is refl (kept .itself x n .mentioned);
+        image = ap (λ (i : Image). treeOfImage B i x) (images-in x) ∙ first-itself B (lookup vs ts x) (image B c x) x
+            (λ r e. let (low, is-x) = by-itself x n r e in tree-kept longer formed r low ∙ is-x) (kept .itself x n .image);
+      };
       gives = λ x t e. lookup-gives B (Result N B) vs ts x (image B c x)
           (lists-here .sorts) (all-map (λ t h. result-kept longer formed (λ x n. n) h) ts res) (kept .gives x) t (sym (images-in x) ∙ e);
-      stays = λ x l. images x ∙ ap₂ first (new-not-mentioned V₀ x vs ts nv l) (s .stays x l);
+      stays = λ x l. images x ∙ ap₂ first (not-mentioned x vs ts (not-new V₀ x vs nv l)) (s .stays x l);
     };
     images = images;
   }
@@ -305,7 +337,7 @@ module _ {V₀ : ℕ} {N : ℕ → Type 0} (b : Bundle) (c : ℕ) (old : Checked
           subst (Settled B c) (sym (tree-kept longer formed t (h .is-term .1))) (settled-in-kept longer (old .formed) c (tree b t) (s .here) (results-settled s t h))
 
       kept : Substitutes V₀ N B c
-      kept = substitutes-kept s longer (old .formed) (λ x n. n) (s .past)
+      kept = substitutes-kept s longer (old .formed) (λ x n. n) (s .itself)
 
       images-in : (x : ℕ) → image B d x ≡ first (lookup vs ts x) (image B c x)
       images-in x =

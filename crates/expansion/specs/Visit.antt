@@ -1,15 +1,11 @@
 -- THE VISITS, without limits. Old records stay, new ones are appended: every append in document 01's order.
 use Prim.Native.Nat.{ℕ, zero, suc}
-use mathlib.Core.Bool.{Bool, cond, _&&_}
 use mathlib.Core.List.{List, [], _∷_, _++_}
 use lib.ListN.{length}
-use lib.Dec.{eqb}
 use Rattle.bundle.specs.Bundle.{Bundle, TermRecord, sortOfVariable}
-use Rattle.bundle.specs.Links.{items}
-use Rattle.bundle.specs.Lists.{sameList}
 use Rattle.logic.specs.declared.Image.{Image}
 use Rattle.logic.specs.declared.Image.the-variants.{Own, Gives}
-use Rattle.logic.specs.Terms.{Binder, forAll, exists, binder, numberOf}
+use Rattle.logic.specs.Terms.{Binder, binder, numberOf}
 use Rattle.logic.specs.Contexts.{image}
 use Rattle.logic.specs.Lookup.{seek, sameVariable, sameApplication, sameBinder}
 use Rattle.logic.specs.Longer.{withVariables, withTerms, withContexts, withSteps, addList, listStart, consecutive}
@@ -101,8 +97,16 @@ renaming b x y t c =
     let f : OpenedContext = fixing b y c in
     replacing (addList (f .bundle) (x ∷ [])) (listStart (f .bundle) (x ∷ [])) (f .context) (t ∷ [])
 
-abbrev pub openBinder : Bundle → (x c : ℕ) → OpenedContext
-openBinder b x c = renaming (fresh b x .bundle) x (newVariable b) (fresh b x .term) c
+-- a bundle, a context of it, and the variable that the result binds
+pub record OpenedBinder : Type 0 where
+  pub bundle : Bundle
+  pub context : ℕ
+  pub variable : ℕ
+
+abbrev pub openBinder : Bundle → (x c : ℕ) → OpenedBinder
+openBinder b x c =
+    let o : OpenedContext = renaming (fresh b x .bundle) x (newVariable b) (fresh b x .term) c in
+    record { bundle = o .bundle; context = o .context; variable = newVariable b }
 
 abbrev pub closeBinder : (c t : ℕ) → Binder → (y : ℕ) → Visit → Visit
 closeBinder c t q y v =
@@ -118,7 +122,8 @@ unfoldable mutual
   visit (leaf t x) c b = concluded b 1 c t (imageTerm (image b c x) t) []
   visit (node t f ns) c b = closeApplication c t f (visitAll ns c b)
   visit (scope t q x u) c b =
-      closeBinder c t q (newVariable b) (visit u (openBinder b x c .context) (openBinder b x c .bundle))
+      let o : OpenedBinder = openBinder b x c in
+      closeBinder c t q (o .variable) (visit u (o .context) (o .bundle))
   visit (block t s vs ns u) c b =
       let v : Visits = visitAll ns c b in
       let o : OpenedContext = replacing (v .bundle) s c (v .results) in

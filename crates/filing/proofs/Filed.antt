@@ -1,6 +1,6 @@
 -- Terms filed by their digests, and the walk down the chain of a digest.
---     variable-digest, application-digest, binder-digest     whatever is looked up has the digest that it is looked up by
---     plain-digested, application-digested, formed-digested  digests that stay where the bundle grows: of a term with no list of arguments,
+--     variable-digest, application-digest, binder-digest, let-digest     whatever is looked up has the digest that it is looked up by
+--     plain-digested, application-digested, formed-digested  digests that stay where the bundle grows: of a term with no list,
 --                                                  of an application whose list was just appended, of a term of well-formed tables
 --     filed-none, filed-on, filed-longer, indexed-on         nothing is filed at first; then one term more is; where the bundle grows they stay filed
 --     held-own                                     the terms of the bundle itself are filed
@@ -23,12 +23,12 @@ use Rattle.bundle.proofs.Filed.{mix-small, Sought, sought-lowest}
 use Rattle.bundle.proofs.Filed.{filed-none as none-filed, filed-on as on-filed}
 use Rattle.logic.specs.Terms.{Binder, forAll, exists, binder, numberOf}
 use Rattle.logic.specs.WellFormed.{TablesFormed}
-use Rattle.logic.specs.Lookup.{seek, sameVariable, sameApplication, sameBinder}
+use Rattle.logic.specs.Lookup.{seek, sameVariable, sameApplication, sameBinder, sameLet}
 use Rattle.logic.specs.Longer.{Longer, addList, listStart}
 use Rattle.logic.proofs.Tests.{and-left, and-right, same-list}
 use Rattle.logic.proofs.Longer.{longer-refl, longer-trans, list-added}
-use Rattle.logic.proofs.Kept.{term-kept, arguments-kept}
-use Rattle.filing.specs.Filing.{mixAll, rootDigest, lookupDigest, Digested, FiledTo, Indexed}
+use Rattle.logic.proofs.Kept.{term-kept, arguments-kept, let-lists-kept}
+use Rattle.filing.specs.Filing.{mixAll, rootDigest, letDigest, lookupDigest, Digested, FiledTo, Indexed}
 use Rattle.filing.proofs.Seeks.{seekFrom, seek-start, seek-here, seek-on, seek-end}
 
 all-small : (e : ℕ) (xs : List ℕ) → e < digests → mixAll e xs < digests
@@ -38,60 +38,77 @@ all-small e (x ∷ xs) l = all-small (mix e x) xs (mix-small e x)
 
 digest-small : (b : Bundle) (r : TermRecord) → lookupDigest b r < digests
 unfolding lookupDigest
-digest-small b r = all-small (rootDigest (r .kind) (r .a)) (cond (eqb (r .kind) 2) (items b (r .b)) []) (mix-small (mix 0 (r .kind)) (r .a))
+digest-small b r = either (eqb (r .kind) 5) (mix-small _ (r .c)) (all-small _ _ (mix-small _ (r .a)))
+  where
+    either : (p : Bool) {d e : ℕ} → d < digests → e < digests → cond p d e < digests
+    either true h k = h
+    either false h k = k
 
 -- ---- what is looked up, and its digest
 
 both : (p q : Bool) → (p && q) ≡ true → (p ≡ true) × (q ≡ true)
 both p q e = (and-left p q e, and-right p q e)
 
--- a record whose kind is not 2
-plain : (b : Bundle) (r : TermRecord) → (r .kind ≡ 2 → ⊥) → lookupDigest b r ≡ rootDigest (r .kind) (r .a)
+-- a record with no list
+plain : (b : Bundle) (r : TermRecord) → (r .kind ≡ 2 → ⊥) → (r .kind ≡ 5 → ⊥) → lookupDigest b r ≡ rootDigest (r .kind) (r .a)
 unfolding lookupDigest mixAll
-plain b r h = rw (ne-eqb (r .kind) 2 h)
+plain b r h k = rw (ne-eqb (r .kind) 5 k, ne-eqb (r .kind) 2 h)
 
 pub variable-digest : (b : Bundle) (y : ℕ) (r : TermRecord) → sameVariable y r ≡ true → lookupDigest b r ≡ rootDigest 1 y
 unfolding sameVariable
 variable-digest b y r e =
     let p = both (eqb (r .kind) 1) (eqb (r .a) y) e in
     let k : r .kind ≡ 1 = eqb-true _ _ (p .0) in
-    plain b r (λ z. omega arith) ∙ ap₂ rootDigest k (eqb-true _ _ (p .1))
+    plain b r (λ z. omega arith) (λ z. omega arith) ∙ ap₂ rootDigest k (eqb-true _ _ (p .1))
 
 pub application-digest : (b : Bundle) (f : ℕ) (ts : List ℕ) (r : TermRecord) → sameApplication b f ts r ≡ true → lookupDigest b r ≡ mixAll (rootDigest 2 f) ts
 unfolding sameApplication lookupDigest
 application-digest b f ts r e =
     let p = both (eqb (r .kind) 2) (eqb (r .a) f && sameList (items b (r .b)) ts) e in
     let q = both (eqb (r .a) f) (sameList (items b (r .b)) ts) (p .1) in
-    rw (p .0, eqb-true (r .kind) 2 (p .0), eqb-true (r .a) f (q .0), same-list (items b (r .b)) ts (q .1))
+    rw (eqb-true (r .kind) 2 (p .0), eqb-true (r .a) f (q .0), same-list (items b (r .b)) ts (q .1))
 
-binder-kind : (q : Binder) → numberOf (binder q) ≡ 2 → ⊥
-binder-kind forAll e = omega arith
-binder-kind exists e = omega arith
+binder-kind : (q : Binder) → (3 ≤ numberOf (binder q)) × (numberOf (binder q) ≤ 4)
+binder-kind forAll = (omega arith, omega arith)
+binder-kind exists = (omega arith, omega arith)
 
 pub binder-digest : (b : Bundle) (q : Binder) (y t : ℕ) (r : TermRecord) → sameBinder q y t r ≡ true → lookupDigest b r ≡ rootDigest (numberOf (binder q)) y
 unfolding sameBinder
 binder-digest b q y t r e =
     let p = both (eqb (r .kind) (numberOf (binder q))) (eqb (r .a) y && eqb (r .b) t) e in
     let k : r .kind ≡ numberOf (binder q) = eqb-true _ _ (p .0) in
-    plain b r (λ z. binder-kind q (sym k ∙ z)) ∙ ap₂ rootDigest k (eqb-true _ _ (both (eqb (r .a) y) (eqb (r .b) t) (p .1) .0))
+    plain b r (λ z. omega (arith, k, z, binder-kind q .0)) (λ z. omega (arith, k, z, binder-kind q .1))
+    ∙ ap₂ rootDigest k (eqb-true _ _ (both (eqb (r .a) y) (eqb (r .b) t) (p .1) .0))
+
+pub let-digest : (b : Bundle) (vs ts : List ℕ) (t : ℕ) (r : TermRecord) → sameLet b vs ts t r ≡ true → lookupDigest b r ≡ letDigest vs ts t
+unfolding sameLet lookupDigest
+let-digest b vs ts t r e =
+    let p = both (eqb (r .kind) 5) (sameList (items b (r .a)) vs && (sameList (items b (r .b)) ts && eqb (r .c) t)) e in
+    let q = both (sameList (items b (r .a)) vs) (sameList (items b (r .b)) ts && eqb (r .c) t) (p .1) in
+    let s = both (sameList (items b (r .b)) ts) (eqb (r .c) t) (q .1) in
+    rw (p .0, same-list (items b (r .a)) vs (q .0), same-list (items b (r .b)) ts (s .0), eqb-true (r .c) t (s .1))
 
 -- ---- digests that stay
 
-pub plain-digested : (b : Bundle) (r : TermRecord) → (r .kind ≡ 2 → ⊥) → Digested b r (rootDigest (r .kind) (r .a))
-plain-digested b r h B more = plain B r h
+pub plain-digested : (b : Bundle) (r : TermRecord) → (r .kind ≡ 2 → ⊥) → (r .kind ≡ 5 → ⊥) → Digested b r (rootDigest (r .kind) (r .a))
+plain-digested b r h k B more = plain B r h k
 
 pub application-digested : (b : Bundle) (f : ℕ) (vs : List ℕ) → Digested (addList b vs) (record { kind = 2; a = f; b = listStart b vs; c = 0 }) (mixAll (rootDigest 2 f) vs)
 unfolding lookupDigest
 application-digested b f vs B more = ap (mixAll (rootDigest 2 f)) (list-added b vs more)
 
 module _ {b : Bundle} (formed : TablesFormed b) (B : Bundle) (more : Longer b B) where
-  digest-kept : (t : ℕ) (p : Bool) → eqb (termOf b t .kind) 2 ≡ p → lookupDigest B (termOf b t) ≡ lookupDigest b (termOf b t)
+  digest-kept : (t : ℕ) (p q : Bool) → eqb (termOf b t .kind) 5 ≡ p → eqb (termOf b t .kind) 2 ≡ q
+      → lookupDigest B (termOf b t) ≡ lookupDigest b (termOf b t)
   unfolding lookupDigest
-  digest-kept t true e = rw (e, arguments-kept more formed t (eqb-true _ _ e))
-  digest-kept t false e = rw e
+  digest-kept t true q e f =
+      let k = let-lists-kept more formed t (eqb-true _ _ e) in
+      rw (e, k .0, k .1)
+  digest-kept t false true e f = rw (e, f, arguments-kept more formed t (eqb-true _ _ f))
+  digest-kept t false false e f = rw (e, f)
 
   pub formed-digested : (t : ℕ) → t ≤ length (b .terms) → lookupDigest B (termOf B t) ≡ lookupDigest b (termOf b t)
-  formed-digested t l = ap (lookupDigest B) (term-kept more t l) ∙ digest-kept t (eqb (termOf b t .kind) 2) refl
+  formed-digested t l = ap (lookupDigest B) (term-kept more t l) ∙ digest-kept t (eqb (termOf b t .kind) 5) (eqb (termOf b t .kind) 2) refl refl
 
 -- ---- filing
 

@@ -1,5 +1,5 @@
 -- Terms of the scratch filed by a digest, so that a term is looked up among those of its digest alone. It is made of what terms are looked up by:
--- kind, first field and, of an application, the items of its list.
+-- kind and first field, of an application also the items of its list; of a let the kind, the items of both lists and the body.
 --
 -- One list of numbers, the index, holds it all: at place d, a digest, the newest term with digest d; at place `digests` + t the term before t among
 -- those with its digest; 0 for none.
@@ -24,9 +24,15 @@ mixAll d (x ∷ xs) = mixAll (mix d x) xs
 abbrev pub rootDigest : ℕ → ℕ → ℕ
 rootDigest kind first = mix (mix 0 kind) first
 
+-- the digest of a let: its variables, its bound terms, its body
+abbrev pub letDigest : List ℕ → List ℕ → ℕ → ℕ
+letDigest vs ts t = mix (mixAll (mixAll (mix 0 5) vs) ts) t
+
 -- the digest of a term's record
 unfoldable pub lookupDigest : Bundle → TermRecord → ℕ
-lookupDigest b r = mixAll (rootDigest (r .kind) (r .a)) (cond (eqb (r .kind) 2) (items b (r .b)) [])
+lookupDigest b r =
+    cond (eqb (r .kind) 5) (letDigest (items b (r .a)) (items b (r .b)) (r .c))
+    (mixAll (rootDigest (r .kind) (r .a)) (cond (eqb (r .kind) 2) (items b (r .b)) []))
 
 -- d is the digest of the record in b, and in whatever b grows to
 abbrev pub Digested : Bundle → TermRecord → ℕ → Type 0

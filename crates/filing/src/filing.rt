@@ -11,12 +11,13 @@ ghost use Rattle.bundle.specs.Filed.{digests};
 ghost use Rattle.logic.specs.WellFormed.{TablesFormed};
 ghost use Rattle.scratch.specs.Scratch.{bundleIn, Roomy};
 ghost use Rattle.scratch.specs.Stack.{halves};
-ghost use Rattle.filing.specs.Filing.{mixAll, rootDigest, lookupDigest, Indexed};
+ghost use Rattle.filing.specs.Filing.{mixAll, rootDigest, letDigest, lookupDigest, Indexed};
 use bundle::Bundle;
 use bundle::digests::DIGESTS;
 use bundle::digests::mixed;
 use bundle::lists::first_link;
 use logic::kinds::APPLICATION;
+use logic::kinds::LET;
 use scratch::lists::half;
 use scratch::lists::next_link;
 use scratch::records::link_field;
@@ -61,6 +62,17 @@ fn mixed_items(words: &[u32], c: Bundle, d: usize, list: usize) -> usize
     sum
 }
 
+// The digest of a let, by its lists of variables and of bound terms and its body.
+fn let_digest(words: &[u32], c: Bundle, variables: usize, bound: usize, body: usize) -> usize
+    requires { ⌜ Roomy (now words) c ⌝ }
+    ensures { λ r. ⌜ (r ≡ letDigest (items (bundleIn (now (words .entry)) c) variables) (items (bundleIn (now (words .entry)) c) bound) body) × (r < digests) ⌝ }
+{
+    let d = mixed(0, LET);
+    let e = mixed_items(words, c, d, variables);
+    let f = mixed_items(words, c, e, bound);
+    mixed(f, body)
+}
+
 // The digest of the record of term t.
 fn digest(words: &[u32], c: Bundle, t: usize) -> usize
     requires { ⌜ Roomy (now words) c ⌝ }
@@ -69,6 +81,10 @@ fn digest(words: &[u32], c: Bundle, t: usize) -> usize
     let kind = term_field(words, c, t, 0);
     let first = term_field(words, c, t, 1);
     let second = term_field(words, c, t, 2);
+    let third = term_field(words, c, t, 3);
+    if kind == LET {
+        return let_digest(words, c, first, second, third);
+    }
     let d = root_digest(kind, first);
     if kind == APPLICATION {
         mixed_items(words, c, d, second)

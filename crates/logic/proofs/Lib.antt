@@ -18,6 +18,7 @@
 --     LetSide          THE THEOREM: LET's printed side holds of every instance in a well-formed bundle
 --     Values           laws of values: domains, quantifiers, valuations; a value depends on the free variables only
 --     Images           equations of images, from what a context's record says
+--     Found            images from what the entries of a context say; THE LAW: they say nothing exactly of variables that none mentions
 --     Sound            THE THEOREMS: where every step holds, both sides of a step in context 0 have equal values in every world
 --     CounterExample   document 01's counter-example: with BIND's printed condition alone a step leads from false to true
 --     Entries          the kind of a context as code tests it
@@ -51,6 +52,7 @@ pub mod Instances
 pub mod LetSide
 pub mod Values
 pub mod Images
+pub mod Found
 pub mod Sound
 pub mod CounterExample
 pub mod Entries

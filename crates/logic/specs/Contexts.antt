@@ -1,4 +1,4 @@
--- Contexts: images of variables, moved variables, settled terms (the three words are document 01's), and checks 10 and 11.
+-- Contexts: images of variables, mentioned variables, moved variables, settled terms (image, moved, settled are document 01's words), and checks 10 and 11.
 use Prim.Native.Nat.{ℕ}
 use mathlib.Core.Path.{_≡_}
 use mathlib.Core.Bool.{Bool, true, false, cond, not, _&&_, _||_}
@@ -13,6 +13,7 @@ use Rattle.logic.specs.declared.Mention.{Mention}
 use Rattle.logic.specs.declared.Mention.the-variants.{Fixed, Replaced, Absent}
 use Rattle.logic.specs.declared.Image.{Image}
 use Rattle.logic.specs.declared.Image.the-variants.{Own, Gives}
+use Rattle.logic.specs.Lists.{Among}
 use Rattle.logic.specs.Tests.{passed, upTo, Test, test, firstFailing, firstFault}
 use Rattle.logic.specs.Table.{table}
 use Rattle.logic.specs.Terms.{Term, var, tree}
@@ -64,6 +65,47 @@ ownImage x = Own
 unfoldable pub image : Bundle → ℕ → ℕ → Image
 unfolding imageBy table
 image b c = table (imageBy b) ownImage (b .contexts) c
+
+-- ---- mentioned variables
+
+-- what an entry says of x, or else what those above it say
+unfoldable pub orAbove : Mention → Mention → Mention
+orAbove Fixed m = Fixed
+orAbove (Replaced t) m = Replaced t
+orAbove Absent m = m
+
+-- the same by kind; where there is no entry the walk has come to the empty context, and x is not mentioned
+unfoldable pub foundAs : Bundle → Entry → Context → ℕ → Mention → Mention
+unfolding mentionAs orAbove
+foundAs b fixing r x m = orAbove (mentionAs b fixing r x) m
+foundAs b replacing r x m = orAbove (mentionAs b replacing r x) m
+foundAs b noEntry r x m = Absent
+
+unfoldable pub foundBy : Bundle → (ℕ → ℕ → Mention) → Context → ℕ → Mention
+unfolding foundAs entryOf
+foundBy b f r x = foundAs b (entryOf (r .kind)) r x (f (r .parent) x)
+
+abbrev pub notFound : ℕ → Mention
+notFound x = Absent
+
+-- What the entries of context c say of x: the first that mentions it on the way to the empty context. An image follows from it, but of a
+-- variable that is its own image it also tells whether it is fixed or not mentioned.
+unfoldable pub found : Bundle → ℕ → ℕ → Mention
+unfolding foundBy table
+found b c = table (foundBy b) notFound (b .contexts) c
+
+unfoldable pub asImage : Mention → Image
+asImage Fixed = Own
+asImage (Replaced t) = Gives t
+asImage Absent = Own
+
+-- the same in propositions: an entry of c fixes x or replaces it, or one on the way to the empty context does
+pub data Mentioned (b : Bundle) : ℕ → ℕ → Type 0 where
+  by-fixing : {c x : ℕ} → contextOf b c .kind ≡ 1 → contextOf b c .a ≡ x → Mentioned b c x
+  by-replacing : {c x : ℕ} → contextOf b c .kind ≡ 2 → Among x (items b (contextOf b c .a)) → Mentioned b c x
+  by-parent : {c x : ℕ} → Mentioned b (contextOf b c .parent) x → Mentioned b c x
+
+-- ---- images as trees
 
 -- the image as a tree
 unfoldable pub treeOfImage : Bundle → Image → ℕ → Term

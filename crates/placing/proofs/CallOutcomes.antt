@@ -4,13 +4,12 @@
 --     step-on, context-on, term-on               a step, a context, a term after its list
 --     step-full, context-full, term-full         the same where the list was full
 --     found-is                                   a term that the lookup found
---     concluded-on, renaming-on                  a step, the contexts of a quantifier, after a term
---     concluded-full, renaming-full              the same where the term was full
+--     concluded-on, concluded-full               a step after a term; the same where the term was full
 --     leaf-own, leaf-gives                       the visit to a variable, by its image
 --     fresh-on, variable-full                    the term of a new variable; where there was no room for the variable
 --     fixed-full, listed-full, opened-on         the contexts of a quantifier, by its calls
+--     binder-full, binder-over, binder-on        what a quantifier opens: no room for its term, none for its contexts, room
 --     binder-of                                  the binder of a kind
---     renaming-longer                            the contexts of a quantifier only append
 use mathlib.Core.Path.{_≡_, refl, sym, ap, subst, _∙_}
 use mathlib.Core.List.{List, [], _∷_}
 use Prim.Native.Nat.{ℕ, zero, suc, _≤_}
@@ -23,19 +22,20 @@ use Rattle.logic.specs.declared.Image.the-variants.{Own, Gives}
 use Rattle.logic.specs.Terms.{Binder, forAll, exists, binder, numberOf}
 use Rattle.logic.specs.Contexts.{image}
 use Rattle.logic.specs.Lookup.{seek, sameVariable, sameApplication, sameBinder}
-use Rattle.logic.specs.Longer.{Longer, withVariables, withTerms, withContexts, withSteps, addList, listStart}
-use Rattle.logic.proofs.Longer.{longer-trans, list-longer, terms-longer, contexts-longer, steps-longer}
+use Rattle.logic.specs.Longer.{withVariables, withTerms, withContexts, withSteps, addList, listStart}
+use Rattle.logic.proofs.Longer.{terms-longer, contexts-longer, steps-longer}
 use Rattle.scratch.specs.Scratch.{bundleIn, Ready}
 use Rattle.scratch.proofs.ScratchFields.{sized-as}
 use Rattle.filing.proofs.Seeks.{seek-le}
 use Rattle.scratch.proofs.Pushed.{add-none}
 use Rattle.placing.specs.declared.Visited.{Visited}
 use Rattle.placing.specs.declared.Recorded.{Recorded}
+use Rattle.placing.specs.declared.Opened.{Opened}
 use Rattle.expansion.specs.Nodes.{leaf}
-use Rattle.expansion.specs.Visit.{Visit, placed, placeVariable, placeApplication, placeBinder, concluded, replacing, fixing, newVariable, fresh, renaming, visit}
+use Rattle.expansion.specs.Visit.{Visit, placed, placeVariable, placeApplication, placeBinder, concluded, replacing, fixing, newVariable, fresh, renaming, openBinder, visit}
 use Rattle.expansion.specs.Visit as unlimited
-use Rattle.placing.specs.Outcomes.{TooMuch, VisitOutcome, OpenOutcome, PlaceOutcome, AddOutcome}
-use Rattle.expansion.proofs.Grown.{variable-longer, replacing-longer, concluded-longer}
+use Rattle.placing.specs.Outcomes.{TooMuch, VisitOutcome, OpenOutcome, BinderOutcome, PlaceOutcome, AddOutcome}
+use Rattle.expansion.proofs.Grown.{variable-longer, concluded-longer, listed-longer, fixed-longer, renaming-longer}
 use Rattle.placing.proofs.ScratchOutcomes.{add-is, place-is, add-done, place-done, open-done, add-full, place-full, open-full, variable-over, longer-over, start-word, placed-word}
 
 -- ---- one record appended
@@ -52,19 +52,6 @@ opened b r = record { bundle = withContexts b (r ∷ []); context = suc (length 
 
 abbrev pub termed : Bundle → TermRecord → unlimited.PlacedTerm
 termed b r = record { bundle = withTerms b (r ∷ []); term = suc (length (b .terms)) }
-
--- ---- the contexts of a quantifier only append
-
-listed-longer : (b : Bundle) (x y t v : ℕ) → Longer (addList (fixing b y v .bundle) (x ∷ [])) (renaming b x y t v .bundle)
-listed-longer b x y t v =
-    let f : unlimited.OpenedContext = fixing b y v in
-    replacing-longer (addList (f .bundle) (x ∷ [])) (listStart (f .bundle) (x ∷ [])) (f .context) (t ∷ [])
-
-fixed-longer : (b : Bundle) (x y t v : ℕ) → Longer (fixing b y v .bundle) (renaming b x y t v .bundle)
-fixed-longer b x y t v = longer-trans (list-longer (fixing b y v .bundle) (x ∷ [])) (listed-longer b x y t v)
-
-pub renaming-longer : (b : Bundle) (x y t v : ℕ) → Longer b (renaming b x y t v .bundle)
-renaming-longer b x y t v = longer-trans (contexts-longer b _) (fixed-longer b x y t v)
 
 -- ---- after a list of values
 
@@ -128,20 +115,9 @@ module _ {p : unlimited.PlacedTerm} {w : List ℕ} {a : Recorded} {c : Counts} {
       subst (λ (n : ℕ). VisitOutcome (concluded (p .bundle) u x l n vs) w′ r) (k .1)
       (subst (λ (B : Bundle). VisitOutcome (concluded B u x l t vs) w′ r) (k .0 .bundle) h)
 
-  pub renaming-on : {r : Recorded} (x y z v : ℕ) → y ≡ z → OpenOutcome (renaming (bundleIn w c) x y t v) w′ r
-      → OpenOutcome (renaming (p .bundle) x z (p .term) v) w′ r
-  renaming-on {r} x y z v d h =
-      let k = place-done o e in
-      subst (λ (i : ℕ). OpenOutcome (renaming (p .bundle) x i (p .term) v) w′ r) d
-      (subst (λ (i : ℕ). OpenOutcome (renaming (p .bundle) x y i v) w′ r) (k .1)
-      (subst (λ (B : Bundle). OpenOutcome (renaming B x y t v) w′ r) (k .0 .bundle) h))
-
 module _ {p : unlimited.PlacedTerm} {w : List ℕ} {a : Recorded} (o : PlaceOutcome p w a) (e : a ≡ Recorded.Full) {w′ : List ℕ} where
   pub concluded-full : (u x l t : ℕ) (vs : List ℕ) → VisitOutcome (concluded (p .bundle) u x l t vs) w′ Visited.Full
   concluded-full u x l t vs = VisitOutcome.full (longer-over (concluded-longer (p .bundle) u x l t vs) (place-full o e)) refl
-
-  pub renaming-full : (x y t v : ℕ) → OpenOutcome (renaming (p .bundle) x y t v) w′ Recorded.Full
-  renaming-full x y t v = OpenOutcome.full (longer-over (renaming-longer (p .bundle) x y t v) (place-full o e)) refl
 
 -- ---- Variable
 
@@ -202,6 +178,30 @@ module _ (b : Bundle) (y v : ℕ) {w : List ℕ} {a : Recorded} (o : OpenOutcome
           (subst (λ (B : Bundle). OpenOutcome (replacing (addList B (x ∷ [])) (listStart B (x ∷ [])) i (t ∷ [])) w′ r) (k .0 .bundle)
           (subst (λ (j : ℕ). OpenOutcome (replacing (addList (bundleIn w c) (x ∷ [])) j i (t ∷ [])) w′ r) (l .1)
           (subst (λ (B : Bundle). OpenOutcome (replacing B s i (t ∷ [])) w′ r) (l .0 .bundle) q)))
+
+-- ---- what a quantifier opens
+
+-- w, c and t are what the term of y left
+module _ (b : Bundle) (x v : ℕ) {w : List ℕ} {a : Recorded} (o : PlaceOutcome (fresh b x) w a) {w′ : List ℕ} where
+  pub binder-full : a ≡ Recorded.Full → BinderOutcome (openBinder b x v) w′ Opened.Full
+  binder-full e = BinderOutcome.full (longer-over (renaming-longer (fresh b x .bundle) x (newVariable b) (fresh b x .term) v) (place-full o e)) refl
+
+  module _ {c : Counts} {t y : ℕ} (e : a ≡ Recorded.Done c t) (new : y ≡ newVariable b) {g : Recorded} (q : OpenOutcome (renaming (bundleIn w c) x y t v) w′ g) where
+    renamed : OpenOutcome (renaming (fresh b x .bundle) x (newVariable b) (fresh b x .term) v) w′ g
+    renamed =
+        let k = place-done o e in
+        subst (λ (r : unlimited.OpenedContext). OpenOutcome r w′ g) (λ i. renaming (k .0 .bundle i) x (new i) (k .1 i) v) q
+
+    pub binder-over : g ≡ Recorded.Full → BinderOutcome (openBinder b x v) w′ Opened.Full
+    binder-over z = BinderOutcome.full (open-full renamed z) refl
+
+    pub binder-on : {d : Counts} {n : ℕ} → g ≡ Recorded.Done d n → BinderOutcome (openBinder b x v) w′ (Opened.Done d n y)
+    binder-on z = go renamed z
+      where
+        go : {d : Counts} {n : ℕ} → OpenOutcome (renaming (fresh b x .bundle) x (newVariable b) (fresh b x .term) v) w′ g → g ≡ Recorded.Done d n
+            → BinderOutcome (openBinder b x v) w′ (Opened.Done d n y)
+        go (OpenOutcome.done h k) z = BinderOutcome.done h (cc)
+        go (OpenOutcome.full h k) z = let z : _≡_ {A = ℕ} 0 1 = cc in absurd (omega arith)
 
 -- ---- terms placed are words of 32 bits
 

@@ -1,6 +1,6 @@
 -- The index after each opener and closer: where it was done, the index holds all terms again.
 --     place-holds, list-holds                    nothing was appended
---     full-visit, full-record, full-list     the call was full: nothing is said
+--     full-visit, full-record, full-binder, full-list     the call was full: nothing is said
 --     list-indexed, variable-indexed, step-indexed, leaf-indexed, let-indexed, renaming-indexed     no term was appended
 --     plain-filed, application-filed, term-indexed     a term was: its digest stays, and it was filed
 use mathlib.Core.Path.{_≡_, refl, sym, ap, _∙_, subst}
@@ -19,13 +19,12 @@ use Rattle.filing.proofs.Filed.{plain-digested, application-digested, filed-on,
 use Rattle.placing.specs.declared.Visited.{Visited}
 use Rattle.placing.specs.declared.Listed.{Listed}
 use Rattle.placing.specs.declared.Recorded.{Recorded}
+use Rattle.placing.specs.declared.Opened.{Opened}
 use Rattle.expansion.specs.Nodes.{leaf}
-use Rattle.expansion.specs.Visit as unlimited
 use Rattle.expansion.specs.Visit.{concluded, replacing, renaming, visit}
-use Rattle.placing.specs.Outcomes.{VisitOutcome, OpenOutcome, AddOutcome, VisitIndexed, RecordIndexed, ListIndexed}
-use Rattle.expansion.proofs.Grown.{concluded-longer, replacing-longer, visit-longer}
+use Rattle.placing.specs.Outcomes.{VisitOutcome, OpenOutcome, AddOutcome, VisitIndexed, RecordIndexed, BinderIndexed, ListIndexed}
+use Rattle.expansion.proofs.Grown.{concluded-longer, replacing-longer, renaming-longer, visit-longer}
 use Rattle.placing.proofs.ScratchOutcomes.{add-done}
-use Rattle.placing.proofs.CallOutcomes.{renaming-longer}
 use Rattle.placing.proofs.OutcomeFacts.{visit-done, open-done}
 
 -- ---- nothing was appended
@@ -47,6 +46,9 @@ module _ {w ix : List ℕ} where
 
   pub full-record : RecordIndexed w ix Recorded.Full
   full-record = record { held = λ c n e. let z : _≡_ {A = ℕ} 0 1 = cc in absurd (omega arith) }
+
+  pub full-binder : BinderIndexed w ix Opened.Full
+  full-binder = record { held = λ c n y e. let z : _≡_ {A = ℕ} 0 1 = cc in absurd (omega arith) }
 
   pub full-list : ListIndexed w ix Listed.Full
   full-list = record { held = λ c h e. let z : _≡_ {A = ℕ} 0 1 = cc in absurd (omega arith) }
@@ -74,13 +76,16 @@ module _ {b : Bundle} {ix : List ℕ} (indexed : Indexed b ix) where
     pub let-indexed : {r : Recorded} (x p : ℕ) (vs : List ℕ) → OpenOutcome (replacing b x p vs) w r → RecordIndexed w ix r
     let-indexed x p vs o = record { held = λ c n e. still w c (replacing-longer b x p vs) refl (open-done o e .now .bundle) }
 
-    pub renaming-indexed : {r : Recorded} (x y t v : ℕ) → OpenOutcome (renaming b x y t v) w r → RecordIndexed w ix r
-    renaming-indexed x y t v o = record { held = λ c n e. still w c (renaming-longer b x y t v) refl (open-done o e .now .bundle) }
+    pub renaming-indexed : {g : Recorded} {d : Counts} {m : ℕ} (x y t v : ℕ) → OpenOutcome (renaming b x y t v) w g → g ≡ Recorded.Done d m
+        → BinderIndexed w ix (Opened.Done d m y)
+    renaming-indexed {d = d} x y t v o k = record {
+      held = λ c n z e. same-counts w (cc) (still w d (renaming-longer b x y t v) refl (open-done o k .now .bundle));
+    }
 
 -- ---- a term was appended, and filed
 
-pub plain-filed : (b : Bundle) (k f x d : ℕ) → (k ≡ 2 → ⊥) → d ≡ rootDigest k f → Digested b (record { kind = k; a = f; b = x; c = 0 }) d
-plain-filed b k f x d h e B more = plain-digested b (record { kind = k; a = f; b = x; c = 0 }) h B more ∙ sym e
+pub plain-filed : (b : Bundle) (k f x d : ℕ) → (k ≡ 2 → ⊥) → (k ≡ 5 → ⊥) → d ≡ rootDigest k f → Digested b (record { kind = k; a = f; b = x; c = 0 }) d
+plain-filed b k f x d h g e B more = plain-digested b (record { kind = k; a = f; b = x; c = 0 }) h g B more ∙ sym e
 
 -- w and c are those after the list was appended, and s is where it starts
 pub application-filed : {b : Bundle} {vs w : List ℕ} {a : Recorded} {c : Counts} {s : ℕ} → AddOutcome b vs w a → a ≡ Recorded.Done c s

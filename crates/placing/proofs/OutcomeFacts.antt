@@ -1,7 +1,7 @@
 -- What an outcome tells.
 --     StandFor                              words and counts that stand for a bundle
---     visit-done, open-done, list-done       an outcome that is done
---     visit-full, open-full, list-full       an outcome that is full
+--     visit-done, open-done, binder-done, list-done     an outcome that is done
+--     visit-full, open-full, binder-full, list-full     an outcome that is full
 --     more-full                              what is too much for a bundle is too much for a longer one
 --     on, contexts-on, steps-on              words and counts that stand for a longer bundle
 --     Words, result-word                     where the words are of 32 bits, so is the result of a visit
@@ -24,10 +24,11 @@ use Rattle.scratch.proofs.ScratchFields.{sized-in, sized-as}
 use Rattle.placing.specs.declared.Visited.{Visited}
 use Rattle.placing.specs.declared.Listed.{Listed}
 use Rattle.placing.specs.declared.Recorded.{Recorded}
+use Rattle.placing.specs.declared.Opened.{Opened}
 use Rattle.expansion.specs.Visit as unlimited
 use Rattle.expansion.specs.Visit.{Visit, Visits}
 use Rattle.expansion.specs.File.{countsIn}
-use Rattle.placing.specs.Outcomes.{StandsFor, TooMuch, VisitOutcome, OpenOutcome, ListOutcome}
+use Rattle.placing.specs.Outcomes.{StandsFor, TooMuch, VisitOutcome, OpenOutcome, BinderOutcome, ListOutcome}
 use Rattle.expansion.proofs.SmallNumbers.{all-at, all-tab}
 use Rattle.placing.proofs.StandingKept.{Ends}
 
@@ -70,6 +71,20 @@ open-done (OpenOutcome.full f e) t = let z : _≡_ {A = ℕ} 0 1 = cc in absurd 
 pub open-full : {o : unlimited.OpenedContext} {w : List ℕ} {r : Recorded} → OpenOutcome o w r → r ≡ Recorded.Full → TooMuch (o .bundle)
 open-full (OpenOutcome.done h e) t = let z : _≡_ {A = ℕ} 0 1 = cc in absurd (omega arith)
 open-full (OpenOutcome.full f e) t = f
+
+pub record BinderDone (o : unlimited.OpenedBinder) (w : List ℕ) (n : Counts) (Γ y : ℕ) : Type 0 where
+  pub now : StandFor (o .bundle) w n
+  pub context : Γ ≡ o .context
+  pub variable : y ≡ o .variable
+
+pub binder-done : {o : unlimited.OpenedBinder} {w : List ℕ} {r : Opened} {n : Counts} {Γ y : ℕ} → BinderOutcome o w r → r ≡ Opened.Done n Γ y
+    → BinderDone o w n Γ y
+binder-done (BinderOutcome.done h e) t = record { now = stand-for h (cc); context = cc; variable = cc }
+binder-done (BinderOutcome.full f e) t = let z : _≡_ {A = ℕ} 0 1 = cc in absurd (omega arith)
+
+pub binder-full : {o : unlimited.OpenedBinder} {w : List ℕ} {r : Opened} → BinderOutcome o w r → r ≡ Opened.Full → TooMuch (o .bundle)
+binder-full (BinderOutcome.done h e) t = let z : _≡_ {A = ℕ} 0 1 = cc in absurd (omega arith)
+binder-full (BinderOutcome.full f e) t = f
 
 pub record ListDone (v : Visits) (h : ℕ) (w s : List ℕ) (n : Counts) (top : ℕ) : Type 0 where
   pub now : StandFor (v .bundle) w n

@@ -80,7 +80,7 @@ module _ (b : Bundle) (P : Visit → Type 0) (end : (base : Bundle) (k c l r : �
       let v : Visit = visit u (o .context) (o .bundle) in
       end _ 4 c t _ (v .step ∷ [])
       (longer-trans (open-longer b x c)
-      (longer-trans (visit-longer u (o .context) (o .bundle)) (binder-longer (v .bundle) q (newVariable b) (v .result))))
+      (longer-trans (visit-longer u (o .context) (o .bundle)) (binder-longer (v .bundle) q (o .variable) (v .result))))
   ended-by (block t s vs ns u) c =
       let v : Visits = visitAll ns c b in
       let o = replacing (v .bundle) s c (v .results) in
@@ -140,7 +140,7 @@ module _ (t c : ℕ) (b : Bundle) where
   scope-longer q x u =
       let o = openBinder b x c in
       let v : Visit = visit u (o .context) (o .bundle) in
-      longer-trans (binder-longer (v .bundle) q (newVariable b) (v .result)) (concluded-longer _ 4 c t _ (v .step ∷ []))
+      longer-trans (binder-longer (v .bundle) q (o .variable) (v .result)) (concluded-longer _ 4 c t _ (v .step ∷ []))
 
   pub node-longer : (f : ℕ) (ns : Nodes) → Longer (visitAll ns c b .bundle) (visit (node t f ns) c b .bundle)
   unfolding visit

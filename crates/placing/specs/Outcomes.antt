@@ -18,6 +18,7 @@ use Rattle.logic.specs.Longer.{addList, listStart}
 use Rattle.placing.specs.declared.Visited.{Visited}
 use Rattle.placing.specs.declared.Listed.{Listed}
 use Rattle.placing.specs.declared.Recorded.{Recorded}
+use Rattle.placing.specs.declared.Opened.{Opened}
 use Rattle.expansion.specs.Nodes.{Node, Nodes, leaf, node, scope, block, nil, cons}
 use Rattle.expansion.specs.Visit.{Visit, Visits, visit, visitAll}
 use Rattle.expansion.specs.Visit as unlimited
@@ -42,6 +43,10 @@ pub data OpenOutcome (o : unlimited.OpenedContext) (w : List ℕ) (r : Recorded)
   done : StandsFor w (o .bundle) → r ≡ Recorded.Done (countsIn (o .bundle)) (o .context) → OpenOutcome o w r
   full : TooMuch (o .bundle) → r ≡ Recorded.Full → OpenOutcome o w r
 
+pub data BinderOutcome (o : unlimited.OpenedBinder) (w : List ℕ) (r : Opened) : Type 0 where
+  done : StandsFor w (o .bundle) → r ≡ Opened.Done (countsIn (o .bundle)) (o .context) (o .variable) → BinderOutcome o w r
+  full : TooMuch (o .bundle) → r ≡ Opened.Full → BinderOutcome o w r
+
 pub data PlaceOutcome (p : unlimited.PlacedTerm) (w : List ℕ) (r : Recorded) : Type 0 where
   done : StandsFor w (p .bundle) → r ≡ Recorded.Done (countsIn (p .bundle)) (p .term) → PlaceOutcome p w r
   full : TooMuch (p .bundle) → r ≡ Recorded.Full → PlaceOutcome p w r
@@ -63,6 +68,9 @@ pub record VisitIndexed (w ix : List ℕ) (r : Visited) : Type 0 where
 
 pub record RecordIndexed (w ix : List ℕ) (r : Recorded) : Type 0 where
   pub held : (c : Counts) (n : ℕ) → r ≡ Recorded.Done c n → Indexed (bundleIn w c) ix
+
+pub record BinderIndexed (w ix : List ℕ) (r : Opened) : Type 0 where
+  pub held : (c : Counts) (n y : ℕ) → r ≡ Opened.Done c n y → Indexed (bundleIn w c) ix
 
 pub record ListIndexed (w ix : List ℕ) (r : Listed) : Type 0 where
   pub held : (c : Counts) (h : ℕ) → r ≡ Listed.Done c h → Indexed (bundleIn w c) ix

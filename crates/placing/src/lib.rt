@@ -55,6 +55,17 @@ pub enum Recorded {
     Full,
 }
 
+// What the opener of a quantifier leaves: the counts, the context of the body and the variable that the result binds; or that a section would pass
+// its limit.
+pub enum Opened {
+    Done {
+        counts: Bundle,
+        context: usize,
+        variable: usize,
+    },
+    Full,
+}
+
 // ---- One list or one record appended, where its section has room.
 
 // The results, or the steps, of the pairs from `from` to before `to`, as a list.

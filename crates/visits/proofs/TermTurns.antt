@@ -2,7 +2,7 @@
 --     Reads                                         the term's record, as the code reads it
 --     quantified, not-quantified                    the code's test for a quantifier
 --     term-words, term-variable                     a variable
---     open-words, binder-closed, binder-asks, ..    a quantifier
+--     scope-closed, scope-asks, scope-full, ..      a quantifier
 --     args-asks, args-full, args-ready              the list of arguments or of bound terms
 --     apply-done                                    an application
 --     let-closed, body-asks, body-full, ..          a let
@@ -26,14 +26,15 @@ use Rattle.scratch.proofs.ScratchFields.{sized-in}
 use Rattle.placing.specs.declared.Visited.{Visited}
 use Rattle.placing.specs.declared.Listed.{Listed}
 use Rattle.placing.specs.declared.Recorded.{Recorded}
+use Rattle.placing.specs.declared.Opened.{Opened}
 use Rattle.expansion.specs.Nodes.{Node, Nodes, leaf, node, scope, block}
 use Rattle.expansion.specs.Visit as unlimited
-use Rattle.expansion.specs.Visit.{Visit, visit, visitAll, concluded, closeApplication, closeBinder, openBinder, replacing, newVariable}
-use Rattle.placing.specs.Outcomes.{VisitOutcome, OpenOutcome, Stands, StandAll, TermAsks, TermGives, ListAsks, ListGives}
+use Rattle.expansion.specs.Visit.{Visit, visit, visitAll, concluded, closeApplication, closeBinder, openBinder, replacing}
+use Rattle.placing.specs.Outcomes.{VisitOutcome, OpenOutcome, BinderOutcome, Stands, StandAll, TermAsks, TermGives, ListAsks, ListGives}
 use Rattle.expansion.proofs.Grown.{open-longer, visit-longer, visitAll-longer}
 use Rattle.placing.proofs.StandingKept.{stands-on, visit-ends, visitAll-steps, replacing-context, open-context, opening, opening-longer, scope-longer, node-longer, body-longer, block-longer}
 use Rattle.visits.proofs.Pairs.{Pair, below-same, below-trans, below-set, halves-then}
-use Rattle.placing.proofs.OutcomeFacts.{visit-done, visit-full, OpenDone, open-done, open-full, ListDone, list-done, list-full, more-full, on, steps-on, steps-are, contexts-are, Words, result-word}
+use Rattle.placing.proofs.OutcomeFacts.{visit-done, visit-full, OpenDone, open-done, open-full, BinderDone, binder-done, binder-full, ListDone, list-done, list-full, more-full, on, steps-on, steps-are, contexts-are, Words, result-word}
 
 -- ---- the term's record, as the code reads it
 
@@ -114,13 +115,12 @@ stands-number b t (scope n q x u) k = k .1
 stands-number b t (block n s vs ns u) k = k .1
 
 module _ {w s : List ℕ} {n : Counts} {Γ h t : ℕ} (asks : TermAsks w s n Γ h t) where
-  -- numbers that go into a step, or name a new variable
-  pub term-words : (Γ ≤ 4294967295) × (t ≤ 4294967295) × (n .variables + 1 ≤ 4294967295)
+  -- numbers that go into a step
+  pub term-words : (Γ ≤ 4294967295) × (t ≤ 4294967295)
   term-words =
       let k = asks .ready .room .within in (
         omega (arith, asks .context, k .contexts),
         omega (arith, stands-number (bundleIn w n) t (asks .standing) (asks .stands) .1, sized-in w n .terms, k .terms),
-        omega (arith, k .variables),
       )
 
   module _ {kind first second third : ℕ} (reads : Reads (bundleIn w n) t kind first second third) where
@@ -136,33 +136,35 @@ module _ {w s : List ℕ} {n : Counts} {Γ h t : ℕ} (asks : TermAsks w s n Γ 
 
     -- ---- a quantifier
 
-    module _ (quantifies : (3 ≤ kind) × (kind ≤ 4)) {w1 : List ℕ} {r : Recorded} (long : length w1 ≡ length w) (opened : OpenOutcome (openBinder (bundleIn w n) first Γ) w1 r) where
+    module _ (quantifies : (3 ≤ kind) × (kind ≤ 4)) {w1 : List ℕ} {r : Opened} (long : length w1 ≡ length w)
+        (opened : BinderOutcome (openBinder (bundleIn w n) first Γ) w1 r) where
       -- there was no room for its contexts
-      pub binder-closed : r ≡ Recorded.Full → TermGives w s n Γ h t w1 s Visited.Full
-      binder-closed e = record {
+      pub scope-closed : r ≡ Opened.Full → TermGives w s n Γ h t w1 s Visited.Full
+      scope-closed e = record {
         long = long;
         kept = below-same s h;
         outcome = binder-only reads (λ τ. VisitOutcome (visit τ Γ (bundleIn w n)) w1 Visited.Full) quantifies (λ q u i low k.
-            VisitOutcome.full (more-full (longer-trans (visit-longer u _ _) (scope-longer t Γ (bundleIn w n) q first u)) (open-full opened e)) refl);
+            VisitOutcome.full (more-full (longer-trans (visit-longer u _ _) (scope-longer t Γ (bundleIn w n) q first u)) (binder-full opened e)) refl);
       }
 
-      module _ {inside : Counts} {inner : ℕ} (told : r ≡ Recorded.Done inside inner) where
-        binder-open : OpenDone (openBinder (bundleIn w n) first Γ) w1 inside inner
-        binder-open = open-done opened told
+      -- y is the variable that the result binds
+      module _ {inside : Counts} {inner y : ℕ} (told : r ≡ Opened.Done inside inner y) where
+        scope-open : BinderDone (openBinder (bundleIn w n) first Γ) w1 inside inner y
+        scope-open = binder-done opened told
 
         body-stands : (u : Node) → Stands (bundleIn w n) second u → Stands (bundleIn w1 inside) second u
-        body-stands u k = stands-on (on (open-longer (bundleIn w n) first Γ) (binder-open .now)) u second k
+        body-stands u k = stands-on (on (open-longer (bundleIn w n) first Γ) (scope-open .now)) u second k
 
         -- the call for the body
-        pub binder-asks : TermAsks w1 s inside inner h second × (second < t)
-        binder-asks = binder-only reads (λ τ. TermAsks w1 s inside inner h second × (second < t)) quantifies (λ q u i low k. (
+        pub scope-asks : TermAsks w1 s inside inner h second × (second < t)
+        scope-asks = binder-only reads (λ τ. TermAsks w1 s inside inner h second × (second < t)) quantifies (λ q u i low k. (
           record {
-            ready = binder-open .now .ready;
+            ready = scope-open .now .ready;
             pending = record {
               places = asks .pending .places;
-              height = omega (arith, asks .pending .height, sized-in w n .steps, steps-on (open-longer (bundleIn w n) first Γ) (binder-open .now));
+              height = omega (arith, asks .pending .height, sized-in w n .steps, steps-on (open-longer (bundleIn w n) first Γ) (scope-open .now));
             };
-            context = omega (arith, binder-open .context, contexts-are (binder-open .now), open-context (bundleIn w n) first Γ);
+            context = omega (arith, scope-open .context, contexts-are (scope-open .now), open-context (bundleIn w n) first Γ);
             standing = u;
             stands = body-stands u k;
           },
@@ -170,45 +172,45 @@ module _ {w s : List ℕ} {n : Counts} {Γ h t : ℕ} (asks : TermAsks w s n Γ 
         )) (asks .standing) (asks .stands)
 
         module _ {w2 s2 : List ℕ} {r2 : Visited} (gave : TermGives w1 s inside inner h second w2 s2 r2) where
-          binder-body : (u : Node) → Stands (bundleIn w n) second u
+          scope-body : (u : Node) → Stands (bundleIn w n) second u
               → VisitOutcome (visit u (openBinder (bundleIn w n) first Γ .context) (openBinder (bundleIn w n) first Γ .bundle)) w2 r2
-          binder-body u k =
-              subst (λ (v : Visit). VisitOutcome v w2 r2) (λ i. visit u (binder-open .context i) (binder-open .now .bundle i)) (gave .outcome u (body-stands u k))
+          scope-body u k =
+              subst (λ (v : Visit). VisitOutcome v w2 r2) (λ i. visit u (scope-open .context i) (scope-open .now .bundle i)) (gave .outcome u (body-stands u k))
 
           -- the body's visit was full: so is the quantifier's
-          pub binder-full : r2 ≡ Visited.Full → TermGives w s n Γ h t w2 s2 Visited.Full
-          binder-full e = record {
+          pub scope-full : r2 ≡ Visited.Full → TermGives w s n Γ h t w2 s2 Visited.Full
+          scope-full e = record {
             long = gave .long ∙ long;
             kept = gave .kept;
             outcome = binder-only reads (λ τ. VisitOutcome (visit τ Γ (bundleIn w n)) w2 Visited.Full) quantifies (λ q u i low k.
-                VisitOutcome.full (more-full (scope-longer t Γ (bundleIn w n) q first u) (visit-full (binder-body u k) e)) refl);
+                VisitOutcome.full (more-full (scope-longer t Γ (bundleIn w n) q first u) (visit-full (scope-body u k) e)) refl);
           }
 
-          module _ {after : Counts} {x y : ℕ} (told2 : r2 ≡ Visited.Done after x y) where
+          module _ {after : Counts} {x k : ℕ} (told2 : r2 ≡ Visited.Done after x k) where
             -- the call that closes it
-            pub binder-ready : Words w2 → Ready w2 after × (x ≤ 4294967295) × (y ≤ 4294967295)
-            binder-ready word = binder-only reads (λ τ. Ready w2 after × (x ≤ 4294967295) × (y ≤ 4294967295)) quantifies (λ q u i low k.
+            pub scope-ready : Words w2 → Ready w2 after × (y ≤ 4294967295) × (x ≤ 4294967295) × (k ≤ 4294967295)
+            scope-ready word = binder-only reads (λ τ. Ready w2 after × (y ≤ 4294967295) × (x ≤ 4294967295) × (k ≤ 4294967295)) quantifies (λ q u i low h.
                 let o = openBinder (bundleIn w n) first Γ in
-                let d = visit-done (binder-body u k) told2 in
+                let d = visit-done (scope-body u h) told2 in
                 let z = result-word (visit-ends u (o .context) (o .bundle)) d word in
-                (d .now .ready, z .0, omega (arith, z .1))) (asks .standing) (asks .stands)
+                let new : y ≤ 4294967295 = omega (arith, scope-open .variable, sized-in w n .variables, asks .ready .room .within .variables) in
+                (d .now .ready, new, z .0, omega (arith, z .1))) (asks .standing) (asks .stands)
 
             -- a quantifier's visit, from the body's and what closed it
-            pub binder-done : {w3 : List ℕ} {r3 : Visited} → length w3 ≡ length w2
+            pub scope-done : {w3 : List ℕ} {r3 : Visited} → length w3 ≡ length w2
                 → ((q : Binder) → kind ≡ numberOf (binder q)
-                → VisitOutcome (closeBinder Γ t q (n .variables + 1) (record { bundle = bundleIn w2 after; result = x; step = y })) w3 r3)
+                → VisitOutcome (closeBinder Γ t q y (record { bundle = bundleIn w2 after; result = x; step = k })) w3 r3)
                 → TermGives w s n Γ h t w3 s2 r3
             unfolding visit
-            binder-done {w3} {r3} long3 g = record {
+            scope-done {w3} {r3} long3 g = record {
               long = long3 ∙ gave .long ∙ long;
               kept = gave .kept;
-              outcome = binder-only reads (λ τ. VisitOutcome (visit τ Γ (bundleIn w n)) w3 r3) quantifies (λ q u i low k.
+              outcome = binder-only reads (λ τ. VisitOutcome (visit τ Γ (bundleIn w n)) w3 r3) quantifies (λ q u i low h.
                   let o = openBinder (bundleIn w n) first Γ in
-                  let d = visit-done (binder-body u k) told2 in
-                  let new : n .variables + 1 ≡ newVariable (bundleIn w n) = omega (arith, sized-in w n .variables) in
-                  let same : record { bundle = bundleIn w2 after; result = x; step = y } ≡ visit u (o .context) (o .bundle) =
+                  let d = visit-done (scope-body u h) told2 in
+                  let same : record { bundle = bundleIn w2 after; result = x; step = k } ≡ visit u (o .context) (o .bundle) =
                   λ j. record { bundle = d .now .bundle j; result = d .result j; step = d .step j } in
-                  subst (λ (v : Visit). VisitOutcome v w3 r3) (λ j. closeBinder Γ t q (new j) (same j)) (g q i));
+                  subst (λ (v : Visit). VisitOutcome v w3 r3) (λ j. closeBinder Γ t q (scope-open .variable j) (same j)) (g q i));
             }
 
     -- ---- the list of arguments, or of bound terms

@@ -13,6 +13,7 @@ use closers::open_let;
 use closers::open_quantifier;
 use filing::filing::file_terms;
 use placing::Listed;
+use placing::Opened;
 use placing::Recorded;
 use placing::Visited;
 use scratch::lists::pack;
@@ -40,13 +41,13 @@ pub fn visit_term(
         return close_variable(words, c, context, term, first);
     }
     if (kind == 3) | (kind == 4) {
-        let y = c.variables + 1;
         let opened = open_quantifier(words, c, first, context, index);
         return match opened {
-            Recorded::Full => Visited::Full,
-            Recorded::Done {
+            Opened::Full => Visited::Full,
+            Opened::Done {
                 counts: inside,
-                number: inner,
+                context: inner,
+                variable: y,
             } => {
                 let visited = visit_term(words, stack, inside, inner, height, second, index);
                 match visited {

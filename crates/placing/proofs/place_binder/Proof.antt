@@ -36,7 +36,7 @@ add-term-requires c κs =
     let s = c .before .before .before .before .before .before .before .before in
     let a = s .args in
     let d = c .before .before .before .before .before .before .root-digest in
-    (s .pre .0, omega arith, s .pre .3, s .pre .4, s .pre .5, d .ensures .1, plain-filed (bundleIn (a .words .now) (a .c)) (a .kind) (a .y) (a .body) (d .result) (λ e. omega arith) (d .ensures .0))
+    (s .pre .0, omega arith, s .pre .3, s .pre .4, s .pre .5, d .ensures .1, plain-filed (bundleIn (a .words .now) (a .c)) (a .kind) (a .y) (a .body) (d .result) (λ e. omega arith) (λ e. omega arith) (d .ensures .0))
 
 same-length-2 : tie.Need-same-length-2
 same-length-2 c = search needs

@@ -66,7 +66,7 @@ add-term-requires c κs =
       omega arith,
       variable-indexed (s .pre .1) (v .last .0) (v .result) _ (v .ensures .2),
       d .ensures .1,
-      plain-filed (bundleIn (v .last .0) (v .result)) 1 (a .c .variables + 1) 0 (d .result) (λ e. omega arith) (d .ensures .0),
+      plain-filed (bundleIn (v .last .0) (v .result)) 1 (a .c .variables + 1) 0 (d .result) (λ e. omega arith) (λ e. omega arith) (d .ensures .0),
     )
 
 same-length-3 : tie.Need-same-length-3

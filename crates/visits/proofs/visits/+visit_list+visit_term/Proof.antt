@@ -10,7 +10,7 @@ use Rattle.scratch.specs.Scratch.{bundleIn, Ready}
 use Rattle.scratch.specs.Stack.{halves}
 use Rattle.visits.proofs.Pairs.{Pair}
 use Rattle.visits.proofs.ListTurns.{left, left-le, LinkReads, list-none, first-asks, first-full, first-words, first-height, rest-asks, list-more}
-use Rattle.visits.proofs.TermTurns.{Reads, quantified, not-quantified, term-words, term-variable, binder-closed, binder-asks, binder-full, binder-ready, binder-done, args-asks, args-full, args-ready, apply-done, let-closed, body-asks, body-full, body-words, body-ready, body-done}
+use Rattle.visits.proofs.TermTurns.{Reads, quantified, not-quantified, term-words, term-variable, scope-closed, scope-asks, scope-full, scope-ready, scope-done, args-asks, args-full, args-ready, apply-done, let-closed, body-asks, body-full, body-words, body-ready, body-done}
 use Rattle.placing.proofs.Indexes.{list-holds, full-visit, full-list, step-indexed, leaf-indexed, let-indexed}
 use borrow.Fn.Kinds.{In}
 use borrow.Fn.PlainCycle.{Measures, is, falls, and}
@@ -218,12 +218,9 @@ module _ (t : ℕ) where
   quantifies : (c : visit-term-lts.Then2 (term-calls t) (visit-term-at t) visit-term.Post) → (3 ≤ c .before .before .before .before .before .before .before .before .term-field .result) × (c .before .before .before .before .before .before .before .before .term-field .result ≤ 4)
   quantifies c = quantified (c .before .before .before .before .before .before .before .before .term-field .result) (c .if2 .taken)
 
-  visit-term-add-y : visit-term-lts.Need-add-y (term-calls t) (visit-term-at t) visit-term.Post
-  visit-term-add-y c = omega (arith, term-words (c .before .before .before .before .before .before .before .before .before .before .before .before .before .pre .1 .0) .2)
-
   visit-term-open-quantifier-requires : visit-term-lts.Need-open-quantifier-requires (term-calls t) (visit-term-at t) visit-term.Post
   visit-term-open-quantifier-requires c κs =
-      let f = c .before .before .before .before .before in
+      let f = c .before .before .before .before in
       (f .before .before .before .before .before .before .before .before .before .before .pre .1 .0 .ready, f .before .before .before .before .term-field2 .ensures .1, term-words (f .before .before .before .before .before .before .before .before .before .before .pre .1 .0) .0, f .before .before .before .before .before .before .before .before .before .before .pre .1 .1)
 
   visit-term-enum-told : visit-term-lts.Need-enum-told (term-calls t) (visit-term-at t) visit-term.Post
@@ -235,9 +232,9 @@ module _ (t : ℕ) where
   visit-term-visit-term-requires : visit-term-lts.Need-visit-term-requires (term-calls t) (visit-term-at t) visit-term.Post
   visit-term-visit-term-requires c κs =
       let o = c .before .before .before .before .before .before .before .before in
-      let f = o .before .before .before .before .before .before in
-      let k = binder-asks (f .before .before .before .before .before .before .before .before .before .before .pre .1 .0) (term-reads f) (quantifies (o .before .before .before .before)) (o .open-quantifier .ensures .0) (o .open-quantifier .ensures .1) (c .before .before .before .before .opened .given .1) in
-      (omega (arith, f .before .before .before .before .before .before .before .before .before .before .pre .0, k .1), (k .0, o .open-quantifier .ensures .2 .held _ _ (c .before .before .before .before .opened .given .1)))
+      let f = o .before .before .before .before .before in
+      let k = scope-asks (f .before .before .before .before .before .before .before .before .before .before .pre .1 .0) (term-reads f) (quantifies (o .before .before .before)) (o .open-quantifier .ensures .0) (o .open-quantifier .ensures .1) (c .before .before .before .before .opened .given .1) in
+      (omega (arith, f .before .before .before .before .before .before .before .before .before .before .pre .0, k .1), (k .0, o .open-quantifier .ensures .2 .held _ _ _ (c .before .before .before .before .opened .given .1)))
 
   visit-term-enum-told-2 : visit-term-lts.Need-enum-told-2 (term-calls t) (visit-term-at t) visit-term.Post
   visit-term-enum-told-2 c = search needs
@@ -249,17 +246,17 @@ module _ (t : ℕ) where
   visit-term-close-quantifier-requires c κs =
       let v = c .before .before .before .before .before .before .before .before .before in
       let o = v .before .before .before .before .before .before .before .before .before in
-      let f = o .before .before .before .before .before .before in
-      let q = quantifies (o .before .before .before .before) in
-      let k = binder-ready (f .before .before .before .before .before .before .before .before .before .before .pre .1 .0) (term-reads f) q (o .open-quantifier .ensures .0) (o .open-quantifier .ensures .1) (v .before .before .before .before .before .opened .given .1) (v .visit-term .ensures .0) (c .before .before .before .visited .given .1) (λ i. omega (arith, c .before .before .before .before .before .before .before .slice-known5 .given i)) in
+      let f = o .before .before .before .before .before in
+      let q = quantifies (o .before .before .before) in
+      let k = scope-ready (f .before .before .before .before .before .before .before .before .before .before .pre .1 .0) (term-reads f) q (o .open-quantifier .ensures .0) (o .open-quantifier .ensures .1) (v .before .before .before .before .before .opened .given .1) (v .visit-term .ensures .0) (c .before .before .before .visited .given .1) (λ i. omega (arith, c .before .before .before .before .before .before .before .slice-known5 .given i)) in
       let n = term-words (f .before .before .before .before .before .before .before .before .before .before .pre .1 .0) in
-      (k .0, n .0, n .1, q .0, q .1, n .2, k .1, k .2, v .visit-term .ensures .1 .held _ _ _ (c .before .before .before .visited .given .1))
+      (k .0, n .0, n .1, q .0, q .1, k .1, k .2, k .3, v .visit-term .ensures .1 .held _ _ _ (c .before .before .before .visited .given .1))
 
   visit-term-returns-2 : visit-term-lts.Need-returns-2 (term-calls t) (visit-term-at t) visit-term.Post
   visit-term-returns-2 c =
       let o = c .before .before .before .before in
-      let f = o .before .before .before .before .before .before in
-      (binder-closed (f .before .before .before .before .before .before .before .before .before .before .pre .1 .0) (term-reads f) (quantifies (o .before .before .before .before)) (o .open-quantifier .ensures .0) (o .open-quantifier .ensures .1) (c .enum-told .given .1), full-visit)
+      let f = o .before .before .before .before .before in
+      (scope-closed (f .before .before .before .before .before .before .before .before .before .before .pre .1 .0) (term-reads f) (quantifies (o .before .before .before)) (o .open-quantifier .ensures .0) (o .open-quantifier .ensures .1) (c .enum-told .given .1), full-visit)
 
   visit-term-same-length-2 : visit-term-lts.Need-same-length-2 (term-calls t) (visit-term-at t) visit-term.Post
   visit-term-same-length-2 c = visit-term-returns-2 c .0 .long
@@ -268,8 +265,8 @@ module _ (t : ℕ) where
   visit-term-returns-3 c =
       let v = c .before .before .before .before .before .before in
       let o = v .before .before .before .before .before .before .before .before .before in
-      let f = o .before .before .before .before .before .before in
-      (binder-full (f .before .before .before .before .before .before .before .before .before .before .pre .1 .0) (term-reads f) (quantifies (o .before .before .before .before)) (o .open-quantifier .ensures .0) (o .open-quantifier .ensures .1) (v .before .before .before .before .before .opened .given .1) (v .visit-term .ensures .0) (c .enum-told2 .given .1), full-visit)
+      let f = o .before .before .before .before .before in
+      (scope-full (f .before .before .before .before .before .before .before .before .before .before .pre .1 .0) (term-reads f) (quantifies (o .before .before .before)) (o .open-quantifier .ensures .0) (o .open-quantifier .ensures .1) (v .before .before .before .before .before .opened .given .1) (v .visit-term .ensures .0) (c .enum-told2 .given .1), full-visit)
 
   visit-term-same-length-3 : visit-term-lts.Need-same-length-3 (term-calls t) (visit-term-at t) visit-term.Post
   visit-term-same-length-3 c = visit-term-returns-3 c .0 .long
@@ -281,8 +278,8 @@ module _ (t : ℕ) where
   visit-term-returns-4 c =
       let v = c .before .before .before .before .before .before .before .before .before .before .before .before in
       let o = v .before .before .before .before .before .before .before .before .before in
-      let f = o .before .before .before .before .before .before in
-      (binder-done (f .before .before .before .before .before .before .before .before .before .before .pre .1 .0) (term-reads f) (quantifies (o .before .before .before .before)) (o .open-quantifier .ensures .0) (o .open-quantifier .ensures .1) (v .before .before .before .before .before .opened .given .1) (v .visit-term .ensures .0) (c .before .before .before .before .before .before .visited .given .1) (c .before .before .close-quantifier .ensures .0) (c .before .before .close-quantifier .ensures .1), c .before .before .close-quantifier .ensures .2)
+      let f = o .before .before .before .before .before in
+      (scope-done (f .before .before .before .before .before .before .before .before .before .before .pre .1 .0) (term-reads f) (quantifies (o .before .before .before)) (o .open-quantifier .ensures .0) (o .open-quantifier .ensures .1) (v .before .before .before .before .before .opened .given .1) (v .visit-term .ensures .0) (c .before .before .before .before .before .before .visited .given .1) (c .before .before .close-quantifier .ensures .0) (c .before .before .close-quantifier .ensures .1), c .before .before .close-quantifier .ensures .2)
 
   visit-term-same-length-5 : visit-term-lts.Need-same-length-5 (term-calls t) (visit-term-at t) visit-term.Post
   visit-term-same-length-5 c = visit-term-returns-4 c .0 .long
@@ -509,7 +506,6 @@ pub +visit-list+visit-term-spec : {M : Type 1} → statement M
     (visit-term-close-variable-requires t)
     (visit-term-same-length t)
     (visit-term-returns t)
-    (visit-term-add-y t)
     (visit-term-open-quantifier-requires t)
     (visit-term-enum-told t)
     (visit-term-enum-known-opened t)
