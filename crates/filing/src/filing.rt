@@ -17,6 +17,7 @@ use bundle::digests::DIGESTS;
 use bundle::digests::mixed;
 use bundle::lists::first_link;
 use logic::kinds::APPLICATION;
+use logic::kinds::LET;
 use scratch::lists::half;
 use scratch::lists::next_link;
 use scratch::records::link_field;
@@ -67,7 +68,7 @@ fn let_digest(words: &[u32], c: Bundle, variables: usize, bound: usize, body: us
     ensures { λ r. ⌜ (r ≡ letDigest (items (bundleIn (now (words .entry)) c) variables) (items (bundleIn (now (words .entry)) c) bound) body)
         × (r < digests) ⌝ }
 {
-    let d = mixed(0, 5);
+    let d = mixed(0, LET);
     let e = mixed_items(words, c, d, variables);
     let f = mixed_items(words, c, e, bound);
     mixed(f, body)
@@ -82,7 +83,7 @@ fn digest(words: &[u32], c: Bundle, t: usize) -> usize
     let first = term_field(words, c, t, 1);
     let second = term_field(words, c, t, 2);
     let third = term_field(words, c, t, 3);
-    if kind == 5 {
+    if kind == LET {
         return let_digest(words, c, first, second, third);
     }
     let d = root_digest(kind, first);

@@ -1,15 +1,13 @@
 -- The visit to a term: what each of its calls asks, and what each of its returns gives.
 --     Reads                                         the term's record, as the code reads it
---     quantified, not-quantified                    the code's test for a quantifier
+--     quantified                                    the numbers of quantifiers
 --     term-words, term-variable                     a variable
 --     scope-closed, scope-asks, scope-full, ..      a quantifier
 --     args-asks, args-full, args-ready              the list of arguments or of bound terms
 --     apply-done                                    an application
 --     let-closed, body-asks, body-full, ..          a let
 use mathlib.Core.Path.{_≡_, refl, sym, _∙_, subst}
-use mathlib.Core.Bool.{Bool, true, false, _||_}
-use lib.Dec.{eqb}
-use borrow.Author.Tests.{eqb-true, eqb-false}
+use mathlib.Core.Bool.{true, false, false≢true}
 use mathlib.Core.List.{List, [], _∷_, _++_}
 use Prim.Native.Nat.{ℕ, _+_, _-_, _≤_, _<_}
 use native.Mathlib.Omega.{arith}
@@ -17,8 +15,9 @@ use lib.ListN.{length, set}
 use Rattle.bundle.specs.declared.Bundle.{Bundle as Counts}
 use Rattle.bundle.specs.Bundle.{Bundle, termOf}
 use Rattle.logic.specs.Lists.{Number}
-use Rattle.logic.specs.Terms.{Binder, forAll, exists, binder, numberOf}
+use Rattle.logic.specs.Terms.{Binder, forAll, exists, binder, numberOf, isBinder}
 use Rattle.logic.specs.Longer.{Longer}
+use Rattle.logic.proofs.TermKinds.{binder-kind, binder-number, is-binder-exactly}
 use Rattle.logic.proofs.Longer.{longer-trans}
 use Rattle.scratch.specs.Scratch.{bundleIn, Ready}
 use Rattle.scratch.specs.Stack.{halves}
@@ -44,27 +43,15 @@ pub record Reads (b : Bundle) (t kind first second third : ℕ) : Type 0 where
   pub second-is : second ≡ termOf b t .b
   pub third-is : third ≡ termOf b t .c
 
--- the code's test for a quantifier
-pub quantified : (k : ℕ) → (eqb k 3 || eqb k 4) ≡ true → (3 ≤ k) × (k ≤ 4)
-quantified k e = go (eqb k 3) refl e
-  where
-    go : (p : Bool) → eqb k 3 ≡ p → (p || eqb k 4) ≡ true → (3 ≤ k) × (k ≤ 4)
-    go true i h = (omega (arith, eqb-true k 3 i), omega (arith, eqb-true k 3 i))
-    go false i h = (omega (arith, eqb-true k 4 h), omega (arith, eqb-true k 4 h))
+numbers-of : (q : Binder) → (3 ≤ numberOf (binder q)) × (numberOf (binder q) ≤ 4)
+numbers-of forAll = (omega arith, omega arith)
+numbers-of exists = (omega arith, omega arith)
 
-pub not-quantified : (k : ℕ) → (eqb k 3 || eqb k 4) ≡ false → (3 ≤ k) × (k ≤ 4) → ⊥
-not-quantified k e h = go (eqb k 3) refl e
-  where
-    go : (p : Bool) → eqb k 3 ≡ p → (p || eqb k 4) ≡ false → ⊥
-    go true i f = let z : _≡_ {A = ℕ} 0 1 = cc in omega arith
-    go false i f = not-4 (λ m. eqb-false k 3 i m) (λ m. eqb-false k 4 f m)
-      where
-        not-4 : (k ≡ 3 → ⊥) → (k ≡ 4 → ⊥) → ⊥
-        not-4 a b = omega (arith, h .0, h .1, a, b)
-
-binder-kind : (q : Binder) → (3 ≤ numberOf (binder q)) × (numberOf (binder q) ≤ 4)
-binder-kind forAll = (omega arith, omega arith)
-binder-kind exists = (omega arith, omega arith)
+pub quantified : (k : ℕ) → isBinder k ≡ true → (3 ≤ k) × (k ≤ 4)
+quantified k e =
+    let h = is-binder-exactly k .0 e in
+    let n = binder-kind k (h .0) (h .1) in
+    (omega (arith, n, numbers-of (h .0) .0), omega (arith, n, numbers-of (h .0) .1))
 
 -- what stands for a term, by its kind
 module _ {b : Bundle} {t kind first second third : ℕ} (reads : Reads b t kind first second third) (P : Node → Type 0) where
@@ -77,26 +64,26 @@ module _ {b : Bundle} {t kind first second third : ℕ} (reads : Reads b t kind 
   variable-only : kind ≡ 1 → P (leaf t first) → (τ : Node) → Stands b t τ → P τ
   variable-only e p (leaf n x) k = numbers leaf (k .0) (k .3) p
   variable-only e p (node n f ns) k = absurd (omega (arith, e, reads .kind-is, k .2))
-  variable-only e p (scope n q x u) k = absurd (omega (arith, e, reads .kind-is, k .2, binder-kind q .0))
+  variable-only e p (scope n q x u) k = absurd (omega (arith, e, reads .kind-is, k .2, numbers-of q .0))
   variable-only e p (block n s vs ns u) k = absurd (omega (arith, e, reads .kind-is, k .2))
 
-  binder-only : (3 ≤ kind) × (kind ≤ 4) → ((q : Binder) (u : Node) → kind ≡ numberOf (binder q) → second < t → Stands b second u → P (scope t q first u))
+  binder-only : isBinder kind ≡ true → ((q : Binder) (u : Node) → kind ≡ numberOf (binder q) → second < t → Stands b second u → P (scope t q first u))
       → (τ : Node) → Stands b t τ → P τ
-  binder-only e p (leaf n x) k = absurd (omega (arith, e .0, reads .kind-is, k .2))
-  binder-only e p (node n f ns) k = absurd (omega (arith, e .0, reads .kind-is, k .2))
+  binder-only e p (leaf n x) k = absurd (omega (arith, quantified kind e .0, reads .kind-is, k .2))
+  binder-only e p (node n f ns) k = absurd (omega (arith, quantified kind e .0, reads .kind-is, k .2))
   binder-only e p (scope n q x u) k =
       numbers (λ m y. scope m q y u) (k .0) (k .3)
       (p q u (reads .kind-is ∙ k .2) (omega (arith, reads .second-is, k .4)) (subst (λ (m : ℕ). Stands b m u) (sym (reads .second-is)) (k .5)))
-  binder-only e p (block n s vs ns u) k = absurd (omega (arith, e .1, reads .kind-is, k .2))
+  binder-only e p (block n s vs ns u) k = absurd (omega (arith, quantified kind e .1, reads .kind-is, k .2))
 
-  module _ (not-1 : kind ≡ 1 → ⊥) (not-3-4 : (3 ≤ kind) × (kind ≤ 4) → ⊥) where
+  module _ (not-1 : kind ≡ 1 → ⊥) (no-binder : isBinder kind ≡ false) where
     listed-only : ((ns : Nodes) → kind ≡ 2 → StandAll b t second ns → P (node t first ns))
         → ((vs : List ℕ) (ns : Nodes) (u : Node) → kind ≡ 5 → StandAll b t second ns → third < t → Stands b third u → P (block t first vs ns u))
         → (τ : Node) → Stands b t τ → P τ
     listed-only p p′ (leaf n x) k = absurd (not-1 (reads .kind-is ∙ k .2))
     listed-only p p′ (node n f ns) k = numbers (λ m y. node m y ns) (k .0) (k .3) (p ns (reads .kind-is ∙ k .2) (on-second ns (k .4)))
     listed-only p p′ (scope n q x u) k =
-        absurd (not-3-4 (omega (arith, reads .kind-is, k .2, binder-kind q .0), omega (arith, reads .kind-is, k .2, binder-kind q .1)))
+        absurd (false≢true (sym no-binder ∙ is-binder-exactly kind .1 (q, binder-number kind q (reads .kind-is ∙ k .2))))
     listed-only p p′ (block n s vs ns u) k =
         numbers (λ m y. block m y vs ns u) (k .0) (k .3)
         (p′ vs ns u (reads .kind-is ∙ k .2) (on-second ns (k .4)) (omega (arith, reads .third-is, k .5)) (subst (λ (m : ℕ). Stands b m u) (sym (reads .third-is)) (k .6)))
@@ -136,7 +123,7 @@ module _ {w s : List ℕ} {n : Counts} {Γ h t : ℕ} (asks : TermAsks w s n Γ 
 
     -- ---- a quantifier
 
-    module _ (quantifies : (3 ≤ kind) × (kind ≤ 4)) {w1 : List ℕ} {r : Opened} (long : length w1 ≡ length w)
+    module _ (quantifies : isBinder kind ≡ true) {w1 : List ℕ} {r : Opened} (long : length w1 ≡ length w)
         (opened : BinderOutcome (openBinder (bundleIn w n) first Γ) w1 r) where
       -- there was no room for its contexts
       pub scope-closed : r ≡ Opened.Full → TermGives w s n Γ h t w1 s Visited.Full
@@ -215,10 +202,10 @@ module _ {w s : List ℕ} {n : Counts} {Γ h t : ℕ} (asks : TermAsks w s n Γ 
 
     -- ---- the list of arguments, or of bound terms
 
-    module _ (not-1 : kind ≡ 1 → ⊥) (not-3-4 : (3 ≤ kind) × (kind ≤ 4) → ⊥) where
+    module _ (not-1 : kind ≡ 1 → ⊥) (no-binder : isBinder kind ≡ false) where
       -- the call for it
       pub args-asks : ListAsks w s n Γ h t second
-      args-asks = listed-only reads (λ τ. ListAsks w s n Γ h t second) not-1 not-3-4
+      args-asks = listed-only reads (λ τ. ListAsks w s n Γ h t second) not-1 no-binder
           (λ ns i k. record { ready = asks .ready; pending = asks .pending; context = asks .context; standing = ns; stands = k })
           (λ vs ns u i k low st. record { ready = asks .ready; pending = asks .pending; context = asks .context; standing = ns; stands = k })
           (asks .standing) (asks .stands)
@@ -229,7 +216,7 @@ module _ {w s : List ℕ} {n : Counts} {Γ h t : ℕ} (asks : TermAsks w s n Γ 
         args-full e = record {
           long = gave .long;
           kept = gave .kept;
-          outcome = listed-only reads (λ τ. VisitOutcome (visit τ Γ (bundleIn w n)) w1 Visited.Full) not-1 not-3-4
+          outcome = listed-only reads (λ τ. VisitOutcome (visit τ Γ (bundleIn w n)) w1 Visited.Full) not-1 no-binder
               (λ ns i k. VisitOutcome.full (more-full (node-longer t Γ (bundleIn w n) first ns) (list-full (gave .outcome ns k) e)) refl)
               (λ vs ns u i k low st. VisitOutcome.full
               (more-full (longer-trans (opening-longer (bundleIn w n) first Γ ns) (block-longer t Γ (bundleIn w n) first vs ns u)) (list-full (gave .outcome ns k) e)) refl);
@@ -260,7 +247,7 @@ module _ {w s : List ℕ} {n : Counts} {Γ h t : ℕ} (asks : TermAsks w s n Γ 
           apply-done e {w2} {r2} long2 g = record {
             long = long2 ∙ gave .long;
             kept = gave .kept;
-            outcome = application-only reads (λ τ. VisitOutcome (visit τ Γ (bundleIn w n)) w2 r2) not-1 not-3-4 e (λ ns k.
+            outcome = application-only reads (λ τ. VisitOutcome (visit τ Γ (bundleIn w n)) w2 r2) not-1 no-binder e (λ ns k.
                 let d = args-done ns k in
                 let same : record { bundle = bundleIn w1 bound; results = halves true s1 h top; steps = halves false s1 h top } ≡ visitAll ns Γ (bundleIn w n) =
                 λ j. record { bundle = d .now .bundle j; results = d .results j; steps = d .steps j } in
@@ -281,7 +268,7 @@ module _ {w s : List ℕ} {n : Counts} {Γ h t : ℕ} (asks : TermAsks w s n Γ 
             let-closed e = record {
               long = long2 ∙ gave .long;
               kept = gave .kept;
-              outcome = let-only reads (λ τ. VisitOutcome (visit τ Γ (bundleIn w n)) w2 Visited.Full) not-1 not-3-4 not-2 (λ vs ns u k low st.
+              outcome = let-only reads (λ τ. VisitOutcome (visit τ Γ (bundleIn w n)) w2 Visited.Full) not-1 no-binder not-2 (λ vs ns u k low st.
                   VisitOutcome.full (more-full (block-longer t Γ (bundleIn w n) first vs ns u) (open-full (let-opened ns k) e)) refl);
             }
 
@@ -297,7 +284,7 @@ module _ {w s : List ℕ} {n : Counts} {Γ h t : ℕ} (asks : TermAsks w s n Γ 
 
               -- the call for the body
               pub body-asks : TermAsks w2 s1 inside inner top third × (third < t)
-              body-asks = let-only reads (λ τ. TermAsks w2 s1 inside inner top third × (third < t)) not-1 not-3-4 not-2 (λ vs ns u k low st.
+              body-asks = let-only reads (λ τ. TermAsks w2 s1 inside inner top third × (third < t)) not-1 no-binder not-2 (λ vs ns u k low st.
                   let d = let-done ns k in
                   let v = visitAll ns Γ (bundleIn w n) in (
                     record {
@@ -325,19 +312,19 @@ module _ {w s : List ℕ} {n : Counts} {Γ h t : ℕ} (asks : TermAsks w s n Γ 
                 body-full e = record {
                   long = gave3 .long ∙ long2 ∙ gave .long;
                   kept = below-trans (args-ready .1) (gave .kept) (gave3 .kept);
-                  outcome = let-only reads (λ τ. VisitOutcome (visit τ Γ (bundleIn w n)) w3 Visited.Full) not-1 not-3-4 not-2 (λ vs ns u k low st.
+                  outcome = let-only reads (λ τ. VisitOutcome (visit τ Γ (bundleIn w n)) w3 Visited.Full) not-1 no-binder not-2 (λ vs ns u k low st.
                       VisitOutcome.full (more-full (body-longer t Γ (bundleIn w n) first vs ns u) (visit-full (body-outcome ns k u st) e)) refl);
                 }
 
                 module _ {after : Counts} {x y : ℕ} (told3 : r3 ≡ Visited.Done after x y) where
                   -- numbers for a pair, a place for it, and the call that closes the let
                   pub body-words : Words w3 → (x ≤ 4294967295) × (y ≤ 4294967295)
-                  body-words word = let-only reads (λ τ. (x ≤ 4294967295) × (y ≤ 4294967295)) not-1 not-3-4 not-2 (λ vs ns u k low st.
+                  body-words word = let-only reads (λ τ. (x ≤ 4294967295) × (y ≤ 4294967295)) not-1 no-binder not-2 (λ vs ns u k low st.
                       let z = result-word (visit-ends u (opening (bundleIn w n) first Γ ns .context) (opening (bundleIn w n) first Γ ns .bundle)) (visit-done (body-outcome ns k u st) told3) word in
                       (z .0, omega (arith, z .1))) (asks .standing) (asks .stands)
 
                   pub body-ready : Ready w3 after × (top < 1024) × (top < length s3)
-                  body-ready = let-only reads (λ τ. Ready w3 after × (top < 1024) × (top < length s3)) not-1 not-3-4 not-2 (λ vs ns u k low st.
+                  body-ready = let-only reads (λ τ. Ready w3 after × (top < 1024) × (top < length s3)) not-1 no-binder not-2 (λ vs ns u k low st.
                       let d = visit-done (body-outcome ns k u st) told3 in
                       let i : top < 1024 =
                       omega (
@@ -357,7 +344,7 @@ module _ {w s : List ℕ} {n : Counts} {Γ h t : ℕ} (asks : TermAsks w s n Γ 
                   body-done {pair} packed {w4} {r4} long4 g = record {
                     long = long4 ∙ gave3 .long ∙ long2 ∙ gave .long;
                     kept = below-trans (args-ready .1) (gave .kept) (below-trans (omega arith) (gave3 .kept) (below-set s3 top top pair (omega arith)));
-                    outcome = let-only reads (λ τ. VisitOutcome (visit τ Γ (bundleIn w n)) w4 r4) not-1 not-3-4 not-2 (λ vs ns u k low st.
+                    outcome = let-only reads (λ τ. VisitOutcome (visit τ Γ (bundleIn w n)) w4 r4) not-1 no-binder not-2 (λ vs ns u k low st.
                         let a = args-done ns k in
                         let d = visit-done (body-outcome ns k u st) told3 in
                         let steps = visitAll ns Γ (bundleIn w n) .steps in

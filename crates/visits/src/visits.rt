@@ -12,6 +12,10 @@ use closers::conclude;
 use closers::open_let;
 use closers::open_quantifier;
 use filing::filing::file_terms;
+use logic::kinds::APPLICATION;
+use logic::kinds::VARIABLE;
+use logic::kinds::is_binder;
+use logic::rules::LET;
 use placing::Listed;
 use placing::Opened;
 use placing::Recorded;
@@ -37,10 +41,10 @@ pub fn visit_term(
     let first = term_field(words, c, term, 1);
     let second = term_field(words, c, term, 2);
     let third = term_field(words, c, term, 3);
-    if kind == 1 {
+    if kind == VARIABLE {
         return close_variable(words, c, context, term, first);
     }
-    if (kind == 3) | (kind == 4) {
+    if is_binder(kind) {
         let opened = open_quantifier(words, c, first, context, index);
         return match opened {
             Opened::Full => Visited::Full,
@@ -78,7 +82,7 @@ pub fn visit_term(
             counts: bound,
             height: top,
         } => {
-            if kind == 2 {
+            if kind == APPLICATION {
                 return close_application(
                     words,
                     bound,
@@ -111,7 +115,7 @@ pub fn visit_term(
                             conclude(
                                 words,
                                 after,
-                                5,
+                                LET,
                                 context,
                                 term,
                                 result,

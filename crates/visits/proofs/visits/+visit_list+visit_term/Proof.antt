@@ -4,13 +4,15 @@
 use Prim.Native.Nat.{ℕ, _+_, _*_, _≤_, _<_}
 use native.Mathlib.Omega.{arith}
 use borrow.Author.Needs.{needs}
+use mathlib.Core.Path.{_≡_, sym, _∙_}
 use mathlib.Core.Bool.{true, false}
 use lib.ListN.{length, set, length-set}
+use Rattle.logic.specs.Terms.{isBinder}
 use Rattle.scratch.specs.Scratch.{bundleIn, Ready}
 use Rattle.scratch.specs.Stack.{halves}
 use Rattle.visits.proofs.Pairs.{Pair}
 use Rattle.visits.proofs.ListTurns.{left, left-le, LinkReads, list-none, first-asks, first-full, first-words, first-height, rest-asks, list-more}
-use Rattle.visits.proofs.TermTurns.{Reads, quantified, not-quantified, term-words, term-variable, scope-closed, scope-asks, scope-full, scope-ready, scope-done, args-asks, args-full, args-ready, apply-done, let-closed, body-asks, body-full, body-words, body-ready, body-done}
+use Rattle.visits.proofs.TermTurns.{Reads, quantified, term-words, term-variable, scope-closed, scope-asks, scope-full, scope-ready, scope-done, args-asks, args-full, args-ready, apply-done, let-closed, body-asks, body-full, body-words, body-ready, body-done}
 use Rattle.placing.proofs.Indexes.{list-holds, full-visit, full-list, step-indexed, leaf-indexed, let-indexed}
 use borrow.Fn.Kinds.{In}
 use borrow.Fn.PlainCycle.{Measures, is, falls, and}
@@ -23,6 +25,7 @@ use Rattle.visits.proofs.visits.+visit_list+visit_term.Lts-visit_term a
 use Rattle.scratch.proofs.lists.pack.Reads as pack-reads
 use Rattle.scratch.proofs.records.link_field.Reads as link-field-reads
 use Rattle.scratch.proofs.records.term_field.Reads as term-field-reads
+use Rattle.logic.proofs.kinds.is_binder.Reads as is-binder-reads
 use Rattle.closers.proofs.close_application.Reads as close-application-reads
 use Rattle.closers.proofs.close_quantifier.Reads as close-quantifier-reads
 use Rattle.closers.proofs.close_variable.Reads as close-variable-reads
@@ -73,6 +76,8 @@ term-calls t = (
   term-field-reads.Learnt,
   close-variable-reads.Asked,
   close-variable-reads.Learnt,
+  is-binder-reads.Asked,
+  is-binder-reads.Learnt,
   open-quantifier-reads.Asked,
   open-quantifier-reads.Learnt,
   visit-term-below t,
@@ -215,12 +220,15 @@ module _ (t : ℕ) where
 
   -- ---- a quantifier
 
-  quantifies : (c : visit-term-lts.Then2 (term-calls t) (visit-term-at t) visit-term.Post) → (3 ≤ c .before .before .before .before .before .before .before .before .term-field .result) × (c .before .before .before .before .before .before .before .before .term-field .result ≤ 4)
-  quantifies c = quantified (c .before .before .before .before .before .before .before .before .term-field .result) (c .if2 .taken)
+  visit-term-is-binder-requires : visit-term-lts.Need-is-binder-requires (term-calls t) (visit-term-at t) visit-term.Post
+  visit-term-is-binder-requires c κs = search needs
+
+  quantifies : (c : visit-term-lts.Then2 (term-calls t) (visit-term-at t) visit-term.Post) → isBinder (c .before .before .before .before .before .before .before .before .before .term-field .result) ≡ true
+  quantifies c = sym (c .before .is-binder .ensures) ∙ c .if2 .taken
 
   visit-term-open-quantifier-requires : visit-term-lts.Need-open-quantifier-requires (term-calls t) (visit-term-at t) visit-term.Post
   visit-term-open-quantifier-requires c κs =
-      let f = c .before .before .before .before in
+      let f = c .before .before .before .before .before in
       (f .before .before .before .before .before .before .before .before .before .before .pre .1 .0 .ready, f .before .before .before .before .term-field2 .ensures .1, term-words (f .before .before .before .before .before .before .before .before .before .before .pre .1 .0) .0, f .before .before .before .before .before .before .before .before .before .before .pre .1 .1)
 
   visit-term-enum-told : visit-term-lts.Need-enum-told (term-calls t) (visit-term-at t) visit-term.Post
@@ -232,7 +240,7 @@ module _ (t : ℕ) where
   visit-term-visit-term-requires : visit-term-lts.Need-visit-term-requires (term-calls t) (visit-term-at t) visit-term.Post
   visit-term-visit-term-requires c κs =
       let o = c .before .before .before .before .before .before .before .before in
-      let f = o .before .before .before .before .before in
+      let f = o .before .before .before .before .before .before in
       let k = scope-asks (f .before .before .before .before .before .before .before .before .before .before .pre .1 .0) (term-reads f) (quantifies (o .before .before .before)) (o .open-quantifier .ensures .0) (o .open-quantifier .ensures .1) (c .before .before .before .before .opened .given .1) in
       (omega (arith, f .before .before .before .before .before .before .before .before .before .before .pre .0, k .1), (k .0, o .open-quantifier .ensures .2 .held _ _ _ (c .before .before .before .before .opened .given .1)))
 
@@ -246,16 +254,17 @@ module _ (t : ℕ) where
   visit-term-close-quantifier-requires c κs =
       let v = c .before .before .before .before .before .before .before .before .before in
       let o = v .before .before .before .before .before .before .before .before .before in
-      let f = o .before .before .before .before .before in
+      let f = o .before .before .before .before .before .before in
       let q = quantifies (o .before .before .before) in
       let k = scope-ready (f .before .before .before .before .before .before .before .before .before .before .pre .1 .0) (term-reads f) q (o .open-quantifier .ensures .0) (o .open-quantifier .ensures .1) (v .before .before .before .before .before .opened .given .1) (v .visit-term .ensures .0) (c .before .before .before .visited .given .1) (λ i. omega (arith, c .before .before .before .before .before .before .before .slice-known5 .given i)) in
       let n = term-words (f .before .before .before .before .before .before .before .before .before .before .pre .1 .0) in
-      (k .0, n .0, n .1, q .0, q .1, k .1, k .2, k .3, v .visit-term .ensures .1 .held _ _ _ (c .before .before .before .visited .given .1))
+      let range = quantified (f .before .before .before .before .before .before .term-field .result) q in
+      (k .0, n .0, n .1, range .0, range .1, k .1, k .2, k .3, v .visit-term .ensures .1 .held _ _ _ (c .before .before .before .visited .given .1))
 
   visit-term-returns-2 : visit-term-lts.Need-returns-2 (term-calls t) (visit-term-at t) visit-term.Post
   visit-term-returns-2 c =
       let o = c .before .before .before .before in
-      let f = o .before .before .before .before .before in
+      let f = o .before .before .before .before .before .before in
       (scope-closed (f .before .before .before .before .before .before .before .before .before .before .pre .1 .0) (term-reads f) (quantifies (o .before .before .before)) (o .open-quantifier .ensures .0) (o .open-quantifier .ensures .1) (c .enum-told .given .1), full-visit)
 
   visit-term-same-length-2 : visit-term-lts.Need-same-length-2 (term-calls t) (visit-term-at t) visit-term.Post
@@ -265,7 +274,7 @@ module _ (t : ℕ) where
   visit-term-returns-3 c =
       let v = c .before .before .before .before .before .before in
       let o = v .before .before .before .before .before .before .before .before .before in
-      let f = o .before .before .before .before .before in
+      let f = o .before .before .before .before .before .before in
       (scope-full (f .before .before .before .before .before .before .before .before .before .before .pre .1 .0) (term-reads f) (quantifies (o .before .before .before)) (o .open-quantifier .ensures .0) (o .open-quantifier .ensures .1) (v .before .before .before .before .before .opened .given .1) (v .visit-term .ensures .0) (c .enum-told2 .given .1), full-visit)
 
   visit-term-same-length-3 : visit-term-lts.Need-same-length-3 (term-calls t) (visit-term-at t) visit-term.Post
@@ -278,7 +287,7 @@ module _ (t : ℕ) where
   visit-term-returns-4 c =
       let v = c .before .before .before .before .before .before .before .before .before .before .before .before in
       let o = v .before .before .before .before .before .before .before .before .before in
-      let f = o .before .before .before .before .before in
+      let f = o .before .before .before .before .before .before in
       (scope-done (f .before .before .before .before .before .before .before .before .before .before .pre .1 .0) (term-reads f) (quantifies (o .before .before .before)) (o .open-quantifier .ensures .0) (o .open-quantifier .ensures .1) (v .before .before .before .before .before .opened .given .1) (v .visit-term .ensures .0) (c .before .before .before .before .before .before .visited .given .1) (c .before .before .close-quantifier .ensures .0) (c .before .before .close-quantifier .ensures .1), c .before .before .close-quantifier .ensures .2)
 
   visit-term-same-length-5 : visit-term-lts.Need-same-length-5 (term-calls t) (visit-term-at t) visit-term.Post
@@ -289,14 +298,14 @@ module _ (t : ℕ) where
 
   -- ---- the list of arguments, or of bound terms
 
-  not-quantifies : (c : visit-term-lts.Else2 (term-calls t) (visit-term-at t) visit-term.Post) → (3 ≤ c .before .before .before .before .before .before .before .before .term-field .result) × (c .before .before .before .before .before .before .before .before .term-field .result ≤ 4) → ⊥
-  not-quantifies c = not-quantified (c .before .before .before .before .before .before .before .before .term-field .result) (c .if2 .left)
+  not-quantifies : (c : visit-term-lts.Else2 (term-calls t) (visit-term-at t) visit-term.Post) → isBinder (c .before .before .before .before .before .before .before .before .before .term-field .result) ≡ false
+  not-quantifies c = sym (c .before .is-binder .ensures) ∙ c .if2 .left
 
   visit-term-visit-list-requires : visit-term-lts.Need-visit-list-requires (term-calls t) (visit-term-at t) visit-term.Post
   visit-term-visit-list-requires c κs =
-      let f = c .before .before .before .before .before in (
+      let f = c .before .before .before .before .before .before in (
         omega (arith, f .before .before .before .before .before .before .before .before .before .before .pre .0, left-le (f .before .before .term-field3 .result)),
-        (args-asks (f .before .before .before .before .before .before .before .before .before .before .pre .1 .0) (term-reads f) (c .before .before .before .before .if1 .left) (not-quantifies (c .before .before .before)), f .before .before .before .before .before .before .before .before .before .before .pre .1 .1),
+        (args-asks (f .before .before .before .before .before .before .before .before .before .before .pre .1 .0) (term-reads f) (c .before .before .before .before .before .if1 .left) (not-quantifies (c .before .before .before)), f .before .before .before .before .before .before .before .before .before .before .pre .1 .1),
       )
 
   visit-term-enum-told-3 : visit-term-lts.Need-enum-told-3 (term-calls t) (visit-term-at t) visit-term.Post
@@ -308,8 +317,8 @@ module _ (t : ℕ) where
   visit-term-returns-6 : visit-term-lts.Need-returns-6 (term-calls t) (visit-term-at t) visit-term.Post
   visit-term-returns-6 c =
       let l = c .before .before .before .before .before .before in
-      let f = l .before .before .before .before .before .before in
-      (args-full (f .before .before .before .before .before .before .before .before .before .before .pre .1 .0) (term-reads f) (l .before .before .before .before .before .if1 .left) (not-quantifies (l .before .before .before .before)) (l .visit-list .ensures .0) (c .enum-told3 .given .1), full-visit)
+      let f = l .before .before .before .before .before .before .before in
+      (args-full (f .before .before .before .before .before .before .before .before .before .before .pre .1 .0) (term-reads f) (l .before .before .before .before .before .before .if1 .left) (not-quantifies (l .before .before .before .before)) (l .visit-list .ensures .0) (c .enum-told3 .given .1), full-visit)
 
   visit-term-same-length-9 : visit-term-lts.Need-same-length-9 (term-calls t) (visit-term-at t) visit-term.Post
   visit-term-same-length-9 c = visit-term-returns-6 c .0 .long
@@ -320,19 +329,19 @@ module _ (t : ℕ) where
   -- the pairs are on the stack
   listed-ready : (c : visit-term-lts.After-known-told3 (term-calls t) (visit-term-at t) visit-term.Post)
       → Ready (c .before .before .before .before .before .before .before .visit-list .last .0) (c .before .listed .given .0 .0)
-      × (c .before .before .before .before .before .before .before .before .before .before .before .before .before .before .before .before .before .before .before .before .before .before .before .args .height ≤ c .before .listed .given .0 .1 .0)
+      × (c .before .before .before .before .before .before .before .before .before .before .before .before .before .before .before .before .before .before .before .before .before .before .before .before .args .height ≤ c .before .listed .given .0 .1 .0)
       × (c .before .listed .given .0 .1 .0 ≤ length (c .before .before .before .before .before .before .before .visit-list .last .1 .0))
   listed-ready c =
       let l = c .before .before .before .before .before .before .before in
-      let f = l .before .before .before .before .before .before in
-      let k = args-ready (f .before .before .before .before .before .before .before .before .before .before .pre .1 .0) (term-reads f) (l .before .before .before .before .before .if1 .left) (not-quantifies (l .before .before .before .before)) (l .visit-list .ensures .0) (c .before .listed .given .1) in
+      let f = l .before .before .before .before .before .before .before in
+      let k = args-ready (f .before .before .before .before .before .before .before .before .before .before .pre .1 .0) (term-reads f) (l .before .before .before .before .before .before .if1 .left) (not-quantifies (l .before .before .before .before)) (l .visit-list .ensures .0) (c .before .listed .given .1) in
       (k .0, k .1, k .3)
 
   -- ---- an application
 
   visit-term-close-application-requires : visit-term-lts.Need-close-application-requires (term-calls t) (visit-term-at t) visit-term.Post
   visit-term-close-application-requires c κs =
-      let f = c .before .before .before .before .before .before .before .before .before .before .before .before .before .before .before .before .before in
+      let f = c .before .before .before .before .before .before .before .before .before .before .before .before .before .before .before .before .before .before in
       let k = listed-ready (c .before .before .before .before) in
       let n = term-words (f .before .before .before .before .before .before .before .before .before .before .pre .1 .0) in
       (k .0, n .0, n .1, f .before .before .before .before .term-field2 .ensures .1, k .1, k .2, c .before .before .before .before .before .before .before .before .before .before .before .visit-list .ensures .1 .held _ _ (c .before .before .before .before .before .listed .given .1))
@@ -340,8 +349,8 @@ module _ (t : ℕ) where
   visit-term-returns-5 : visit-term-lts.Need-returns-5 (term-calls t) (visit-term-at t) visit-term.Post
   visit-term-returns-5 c =
       let l = c .before .before .before .before .before .before .before .before .before .before .before .before .before .before in
-      let f = l .before .before .before .before .before .before in
-      (apply-done (f .before .before .before .before .before .before .before .before .before .before .pre .1 .0) (term-reads f) (l .before .before .before .before .before .if1 .left) (not-quantifies (l .before .before .before .before)) (l .visit-list .ensures .0) (c .before .before .before .before .before .before .before .before .listed .given .1) (c .before .before .before .before .before .before .if3 .taken) (c .before .before .close-application .ensures .0) (c .before .before .close-application .ensures .1), c .before .before .close-application .ensures .2)
+      let f = l .before .before .before .before .before .before .before in
+      (apply-done (f .before .before .before .before .before .before .before .before .before .before .pre .1 .0) (term-reads f) (l .before .before .before .before .before .before .if1 .left) (not-quantifies (l .before .before .before .before)) (l .visit-list .ensures .0) (c .before .before .before .before .before .before .before .before .listed .given .1) (c .before .before .before .before .before .before .if3 .taken) (c .before .before .close-application .ensures .0) (c .before .before .close-application .ensures .1), c .before .before .close-application .ensures .2)
 
   visit-term-same-length-7 : visit-term-lts.Need-same-length-7 (term-calls t) (visit-term-at t) visit-term.Post
   visit-term-same-length-7 c = visit-term-returns-5 c .0 .long
@@ -353,7 +362,7 @@ module _ (t : ℕ) where
 
   visit-term-open-let-requires : visit-term-lts.Need-open-let-requires (term-calls t) (visit-term-at t) visit-term.Post
   visit-term-open-let-requires c κs =
-      let f = c .before .before .before .before .before .before .before .before .before .before .before .before .before .before .before .before in
+      let f = c .before .before .before .before .before .before .before .before .before .before .before .before .before .before .before .before .before in
       let k = listed-ready (c .before .before .before) in
       (k .0, f .before .before .before .before .term-field2 .ensures .1, term-words (f .before .before .before .before .before .before .before .before .before .before .pre .1 .0) .0, k .1, k .2)
 
@@ -367,8 +376,8 @@ module _ (t : ℕ) where
   visit-term-visit-term-requires-2 c κs =
       let o = c .before .before .before .before .before .before .before .before in
       let l = o .before .before .before .before .before .before .before .before .before .before .before in
-      let f = l .before .before .before .before .before .before in
-      let k = body-asks (f .before .before .before .before .before .before .before .before .before .before .pre .1 .0) (term-reads f) (l .before .before .before .before .before .if1 .left) (not-quantifies (l .before .before .before .before)) (l .visit-list .ensures .0) (o .before .before .before .before .before .listed .given .1) (o .before .before .before .if3 .left) (o .open-let .ensures .0) (o .open-let .ensures .1) (c .before .before .before .before .opened2 .given .1) in
+      let f = l .before .before .before .before .before .before .before in
+      let k = body-asks (f .before .before .before .before .before .before .before .before .before .before .pre .1 .0) (term-reads f) (l .before .before .before .before .before .before .if1 .left) (not-quantifies (l .before .before .before .before)) (l .visit-list .ensures .0) (o .before .before .before .before .before .listed .given .1) (o .before .before .before .if3 .left) (o .open-let .ensures .0) (o .open-let .ensures .1) (c .before .before .before .before .opened2 .given .1) in
       let indexed = let-indexed (l .visit-list .ensures .1 .held _ _ (o .before .before .before .before .before .listed .given .1)) (f .before .before .before .before .term-field2 .result) (f .before .before .before .before .before .before .before .before .before .before .args .context) (halves true (l .visit-list .last .1 .0) (f .before .before .before .before .before .before .before .before .before .before .args .height) (o .before .before .before .before .before .listed .given .0 .1 .0)) (o .open-let .ensures .1) .held _ _ (c .before .before .before .before .opened2 .given .1) in
       (omega (arith, f .before .before .before .before .before .before .before .before .before .before .pre .0, k .1), (k .0, indexed))
 
@@ -385,8 +394,8 @@ module _ (t : ℕ) where
       let v = c .before .before .before .before .before .before .before in
       let o = v .before .before .before .before .before .before .before .before .before in
       let l = o .before .before .before .before .before .before .before .before .before .before .before in
-      let f = l .before .before .before .before .before .before in
-      body-words (f .before .before .before .before .before .before .before .before .before .before .pre .1 .0) (term-reads f) (l .before .before .before .before .before .if1 .left) (not-quantifies (l .before .before .before .before)) (l .visit-list .ensures .0) (o .before .before .before .before .before .listed .given .1) (o .before .before .before .if3 .left) (o .open-let .ensures .0) (o .open-let .ensures .1) (v .before .before .before .before .before .opened2 .given .1) (v .visit-term2 .ensures .0) (c .before .visited2 .given .1) (λ i. omega (arith, c .before .before .before .before .before .slice-known12 .given i))
+      let f = l .before .before .before .before .before .before .before in
+      body-words (f .before .before .before .before .before .before .before .before .before .before .pre .1 .0) (term-reads f) (l .before .before .before .before .before .before .if1 .left) (not-quantifies (l .before .before .before .before)) (l .visit-list .ensures .0) (o .before .before .before .before .before .listed .given .1) (o .before .before .before .if3 .left) (o .open-let .ensures .0) (o .open-let .ensures .1) (v .before .before .before .before .before .opened2 .given .1) (v .visit-term2 .ensures .0) (c .before .visited2 .given .1) (λ i. omega (arith, c .before .before .before .before .before .slice-known12 .given i))
 
   visit-term-pack-requires : visit-term-lts.Need-pack-requires (term-calls t) (visit-term-at t) visit-term.Post
   visit-term-pack-requires c κs = let-words c
@@ -400,8 +409,8 @@ module _ (t : ℕ) where
       let v = c .before .before .before .before .before .before .before in
       let o = v .before .before .before .before .before .before .before .before .before in
       let l = o .before .before .before .before .before .before .before .before .before .before .before in
-      let f = l .before .before .before .before .before .before in
-      body-ready (f .before .before .before .before .before .before .before .before .before .before .pre .1 .0) (term-reads f) (l .before .before .before .before .before .if1 .left) (not-quantifies (l .before .before .before .before)) (l .visit-list .ensures .0) (o .before .before .before .before .before .listed .given .1) (o .before .before .before .if3 .left) (o .open-let .ensures .0) (o .open-let .ensures .1) (v .before .before .before .before .before .opened2 .given .1) (v .visit-term2 .ensures .0) (c .before .visited2 .given .1)
+      let f = l .before .before .before .before .before .before .before in
+      body-ready (f .before .before .before .before .before .before .before .before .before .before .pre .1 .0) (term-reads f) (l .before .before .before .before .before .before .if1 .left) (not-quantifies (l .before .before .before .before)) (l .visit-list .ensures .0) (o .before .before .before .before .before .listed .given .1) (o .before .before .before .if3 .left) (o .open-let .ensures .0) (o .open-let .ensures .1) (v .before .before .before .before .before .opened2 .given .1) (v .visit-term2 .ensures .0) (c .before .visited2 .given .1)
 
   let-pair : (c : visit-term-lts.After-pack (term-calls t) (visit-term-at t) visit-term.Post)
       → Pair (c .pack .result) (c .before .before .visited2 .given .0 .1 .0) (c .before .before .visited2 .given .0 .1 .1 .0)
@@ -420,7 +429,7 @@ module _ (t : ℕ) where
   visit-term-conclude-requires c κs =
       let d = c .before .before .before in
       let k = let-ready d in
-      let n = term-words (d .before .before .before .before .before .before .before .before .before .before .before .before .before .before .before .before .before .before .before .before .before .before .before .before .before .before .before .before .before .before .before .before .before .before .before .before .before .before .before .before .before .before .before .pre .1 .0) in
+      let n = term-words (d .before .before .before .before .before .before .before .before .before .before .before .before .before .before .before .before .before .before .before .before .before .before .before .before .before .before .before .before .before .before .before .before .before .before .before .before .before .before .before .before .before .before .before .before .pre .1 .0) in
       let h = listed-ready (d .before .before .before .before .before .before .before .before .before .before .before .before .before .before .before .before .before .before .before .before) .1 in (
         k .0,
         omega arith,
@@ -435,8 +444,8 @@ module _ (t : ℕ) where
   visit-term-returns-7 c =
       let o = c .before .before .before .before in
       let l = o .before .before .before .before .before .before .before .before .before .before .before in
-      let f = l .before .before .before .before .before .before in
-      (let-closed (f .before .before .before .before .before .before .before .before .before .before .pre .1 .0) (term-reads f) (l .before .before .before .before .before .if1 .left) (not-quantifies (l .before .before .before .before)) (l .visit-list .ensures .0) (o .before .before .before .before .before .listed .given .1) (o .before .before .before .if3 .left) (o .open-let .ensures .0) (o .open-let .ensures .1) (c .enum-told4 .given .1), full-visit)
+      let f = l .before .before .before .before .before .before .before in
+      (let-closed (f .before .before .before .before .before .before .before .before .before .before .pre .1 .0) (term-reads f) (l .before .before .before .before .before .before .if1 .left) (not-quantifies (l .before .before .before .before)) (l .visit-list .ensures .0) (o .before .before .before .before .before .listed .given .1) (o .before .before .before .if3 .left) (o .open-let .ensures .0) (o .open-let .ensures .1) (c .enum-told4 .given .1), full-visit)
 
   visit-term-same-length-11 : visit-term-lts.Need-same-length-11 (term-calls t) (visit-term-at t) visit-term.Post
   visit-term-same-length-11 c = visit-term-returns-7 c .0 .long
@@ -449,8 +458,8 @@ module _ (t : ℕ) where
       let v = c .before .before .before .before .before .before in
       let o = v .before .before .before .before .before .before .before .before .before in
       let l = o .before .before .before .before .before .before .before .before .before .before .before in
-      let f = l .before .before .before .before .before .before in
-      (body-full (f .before .before .before .before .before .before .before .before .before .before .pre .1 .0) (term-reads f) (l .before .before .before .before .before .if1 .left) (not-quantifies (l .before .before .before .before)) (l .visit-list .ensures .0) (o .before .before .before .before .before .listed .given .1) (o .before .before .before .if3 .left) (o .open-let .ensures .0) (o .open-let .ensures .1) (v .before .before .before .before .before .opened2 .given .1) (v .visit-term2 .ensures .0) (c .enum-told5 .given .1), full-visit)
+      let f = l .before .before .before .before .before .before .before in
+      (body-full (f .before .before .before .before .before .before .before .before .before .before .pre .1 .0) (term-reads f) (l .before .before .before .before .before .before .if1 .left) (not-quantifies (l .before .before .before .before)) (l .visit-list .ensures .0) (o .before .before .before .before .before .listed .given .1) (o .before .before .before .if3 .left) (o .open-let .ensures .0) (o .open-let .ensures .1) (v .before .before .before .before .before .opened2 .given .1) (v .visit-term2 .ensures .0) (c .enum-told5 .given .1), full-visit)
 
   visit-term-same-length-13 : visit-term-lts.Need-same-length-13 (term-calls t) (visit-term-at t) visit-term.Post
   visit-term-same-length-13 c = visit-term-returns-8 c .0 .long
@@ -463,9 +472,9 @@ module _ (t : ℕ) where
       let v = c .before .before .before .before .before .before .before .before .before .before .before .before .before in
       let o = v .before .before .before .before .before .before .before .before .before in
       let l = o .before .before .before .before .before .before .before .before .before .before .before in
-      let f = l .before .before .before .before .before .before in
+      let f = l .before .before .before .before .before .before .before in
       let top = o .before .before .before .before .before .listed .given .0 .1 .0 in (
-        body-done (f .before .before .before .before .before .before .before .before .before .before .pre .1 .0) (term-reads f) (l .before .before .before .before .before .if1 .left) (not-quantifies (l .before .before .before .before)) (l .visit-list .ensures .0) (o .before .before .before .before .before .listed .given .1) (o .before .before .before .if3 .left) (o .open-let .ensures .0) (o .open-let .ensures .1) (v .before .before .before .before .before .opened2 .given .1) (v .visit-term2 .ensures .0) (c .before .before .before .before .before .before .before .visited2 .given .1) (let-pair (c .before .before .before .before .before)) (c .before .before .conclude .ensures .0) (c .before .before .conclude .ensures .1),
+        body-done (f .before .before .before .before .before .before .before .before .before .before .pre .1 .0) (term-reads f) (l .before .before .before .before .before .before .if1 .left) (not-quantifies (l .before .before .before .before)) (l .visit-list .ensures .0) (o .before .before .before .before .before .listed .given .1) (o .before .before .before .if3 .left) (o .open-let .ensures .0) (o .open-let .ensures .1) (v .before .before .before .before .before .opened2 .given .1) (v .visit-term2 .ensures .0) (c .before .before .before .before .before .before .before .visited2 .given .1) (let-pair (c .before .before .before .before .before)) (c .before .before .conclude .ensures .0) (c .before .before .conclude .ensures .1),
         step-indexed (v .visit-term2 .ensures .1 .held _ _ _ (c .before .before .before .before .before .before .before .visited2 .given .1)) 5 (f .before .before .before .before .before .before .before .before .before .before .args .context) (f .before .before .before .before .before .before .before .before .before .before .args .term) (c .before .before .before .before .before .before .before .visited2 .given .0 .1 .0) (halves false (set (v .visit-term2 .last .1 .0) top (c .before .before .before .before .before .pack .result)) (f .before .before .before .before .before .before .before .before .before .before .args .height) (top + 1)) (c .before .before .conclude .ensures .1),
       )
 
@@ -506,6 +515,7 @@ pub +visit-list+visit-term-spec : {M : Type 1} → statement M
     (visit-term-close-variable-requires t)
     (visit-term-same-length t)
     (visit-term-returns t)
+    (visit-term-is-binder-requires t)
     (visit-term-open-quantifier-requires t)
     (visit-term-enum-told t)
     (visit-term-enum-known-opened t)
