@@ -56,7 +56,8 @@ list-none {w} {s} {n} {Γ} {h} {o} {l} asks z = record { long = refl; kept = bel
     go nil k =
         let e : n ≡ countsIn (bundleIn w n) = counts-are w n refl in
         let m : h ≡ h + 0 = omega arith in
-        ListOutcome.done (holds w n (asks .ready .room) (asks .ready .version) refl) (λ i. Listed.Done (e i) (m i)) (halves-none true s h (h + 0) (omega arith)) (halves-none false s h (h + 0) (omega arith))
+        ListOutcome.done (holds w n (asks .ready .room) (asks .ready .version) refl) (λ i. Listed.Done (e i) (m i)) (halves-none true s h (h + 0) (omega arith))
+        (halves-none false s h (h + 0) (omega arith))
     go (cons τ ns) k = absurd (omega (arith, k .0 .0, z))
 
 -- the first link of a list, as the code reads it
@@ -72,7 +73,8 @@ pub record First (b : Bundle) (o l value next : ℕ) (τ : Node) (ns : Nodes) : 
   pub first : Stands b value τ
   pub rest : StandAll b o next ns
 
-first-of : {b : Bundle} {o l value next : ℕ} → LinkReads b l value next → (P : Nodes → Type 0) → ((τ : Node) (ns : Nodes) → First b o l value next τ ns → P (cons τ ns))
+first-of : {b : Bundle} {o l value next : ℕ} → LinkReads b l value next → (P : Nodes → Type 0)
+    → ((τ : Node) (ns : Nodes) → First b o l value next τ ns → P (cons τ ns))
     → (ns : Nodes) → StandAll b o l ns → P ns
 first-of r P f nil k = absurd (r .some k)
 first-of {b} {o} {l} {value} {next} r P f (cons τ ns) k = f τ ns record {
@@ -156,7 +158,8 @@ module _ {w s : List ℕ} {n : Counts} {Γ h o l : ℕ} (asks : ListAsks w s n �
         }
           where
             up : (τ : Node) (ns : Nodes) → VisitDone (visit τ Γ (bundleIn w n)) w1 after x y
-                → ListOutcome (visitAll ns Γ (visit τ Γ (bundleIn w n) .bundle)) (h + 1) w3 s3 r3 → ListOutcome (visitAll (cons τ ns) Γ (bundleIn w n)) h w3 s3 r3
+                → ListOutcome (visitAll ns Γ (visit τ Γ (bundleIn w n) .bundle)) (h + 1) w3 s3 r3
+                → ListOutcome (visitAll (cons τ ns) Γ (bundleIn w n)) h w3 s3 r3
             up τ ns d (ListOutcome.full f e) = ListOutcome.full f e
             up τ ns d (ListOutcome.done hs e p q) =
                 let v = visitAll ns Γ (visit τ Γ (bundleIn w n) .bundle) in

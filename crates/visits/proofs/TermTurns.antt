@@ -31,9 +31,11 @@ use Rattle.expansion.specs.Visit as unlimited
 use Rattle.expansion.specs.Visit.{Visit, visit, visitAll, concluded, closeApplication, closeBinder, openBinder, replacing}
 use Rattle.placing.specs.Outcomes.{VisitOutcome, OpenOutcome, BinderOutcome, Stands, StandAll, TermAsks, TermGives, ListAsks, ListGives}
 use Rattle.expansion.proofs.Grown.{open-longer, visit-longer, visitAll-longer}
-use Rattle.placing.proofs.StandingKept.{stands-on, visit-ends, visitAll-steps, replacing-context, open-context, opening, opening-longer, scope-longer, node-longer, body-longer, block-longer}
+use Rattle.placing.proofs.StandingKept.{stands-on, visit-ends, visitAll-steps, replacing-context, open-context, opening, opening-longer, scope-longer}
+use Rattle.placing.proofs.StandingKept.{node-longer, body-longer, block-longer}
 use Rattle.visits.proofs.Pairs.{Pair, below-same, below-trans, below-set, halves-then}
-use Rattle.placing.proofs.OutcomeFacts.{visit-done, visit-full, OpenDone, open-done, open-full, BinderDone, binder-done, binder-full, ListDone, list-done, list-full, more-full, on, steps-on, steps-are, contexts-are, Words, result-word}
+use Rattle.placing.proofs.OutcomeFacts.{visit-done, visit-full, OpenDone, open-done, open-full, BinderDone, binder-done, binder-full, ListDone, list-done}
+use Rattle.placing.proofs.OutcomeFacts.{list-full, more-full, on, steps-on, steps-are, contexts-are, Words, result-word}
 
 -- ---- the term's record, as the code reads it
 
@@ -86,7 +88,8 @@ module _ {b : Bundle} {t kind first second third : ℕ} (reads : Reads b t kind 
         absurd (false≢true (sym no-binder ∙ is-binder-exactly kind .1 (q, binder-number kind q (reads .kind-is ∙ k .2))))
     listed-only p p′ (block n s vs ns u) k =
         numbers (λ m y. block m y vs ns u) (k .0) (k .3)
-        (p′ vs ns u (reads .kind-is ∙ k .2) (on-second ns (k .4)) (omega (arith, reads .third-is, k .5)) (subst (λ (m : ℕ). Stands b m u) (sym (reads .third-is)) (k .6)))
+        (p′ vs ns u (reads .kind-is ∙ k .2) (on-second ns (k .4)) (omega (arith, reads .third-is, k .5))
+        (subst (λ (m : ℕ). Stands b m u) (sym (reads .third-is)) (k .6)))
 
     application-only : kind ≡ 2 → ((ns : Nodes) → StandAll b t second ns → P (node t first ns)) → (τ : Node) → Stands b t τ → P τ
     application-only e p = listed-only (λ ns i k. p ns k) (λ vs ns u i k low st. absurd (omega (arith, e, i)))
@@ -219,7 +222,8 @@ module _ {w s : List ℕ} {n : Counts} {Γ h t : ℕ} (asks : TermAsks w s n Γ 
           outcome = listed-only reads (λ τ. VisitOutcome (visit τ Γ (bundleIn w n)) w1 Visited.Full) not-1 no-binder
               (λ ns i k. VisitOutcome.full (more-full (node-longer t Γ (bundleIn w n) first ns) (list-full (gave .outcome ns k) e)) refl)
               (λ vs ns u i k low st. VisitOutcome.full
-              (more-full (longer-trans (opening-longer (bundleIn w n) first Γ ns) (block-longer t Γ (bundleIn w n) first vs ns u)) (list-full (gave .outcome ns k) e)) refl);
+              (more-full (longer-trans (opening-longer (bundleIn w n) first Γ ns) (block-longer t Γ (bundleIn w n) first vs ns u))
+              (list-full (gave .outcome ns k) e)) refl);
         }
 
         module _ {bound : Counts} {top : ℕ} (told : r ≡ Listed.Done bound top) where
@@ -241,7 +245,8 @@ module _ {w s : List ℕ} {n : Counts} {Γ h t : ℕ} (asks : TermAsks w s n Γ 
 
           -- an application's visit, from its arguments' and what closed it
           pub apply-done : kind ≡ 2 → {w2 : List ℕ} {r2 : Visited} → length w2 ≡ length w1
-              → VisitOutcome (closeApplication Γ t first (record { bundle = bundleIn w1 bound; results = halves true s1 h top; steps = halves false s1 h top })) w2 r2
+              → VisitOutcome (closeApplication Γ t first (record { bundle = bundleIn w1 bound; results = halves true s1 h top; steps = halves false s1 h top }))
+              w2 r2
               → TermGives w s n Γ h t w2 s1 r2
           unfolding visit
           apply-done e {w2} {r2} long2 g = record {
@@ -320,7 +325,8 @@ module _ {w s : List ℕ} {n : Counts} {Γ h t : ℕ} (asks : TermAsks w s n Γ 
                   -- numbers for a pair, a place for it, and the call that closes the let
                   pub body-words : Words w3 → (x ≤ 4294967295) × (y ≤ 4294967295)
                   body-words word = let-only reads (λ τ. (x ≤ 4294967295) × (y ≤ 4294967295)) not-1 no-binder not-2 (λ vs ns u k low st.
-                      let z = result-word (visit-ends u (opening (bundleIn w n) first Γ ns .context) (opening (bundleIn w n) first Γ ns .bundle)) (visit-done (body-outcome ns k u st) told3) word in
+                      let z = result-word (visit-ends u (opening (bundleIn w n) first Γ ns .context) (opening (bundleIn w n) first Γ ns .bundle))
+                      (visit-done (body-outcome ns k u st) told3) word in
                       (z .0, omega (arith, z .1))) (asks .standing) (asks .stands)
 
                   pub body-ready : Ready w3 after × (top < 1024) × (top < length s3)
@@ -348,7 +354,8 @@ module _ {w s : List ℕ} {n : Counts} {Γ h t : ℕ} (asks : TermAsks w s n Γ 
                         let a = args-done ns k in
                         let d = visit-done (body-outcome ns k u st) told3 in
                         let steps = visitAll ns Γ (bundleIn w n) .steps in
-                        let premises : halves false (set s3 top pair) h (top + 1) ≡ steps ++ (visit u (opening (bundleIn w n) first Γ ns .context) (opening (bundleIn w n) first Γ ns .bundle) .step ∷ []) =
+                        let premises : halves false (set s3 top pair) h (top + 1) ≡ steps
+                        ++ (visit u (opening (bundleIn w n) first Γ ns .context) (opening (bundleIn w n) first Γ ns .bundle) .step ∷ []) =
                         halves-then (gave3 .kept) false h pair (args-ready .1) (body-ready .2)
                         ∙ (λ j. a .steps j ++ ((packed .lower ∙ d .step) j ∷ [])) in
                         subst (λ (v : Visit). VisitOutcome v w4 r4) (λ j. concluded (d .now .bundle j) 5 Γ t (d .result j) (premises j)) g);

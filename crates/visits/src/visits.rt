@@ -35,7 +35,8 @@ pub fn visit_term(
     index: &mut [u16; DIGESTS + Bundle::TERMS + 1],
 ) -> Visited
     requires { ⌜ TermAsks (now words) (now stack) c context height term × Indexed (bundleIn (now words) c) (now index) ⌝ }
-    ensures { λ r. ⌜ TermGives (now (words .entry)) (now (stack .entry)) c context height term (now (words .exit)) (now (stack .exit)) r × VisitIndexed (now (words .exit)) (now (index .exit)) r ⌝ }
+    ensures { λ r. ⌜ TermGives (now (words .entry)) (now (stack .entry)) c context height term (now (words .exit)) (now (stack .exit)) r
+        × VisitIndexed (now (words .exit)) (now (index .exit)) r ⌝ }
 {
     let kind = term_field(words, c, term, 0);
     let first = term_field(words, c, term, 1);
@@ -143,7 +144,8 @@ pub fn visit_list(
     index: &mut [u16; DIGESTS + Bundle::TERMS + 1],
 ) -> Listed
     requires { ⌜ ListAsks (now words) (now stack) c context height owner list × Indexed (bundleIn (now words) c) (now index) ⌝ }
-    ensures { λ r. ⌜ ListGives (now (words .entry)) (now (stack .entry)) c context height owner list (now (words .exit)) (now (stack .exit)) r × ListIndexed (now (words .exit)) (now (index .exit)) r ⌝ }
+    ensures { λ r. ⌜ ListGives (now (words .entry)) (now (stack .entry)) c context height owner list (now (words .exit)) (now (stack .exit)) r
+        × ListIndexed (now (words .exit)) (now (index .exit)) r ⌝ }
 {
     if list == 0 {
         return Listed::Done { counts: c, height };

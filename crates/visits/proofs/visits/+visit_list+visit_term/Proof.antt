@@ -12,7 +12,8 @@ use Rattle.scratch.specs.Scratch.{bundleIn, Ready}
 use Rattle.scratch.specs.Stack.{halves}
 use Rattle.visits.proofs.Pairs.{Pair}
 use Rattle.visits.proofs.ListTurns.{left, left-le, LinkReads, list-none, first-asks, first-full, first-words, first-height, rest-asks, list-more}
-use Rattle.visits.proofs.TermTurns.{Reads, quantified, term-words, term-variable, scope-closed, scope-asks, scope-full, scope-ready, scope-done, args-asks, args-full, args-ready, apply-done, let-closed, body-asks, body-full, body-words, body-ready, body-done}
+use Rattle.visits.proofs.TermTurns.{Reads, quantified, term-words, term-variable, scope-closed, scope-asks, scope-full, scope-ready, scope-done}
+use Rattle.visits.proofs.TermTurns.{args-asks, args-full, args-ready, apply-done, let-closed, body-asks, body-full, body-words, body-ready, body-done}
 use Rattle.placing.proofs.Indexes.{list-holds, full-visit, full-list, step-indexed, leaf-indexed, let-indexed}
 use borrow.Fn.Kinds.{In}
 use borrow.Fn.PlainCycle.{Measures, is, falls, and}
@@ -110,13 +111,20 @@ module _ (t : ℕ) where
 
   -- the list's first link
   link-reads : (c : visit-list-lts.After-link-field2 (list-calls t) (visit-list-at t) visit-list.Post)
-      → LinkReads (bundleIn (c .before .before .before .before .before .before .before .args .words .now) (c .before .before .before .before .before .before .before .args .c)) (c .before .before .before .before .before .before .before .args .list) (c .before .before .link-field .result) (c .link-field2 .result)
-  link-reads c = record { some = c .before .before .before .before .if1 .left; value-is = c .before .before .link-field .ensures .0; next-is = c .link-field2 .ensures .0 }
+      → LinkReads
+      (bundleIn (c .before .before .before .before .before .before .before .args .words .now)
+      (c .before .before .before .before .before .before .before .args .c)) (c .before .before .before .before .before .before .before .args .list)
+      (c .before .before .link-field .result) (c .link-field2 .result)
+  link-reads c =
+      record { some = c .before .before .before .before .if1 .left; value-is = c .before .before .link-field .ensures .0; next-is = c .link-field2 .ensures .0 }
 
   visit-list-visit-term-requires : visit-list-lts.Need-visit-term-requires (list-calls t) (visit-list-at t) visit-list.Post
   visit-list-visit-term-requires c κs =
-      let k = first-asks (c .before .before .before .before .before .before .before .before .before .before .pre .1 .0) (link-reads (c .before .before .before)) in
-      (omega (arith, c .before .before .before .before .before .before .before .before .before .before .pre .0, k .1), (k .0, c .before .before .before .before .before .before .before .before .before .before .pre .1 .1))
+      let k = first-asks (c .before .before .before .before .before .before .before .before .before .before .pre .1 .0)
+      (link-reads (c .before .before .before)) in (
+        omega (arith, c .before .before .before .before .before .before .before .before .before .before .pre .0, k .1),
+        (k .0, c .before .before .before .before .before .before .before .before .before .before .pre .1 .1),
+      )
 
   visit-list-enum-told : visit-list-lts.Need-enum-told (list-calls t) (visit-list-at t) visit-list.Post
   visit-list-enum-told c = search needs
@@ -127,14 +135,20 @@ module _ (t : ℕ) where
   visit-list-pack-requires : visit-list-lts.Need-pack-requires (list-calls t) (visit-list-at t) visit-list.Post
   visit-list-pack-requires c κs =
       let v = c .before .before .before .before .before .before .before in
-      first-words (v .before .before .before .before .before .before .before .before .before .before .before .pre .1 .0) (link-reads (v .before .before .before .before)) (v .visit-term .ensures .0) (c .before .visited .given .1) (λ i. omega (arith, c .before .before .before .before .before .slice-known3 .given i))
+      first-words (v .before .before .before .before .before .before .before .before .before .before .before .pre .1 .0)
+      (link-reads (v .before .before .before .before)) (v .visit-term .ensures .0) (c .before .visited .given .1)
+      (λ i. omega (arith, c .before .before .before .before .before .slice-known3 .given i))
 
   -- a place for the pair
   list-height : (c : visit-list-lts.After-known-told (list-calls t) (visit-list-at t) visit-list.Post)
-      → (c .before .before .before .before .before .before .before .before .before .before .before .before .before .before .before .before .before .before .args .height < 1024) × (c .before .before .before .before .before .before .before .before .before .before .before .before .before .before .before .before .before .before .args .height < length (c .before .before .before .before .before .before .before .visit-term .last .1 .0))
+      → (c .before .before .before .before .before .before .before .before .before .before .before .before .before .before .before .before .before .before .args
+      .height < 1024)
+      × (c .before .before .before .before .before .before .before .before .before .before .before .before .before .before .before .before .before .before
+      .args .height < length (c .before .before .before .before .before .before .before .visit-term .last .1 .0))
   list-height c =
       let v = c .before .before .before .before .before .before .before in
-      let k = first-height (v .before .before .before .before .before .before .before .before .before .before .before .pre .1 .0) (link-reads (v .before .before .before .before)) (v .visit-term .ensures .0) (c .before .visited .given .1) in
+      let k = first-height (v .before .before .before .before .before .before .before .before .before .before .before .pre .1 .0)
+      (link-reads (v .before .before .before .before)) (v .visit-term .ensures .0) (c .before .visited .given .1) in
       (k .1, k .2)
 
   list-pair : (c : visit-list-lts.After-pack (list-calls t) (visit-list-at t) visit-list.Post)
@@ -153,13 +167,20 @@ module _ (t : ℕ) where
   visit-list-visit-list-requires : visit-list-lts.Need-visit-list-requires (list-calls t) (visit-list-at t) visit-list.Post
   visit-list-visit-list-requires c κs =
       let v = c .before .before .before .before .before .before .before .before .before .before .before in
-      let k = rest-asks (v .before .before .before .before .before .before .before .before .before .before .before .pre .1 .0) (link-reads (v .before .before .before .before)) (v .visit-term .ensures .0) (c .before .before .before .before .before .visited .given .1) (list-pair (c .before .before .before)) in
-      (omega (arith, v .before .before .before .before .before .before .before .before .before .before .before .pre .0, k .1), (k .0, v .visit-term .ensures .1 .held _ _ _ (c .before .before .before .before .before .visited .given .1)))
+      let k = rest-asks (v .before .before .before .before .before .before .before .before .before .before .before .pre .1 .0)
+      (link-reads (v .before .before .before .before)) (v .visit-term .ensures .0) (c .before .before .before .before .before .visited .given .1)
+      (list-pair (c .before .before .before)) in (
+        omega (arith, v .before .before .before .before .before .before .before .before .before .before .before .pre .0, k .1),
+        (k .0, v .visit-term .ensures .1 .held _ _ _ (c .before .before .before .before .before .visited .given .1)),
+      )
 
   visit-list-returns-2 : visit-list-lts.Need-returns-2 (list-calls t) (visit-list-at t) visit-list.Post
   visit-list-returns-2 c =
-      let v = c .before .before .before .before .before .before in
-      (first-full (v .before .before .before .before .before .before .before .before .before .before .before .pre .1 .0) (link-reads (v .before .before .before .before)) (v .visit-term .ensures .0) (c .enum-told .given .1), full-list)
+      let v = c .before .before .before .before .before .before in (
+        first-full (v .before .before .before .before .before .before .before .before .before .before .before .pre .1 .0)
+            (link-reads (v .before .before .before .before)) (v .visit-term .ensures .0) (c .enum-told .given .1),
+        full-list,
+      )
 
   visit-list-same-length : visit-list-lts.Need-same-length (list-calls t) (visit-list-at t) visit-list.Post
   visit-list-same-length c = visit-list-returns-2 c .0 .long
@@ -169,8 +190,13 @@ module _ (t : ℕ) where
 
   visit-list-returns-3 : visit-list-lts.Need-returns-3 (list-calls t) (visit-list-at t) visit-list.Post
   visit-list-returns-3 c =
-      let v = c .before .before .before .before .before .before .before .before .before .before .before .before .before .before .before .before in
-      (list-more (v .before .before .before .before .before .before .before .before .before .before .before .pre .1 .0) (link-reads (v .before .before .before .before)) (v .visit-term .ensures .0) (c .before .before .before .before .before .before .before .before .before .before .visited .given .1) (list-pair (c .before .before .before .before .before .before .before .before)) (c .before .before .before .before .visit-list .ensures .0), c .before .before .before .before .visit-list .ensures .1)
+      let v = c .before .before .before .before .before .before .before .before .before .before .before .before .before .before .before .before in (
+        list-more (v .before .before .before .before .before .before .before .before .before .before .before .pre .1 .0)
+            (link-reads (v .before .before .before .before)) (v .visit-term .ensures .0)
+            (c .before .before .before .before .before .before .before .before .before .before .visited .given .1)
+            (list-pair (c .before .before .before .before .before .before .before .before)) (c .before .before .before .before .visit-list .ensures .0),
+        c .before .before .before .before .visit-list .ensures .1,
+      )
 
   visit-list-same-length-3 : visit-list-lts.Need-same-length-3 (list-calls t) (visit-list-at t) visit-list.Post
   visit-list-same-length-3 c = visit-list-returns-3 c .0 .long
@@ -195,7 +221,11 @@ module _ (t : ℕ) where
 
   -- the term's record
   term-reads : (c : visit-term-lts.After-term-field4 (term-calls t) (visit-term-at t) visit-term.Post)
-      → Reads (bundleIn (c .before .before .before .before .before .before .before .before .before .before .args .words .now) (c .before .before .before .before .before .before .before .before .before .before .args .c)) (c .before .before .before .before .before .before .before .before .before .before .args .term) (c .before .before .before .before .before .before .term-field .result) (c .before .before .before .before .term-field2 .result) (c .before .before .term-field3 .result) (c .term-field4 .result)
+      → Reads (bundleIn (c .before .before .before .before .before .before .before .before .before .before .args .words .now)
+      (c .before .before .before .before .before .before .before .before .before .before .args .c))
+      (c .before .before .before .before .before .before .before .before .before .before .args .term)
+      (c .before .before .before .before .before .before .term-field .result) (c .before .before .before .before .term-field2 .result)
+      (c .before .before .term-field3 .result) (c .term-field4 .result)
   term-reads c = record {
     kind-is = c .before .before .before .before .before .before .term-field .ensures .0;
     first-is = c .before .before .before .before .term-field2 .ensures .0;
@@ -212,8 +242,16 @@ module _ (t : ℕ) where
 
   visit-term-returns : visit-term-lts.Need-returns (term-calls t) (visit-term-at t) visit-term.Post
   visit-term-returns c =
-      let v = c .before .before in
-      (term-variable (v .before .before .before .before .before .before .before .before .before .before .before .before .before .pre .1 .0) (term-reads (v .before .before .before)) (v .before .before .if1 .taken) (v .close-variable .ensures .0) (v .close-variable .ensures .1), leaf-indexed (v .before .before .before .before .before .before .before .before .before .before .before .before .before .pre .1 .1) (v .before .before .before .before .before .before .before .before .before .before .before .before .before .args .term) (v .before .before .before .before .before .before .before .term-field2 .result) (v .before .before .before .before .before .before .before .before .before .before .before .before .before .args .context) (v .close-variable .ensures .1))
+      let v = c .before .before in (
+        term-variable (v .before .before .before .before .before .before .before .before .before .before .before .before .before .pre .1 .0)
+            (term-reads (v .before .before .before)) (v .before .before .if1 .taken) (v .close-variable .ensures .0) (v .close-variable .ensures .1),
+        leaf-indexed
+            (v .before .before .before .before .before .before .before .before .before .before .before .before .before .pre .1 .1)
+            (v .before .before .before .before .before .before .before .before .before .before .before .before .before .args .term)
+            (v .before .before .before .before .before .before .before .term-field2 .result)
+            (v .before .before .before .before .before .before .before .before .before .before .before .before .before .args .context)
+            (v .close-variable .ensures .1),
+      )
 
   visit-term-same-length : visit-term-lts.Need-same-length (term-calls t) (visit-term-at t) visit-term.Post
   visit-term-same-length c = visit-term-returns c .0 .long
@@ -223,13 +261,19 @@ module _ (t : ℕ) where
   visit-term-is-binder-requires : visit-term-lts.Need-is-binder-requires (term-calls t) (visit-term-at t) visit-term.Post
   visit-term-is-binder-requires c κs = search needs
 
-  quantifies : (c : visit-term-lts.Then2 (term-calls t) (visit-term-at t) visit-term.Post) → isBinder (c .before .before .before .before .before .before .before .before .before .term-field .result) ≡ true
+  quantifies : (c : visit-term-lts.Then2 (term-calls t) (visit-term-at t) visit-term.Post)
+      → isBinder (c .before .before .before .before .before .before .before .before .before .term-field .result) ≡ true
   quantifies c = sym (c .before .is-binder .ensures) ∙ c .if2 .taken
 
   visit-term-open-quantifier-requires : visit-term-lts.Need-open-quantifier-requires (term-calls t) (visit-term-at t) visit-term.Post
   visit-term-open-quantifier-requires c κs =
-      let f = c .before .before .before .before .before in
-      (f .before .before .before .before .before .before .before .before .before .before .pre .1 .0 .ready, f .before .before .before .before .term-field2 .ensures .1, term-words (f .before .before .before .before .before .before .before .before .before .before .pre .1 .0) .0, f .before .before .before .before .before .before .before .before .before .before .pre .1 .1)
+      let f = c .before .before .before .before .before in (
+        f .before .before .before .before .before .before .before .before .before .before .pre .1 .0 .ready,
+        f .before .before .before .before .term-field2 .ensures .1,
+        term-words
+            (f .before .before .before .before .before .before .before .before .before .before .pre .1 .0) .0,
+        f .before .before .before .before .before .before .before .before .before .before .pre .1 .1,
+      )
 
   visit-term-enum-told : visit-term-lts.Need-enum-told (term-calls t) (visit-term-at t) visit-term.Post
   visit-term-enum-told c = search needs
@@ -241,8 +285,12 @@ module _ (t : ℕ) where
   visit-term-visit-term-requires c κs =
       let o = c .before .before .before .before .before .before .before .before in
       let f = o .before .before .before .before .before .before in
-      let k = scope-asks (f .before .before .before .before .before .before .before .before .before .before .pre .1 .0) (term-reads f) (quantifies (o .before .before .before)) (o .open-quantifier .ensures .0) (o .open-quantifier .ensures .1) (c .before .before .before .before .opened .given .1) in
-      (omega (arith, f .before .before .before .before .before .before .before .before .before .before .pre .0, k .1), (k .0, o .open-quantifier .ensures .2 .held _ _ _ (c .before .before .before .before .opened .given .1)))
+      let k = scope-asks (f .before .before .before .before .before .before .before .before .before .before .pre .1 .0) (term-reads f)
+      (quantifies (o .before .before .before)) (o .open-quantifier .ensures .0) (o .open-quantifier .ensures .1)
+      (c .before .before .before .before .opened .given .1) in (
+        omega (arith, f .before .before .before .before .before .before .before .before .before .before .pre .0, k .1),
+        (k .0, o .open-quantifier .ensures .2 .held _ _ _ (c .before .before .before .before .opened .given .1)),
+      )
 
   visit-term-enum-told-2 : visit-term-lts.Need-enum-told-2 (term-calls t) (visit-term-at t) visit-term.Post
   visit-term-enum-told-2 c = search needs
@@ -256,7 +304,10 @@ module _ (t : ℕ) where
       let o = v .before .before .before .before .before .before .before .before .before in
       let f = o .before .before .before .before .before .before in
       let q = quantifies (o .before .before .before) in
-      let k = scope-ready (f .before .before .before .before .before .before .before .before .before .before .pre .1 .0) (term-reads f) q (o .open-quantifier .ensures .0) (o .open-quantifier .ensures .1) (v .before .before .before .before .before .opened .given .1) (v .visit-term .ensures .0) (c .before .before .before .visited .given .1) (λ i. omega (arith, c .before .before .before .before .before .before .before .slice-known5 .given i)) in
+      let k = scope-ready (f .before .before .before .before .before .before .before .before .before .before .pre .1 .0) (term-reads f) q
+      (o .open-quantifier .ensures .0) (o .open-quantifier .ensures .1) (v .before .before .before .before .before .opened .given .1)
+      (v .visit-term .ensures .0) (c .before .before .before .visited .given .1)
+      (λ i. omega (arith, c .before .before .before .before .before .before .before .slice-known5 .given i)) in
       let n = term-words (f .before .before .before .before .before .before .before .before .before .before .pre .1 .0) in
       let range = quantified (f .before .before .before .before .before .before .term-field .result) q in
       (k .0, n .0, n .1, range .0, range .1, k .1, k .2, k .3, v .visit-term .ensures .1 .held _ _ _ (c .before .before .before .visited .given .1))
@@ -264,8 +315,11 @@ module _ (t : ℕ) where
   visit-term-returns-2 : visit-term-lts.Need-returns-2 (term-calls t) (visit-term-at t) visit-term.Post
   visit-term-returns-2 c =
       let o = c .before .before .before .before in
-      let f = o .before .before .before .before .before .before in
-      (scope-closed (f .before .before .before .before .before .before .before .before .before .before .pre .1 .0) (term-reads f) (quantifies (o .before .before .before)) (o .open-quantifier .ensures .0) (o .open-quantifier .ensures .1) (c .enum-told .given .1), full-visit)
+      let f = o .before .before .before .before .before .before in (
+        scope-closed (f .before .before .before .before .before .before .before .before .before .before .pre .1 .0) (term-reads f)
+            (quantifies (o .before .before .before)) (o .open-quantifier .ensures .0) (o .open-quantifier .ensures .1) (c .enum-told .given .1),
+        full-visit,
+      )
 
   visit-term-same-length-2 : visit-term-lts.Need-same-length-2 (term-calls t) (visit-term-at t) visit-term.Post
   visit-term-same-length-2 c = visit-term-returns-2 c .0 .long
@@ -274,8 +328,12 @@ module _ (t : ℕ) where
   visit-term-returns-3 c =
       let v = c .before .before .before .before .before .before in
       let o = v .before .before .before .before .before .before .before .before .before in
-      let f = o .before .before .before .before .before .before in
-      (scope-full (f .before .before .before .before .before .before .before .before .before .before .pre .1 .0) (term-reads f) (quantifies (o .before .before .before)) (o .open-quantifier .ensures .0) (o .open-quantifier .ensures .1) (v .before .before .before .before .before .opened .given .1) (v .visit-term .ensures .0) (c .enum-told2 .given .1), full-visit)
+      let f = o .before .before .before .before .before .before in (
+        scope-full (f .before .before .before .before .before .before .before .before .before .before .pre .1 .0) (term-reads f)
+            (quantifies (o .before .before .before)) (o .open-quantifier .ensures .0) (o .open-quantifier .ensures .1)
+            (v .before .before .before .before .before .opened .given .1) (v .visit-term .ensures .0) (c .enum-told2 .given .1),
+        full-visit,
+      )
 
   visit-term-same-length-3 : visit-term-lts.Need-same-length-3 (term-calls t) (visit-term-at t) visit-term.Post
   visit-term-same-length-3 c = visit-term-returns-3 c .0 .long
@@ -287,8 +345,14 @@ module _ (t : ℕ) where
   visit-term-returns-4 c =
       let v = c .before .before .before .before .before .before .before .before .before .before .before .before in
       let o = v .before .before .before .before .before .before .before .before .before in
-      let f = o .before .before .before .before .before .before in
-      (scope-done (f .before .before .before .before .before .before .before .before .before .before .pre .1 .0) (term-reads f) (quantifies (o .before .before .before)) (o .open-quantifier .ensures .0) (o .open-quantifier .ensures .1) (v .before .before .before .before .before .opened .given .1) (v .visit-term .ensures .0) (c .before .before .before .before .before .before .visited .given .1) (c .before .before .close-quantifier .ensures .0) (c .before .before .close-quantifier .ensures .1), c .before .before .close-quantifier .ensures .2)
+      let f = o .before .before .before .before .before .before in (
+        scope-done (f .before .before .before .before .before .before .before .before .before .before .pre .1 .0) (term-reads f)
+            (quantifies (o .before .before .before)) (o .open-quantifier .ensures .0) (o .open-quantifier .ensures .1)
+            (v .before .before .before .before .before .opened .given .1) (v .visit-term .ensures .0)
+            (c .before .before .before .before .before .before .visited .given .1) (c .before .before .close-quantifier .ensures .0)
+            (c .before .before .close-quantifier .ensures .1),
+        c .before .before .close-quantifier .ensures .2,
+      )
 
   visit-term-same-length-5 : visit-term-lts.Need-same-length-5 (term-calls t) (visit-term-at t) visit-term.Post
   visit-term-same-length-5 c = visit-term-returns-4 c .0 .long
@@ -298,14 +362,24 @@ module _ (t : ℕ) where
 
   -- ---- the list of arguments, or of bound terms
 
-  not-quantifies : (c : visit-term-lts.Else2 (term-calls t) (visit-term-at t) visit-term.Post) → isBinder (c .before .before .before .before .before .before .before .before .before .term-field .result) ≡ false
+  not-quantifies : (c : visit-term-lts.Else2 (term-calls t) (visit-term-at t) visit-term.Post)
+      → isBinder (c .before .before .before .before .before .before .before .before .before .term-field .result) ≡ false
   not-quantifies c = sym (c .before .is-binder .ensures) ∙ c .if2 .left
 
   visit-term-visit-list-requires : visit-term-lts.Need-visit-list-requires (term-calls t) (visit-term-at t) visit-term.Post
   visit-term-visit-list-requires c κs =
       let f = c .before .before .before .before .before .before in (
-        omega (arith, f .before .before .before .before .before .before .before .before .before .before .pre .0, left-le (f .before .before .term-field3 .result)),
-        (args-asks (f .before .before .before .before .before .before .before .before .before .before .pre .1 .0) (term-reads f) (c .before .before .before .before .before .if1 .left) (not-quantifies (c .before .before .before)), f .before .before .before .before .before .before .before .before .before .before .pre .1 .1),
+        omega (
+          arith,
+          f .before .before .before .before .before .before .before .before .before .before .pre .0,
+          left-le
+              (f .before .before .term-field3 .result),
+        ),
+        (
+          args-asks (f .before .before .before .before .before .before .before .before .before .before .pre .1 .0) (term-reads f)
+              (c .before .before .before .before .before .if1 .left) (not-quantifies (c .before .before .before)),
+          f .before .before .before .before .before .before .before .before .before .before .pre .1 .1,
+        ),
       )
 
   visit-term-enum-told-3 : visit-term-lts.Need-enum-told-3 (term-calls t) (visit-term-at t) visit-term.Post
@@ -317,8 +391,12 @@ module _ (t : ℕ) where
   visit-term-returns-6 : visit-term-lts.Need-returns-6 (term-calls t) (visit-term-at t) visit-term.Post
   visit-term-returns-6 c =
       let l = c .before .before .before .before .before .before in
-      let f = l .before .before .before .before .before .before .before in
-      (args-full (f .before .before .before .before .before .before .before .before .before .before .pre .1 .0) (term-reads f) (l .before .before .before .before .before .before .if1 .left) (not-quantifies (l .before .before .before .before)) (l .visit-list .ensures .0) (c .enum-told3 .given .1), full-visit)
+      let f = l .before .before .before .before .before .before .before in (
+        args-full (f .before .before .before .before .before .before .before .before .before .before .pre .1 .0) (term-reads f)
+            (l .before .before .before .before .before .before .if1 .left) (not-quantifies (l .before .before .before .before)) (l .visit-list .ensures .0)
+            (c .enum-told3 .given .1),
+        full-visit,
+      )
 
   visit-term-same-length-9 : visit-term-lts.Need-same-length-9 (term-calls t) (visit-term-at t) visit-term.Post
   visit-term-same-length-9 c = visit-term-returns-6 c .0 .long
@@ -329,28 +407,46 @@ module _ (t : ℕ) where
   -- the pairs are on the stack
   listed-ready : (c : visit-term-lts.After-known-told3 (term-calls t) (visit-term-at t) visit-term.Post)
       → Ready (c .before .before .before .before .before .before .before .visit-list .last .0) (c .before .listed .given .0 .0)
-      × (c .before .before .before .before .before .before .before .before .before .before .before .before .before .before .before .before .before .before .before .before .before .before .before .before .args .height ≤ c .before .listed .given .0 .1 .0)
+      × (c .before .before .before .before .before .before .before .before .before .before .before .before .before .before .before .before .before .before
+      .before .before .before .before .before .before .args .height ≤ c .before .listed .given .0 .1 .0)
       × (c .before .listed .given .0 .1 .0 ≤ length (c .before .before .before .before .before .before .before .visit-list .last .1 .0))
   listed-ready c =
       let l = c .before .before .before .before .before .before .before in
       let f = l .before .before .before .before .before .before .before in
-      let k = args-ready (f .before .before .before .before .before .before .before .before .before .before .pre .1 .0) (term-reads f) (l .before .before .before .before .before .before .if1 .left) (not-quantifies (l .before .before .before .before)) (l .visit-list .ensures .0) (c .before .listed .given .1) in
+      let k = args-ready (f .before .before .before .before .before .before .before .before .before .before .pre .1 .0) (term-reads f)
+      (l .before .before .before .before .before .before .if1 .left) (not-quantifies (l .before .before .before .before)) (l .visit-list .ensures .0)
+      (c .before .listed .given .1) in
       (k .0, k .1, k .3)
 
   -- ---- an application
 
   visit-term-close-application-requires : visit-term-lts.Need-close-application-requires (term-calls t) (visit-term-at t) visit-term.Post
   visit-term-close-application-requires c κs =
-      let f = c .before .before .before .before .before .before .before .before .before .before .before .before .before .before .before .before .before .before in
+      let f = c .before .before .before .before .before .before .before .before .before .before .before .before .before .before .before .before .before
+      .before in
       let k = listed-ready (c .before .before .before .before) in
-      let n = term-words (f .before .before .before .before .before .before .before .before .before .before .pre .1 .0) in
-      (k .0, n .0, n .1, f .before .before .before .before .term-field2 .ensures .1, k .1, k .2, c .before .before .before .before .before .before .before .before .before .before .before .visit-list .ensures .1 .held _ _ (c .before .before .before .before .before .listed .given .1))
+      let n = term-words (f .before .before .before .before .before .before .before .before .before .before .pre .1 .0) in (
+        k .0,
+        n .0,
+        n .1,
+        f .before .before .before .before .term-field2 .ensures .1,
+        k .1,
+        k .2,
+        c .before .before .before .before .before .before .before .before .before .before .before .visit-list .ensures .1 .held _ _
+            (c .before .before .before .before .before .listed .given .1),
+      )
 
   visit-term-returns-5 : visit-term-lts.Need-returns-5 (term-calls t) (visit-term-at t) visit-term.Post
   visit-term-returns-5 c =
       let l = c .before .before .before .before .before .before .before .before .before .before .before .before .before .before in
-      let f = l .before .before .before .before .before .before .before in
-      (apply-done (f .before .before .before .before .before .before .before .before .before .before .pre .1 .0) (term-reads f) (l .before .before .before .before .before .before .if1 .left) (not-quantifies (l .before .before .before .before)) (l .visit-list .ensures .0) (c .before .before .before .before .before .before .before .before .listed .given .1) (c .before .before .before .before .before .before .if3 .taken) (c .before .before .close-application .ensures .0) (c .before .before .close-application .ensures .1), c .before .before .close-application .ensures .2)
+      let f = l .before .before .before .before .before .before .before in (
+        apply-done (f .before .before .before .before .before .before .before .before .before .before .pre .1 .0) (term-reads f)
+            (l .before .before .before .before .before .before .if1 .left) (not-quantifies (l .before .before .before .before)) (l .visit-list .ensures .0)
+            (c .before .before .before .before .before .before .before .before .listed .given .1)
+            (c .before .before .before .before .before .before .if3 .taken)
+            (c .before .before .close-application .ensures .0) (c .before .before .close-application .ensures .1),
+        c .before .before .close-application .ensures .2,
+      )
 
   visit-term-same-length-7 : visit-term-lts.Need-same-length-7 (term-calls t) (visit-term-at t) visit-term.Post
   visit-term-same-length-7 c = visit-term-returns-5 c .0 .long
@@ -363,8 +459,14 @@ module _ (t : ℕ) where
   visit-term-open-let-requires : visit-term-lts.Need-open-let-requires (term-calls t) (visit-term-at t) visit-term.Post
   visit-term-open-let-requires c κs =
       let f = c .before .before .before .before .before .before .before .before .before .before .before .before .before .before .before .before .before in
-      let k = listed-ready (c .before .before .before) in
-      (k .0, f .before .before .before .before .term-field2 .ensures .1, term-words (f .before .before .before .before .before .before .before .before .before .before .pre .1 .0) .0, k .1, k .2)
+      let k = listed-ready (c .before .before .before) in (
+        k .0,
+        f .before .before .before .before .term-field2 .ensures .1,
+        term-words
+            (f .before .before .before .before .before .before .before .before .before .before .pre .1 .0) .0,
+        k .1,
+        k .2,
+      )
 
   visit-term-enum-told-4 : visit-term-lts.Need-enum-told-4 (term-calls t) (visit-term-at t) visit-term.Post
   visit-term-enum-told-4 c = search needs
@@ -377,8 +479,16 @@ module _ (t : ℕ) where
       let o = c .before .before .before .before .before .before .before .before in
       let l = o .before .before .before .before .before .before .before .before .before .before .before in
       let f = l .before .before .before .before .before .before .before in
-      let k = body-asks (f .before .before .before .before .before .before .before .before .before .before .pre .1 .0) (term-reads f) (l .before .before .before .before .before .before .if1 .left) (not-quantifies (l .before .before .before .before)) (l .visit-list .ensures .0) (o .before .before .before .before .before .listed .given .1) (o .before .before .before .if3 .left) (o .open-let .ensures .0) (o .open-let .ensures .1) (c .before .before .before .before .opened2 .given .1) in
-      let indexed = let-indexed (l .visit-list .ensures .1 .held _ _ (o .before .before .before .before .before .listed .given .1)) (f .before .before .before .before .term-field2 .result) (f .before .before .before .before .before .before .before .before .before .before .args .context) (halves true (l .visit-list .last .1 .0) (f .before .before .before .before .before .before .before .before .before .before .args .height) (o .before .before .before .before .before .listed .given .0 .1 .0)) (o .open-let .ensures .1) .held _ _ (c .before .before .before .before .opened2 .given .1) in
+      let k = body-asks (f .before .before .before .before .before .before .before .before .before .before .pre .1 .0) (term-reads f)
+      (l .before .before .before .before .before .before .if1 .left) (not-quantifies (l .before .before .before .before)) (l .visit-list .ensures .0)
+      (o .before .before .before .before .before .listed .given .1) (o .before .before .before .if3 .left) (o .open-let .ensures .0)
+      (o .open-let .ensures .1) (c .before .before .before .before .opened2 .given .1) in
+      let indexed = let-indexed (l .visit-list .ensures .1 .held _ _ (o .before .before .before .before .before .listed .given .1))
+      (f .before .before .before .before .term-field2 .result)
+      (f .before .before .before .before .before .before .before .before .before .before .args .context)
+      (halves true (l .visit-list .last .1 .0) (f .before .before .before .before .before .before .before .before .before .before .args .height)
+      (o .before .before .before .before .before .listed .given .0 .1 .0)) (o .open-let .ensures .1) .held _ _
+      (c .before .before .before .before .opened2 .given .1) in
       (omega (arith, f .before .before .before .before .before .before .before .before .before .before .pre .0, k .1), (k .0, indexed))
 
   visit-term-enum-told-5 : visit-term-lts.Need-enum-told-5 (term-calls t) (visit-term-at t) visit-term.Post
@@ -395,7 +505,11 @@ module _ (t : ℕ) where
       let o = v .before .before .before .before .before .before .before .before .before in
       let l = o .before .before .before .before .before .before .before .before .before .before .before in
       let f = l .before .before .before .before .before .before .before in
-      body-words (f .before .before .before .before .before .before .before .before .before .before .pre .1 .0) (term-reads f) (l .before .before .before .before .before .before .if1 .left) (not-quantifies (l .before .before .before .before)) (l .visit-list .ensures .0) (o .before .before .before .before .before .listed .given .1) (o .before .before .before .if3 .left) (o .open-let .ensures .0) (o .open-let .ensures .1) (v .before .before .before .before .before .opened2 .given .1) (v .visit-term2 .ensures .0) (c .before .visited2 .given .1) (λ i. omega (arith, c .before .before .before .before .before .slice-known12 .given i))
+      body-words (f .before .before .before .before .before .before .before .before .before .before .pre .1 .0) (term-reads f)
+      (l .before .before .before .before .before .before .if1 .left) (not-quantifies (l .before .before .before .before)) (l .visit-list .ensures .0)
+      (o .before .before .before .before .before .listed .given .1) (o .before .before .before .if3 .left) (o .open-let .ensures .0)
+      (o .open-let .ensures .1) (v .before .before .before .before .before .opened2 .given .1) (v .visit-term2 .ensures .0) (c .before .visited2 .given .1)
+      (λ i. omega (arith, c .before .before .before .before .before .slice-known12 .given i))
 
   visit-term-pack-requires : visit-term-lts.Need-pack-requires (term-calls t) (visit-term-at t) visit-term.Post
   visit-term-pack-requires c κs = let-words c
@@ -403,14 +517,19 @@ module _ (t : ℕ) where
   -- a place for the body's pair
   let-ready : (c : visit-term-lts.After-known-told5 (term-calls t) (visit-term-at t) visit-term.Post)
       → Ready (c .before .before .before .before .before .before .before .visit-term2 .last .0) (c .before .visited2 .given .0 .0)
-      × (c .before .before .before .before .before .before .before .before .before .before .before .before .before .before .before .before .before .before .before .before .before .listed .given .0 .1 .0 < 1024)
-      × (c .before .before .before .before .before .before .before .before .before .before .before .before .before .before .before .before .before .before .before .before .before .listed .given .0 .1 .0 < length (c .before .before .before .before .before .before .before .visit-term2 .last .1 .0))
+      × (c .before .before .before .before .before .before .before .before .before .before .before .before .before .before .before .before .before .before
+      .before .before .before .listed .given .0 .1 .0 < 1024)
+      × (c .before .before .before .before .before .before .before .before .before .before .before .before .before .before .before .before .before .before
+      .before .before .before .listed .given .0 .1 .0 < length (c .before .before .before .before .before .before .before .visit-term2 .last .1 .0))
   let-ready c =
       let v = c .before .before .before .before .before .before .before in
       let o = v .before .before .before .before .before .before .before .before .before in
       let l = o .before .before .before .before .before .before .before .before .before .before .before in
       let f = l .before .before .before .before .before .before .before in
-      body-ready (f .before .before .before .before .before .before .before .before .before .before .pre .1 .0) (term-reads f) (l .before .before .before .before .before .before .if1 .left) (not-quantifies (l .before .before .before .before)) (l .visit-list .ensures .0) (o .before .before .before .before .before .listed .given .1) (o .before .before .before .if3 .left) (o .open-let .ensures .0) (o .open-let .ensures .1) (v .before .before .before .before .before .opened2 .given .1) (v .visit-term2 .ensures .0) (c .before .visited2 .given .1)
+      body-ready (f .before .before .before .before .before .before .before .before .before .before .pre .1 .0) (term-reads f)
+      (l .before .before .before .before .before .before .if1 .left) (not-quantifies (l .before .before .before .before)) (l .visit-list .ensures .0)
+      (o .before .before .before .before .before .listed .given .1) (o .before .before .before .if3 .left) (o .open-let .ensures .0)
+      (o .open-let .ensures .1) (v .before .before .before .before .before .opened2 .given .1) (v .visit-term2 .ensures .0) (c .before .visited2 .given .1)
 
   let-pair : (c : visit-term-lts.After-pack (term-calls t) (visit-term-at t) visit-term.Post)
       → Pair (c .pack .result) (c .before .before .visited2 .given .0 .1 .0) (c .before .before .visited2 .given .0 .1 .1 .0)
@@ -429,23 +548,39 @@ module _ (t : ℕ) where
   visit-term-conclude-requires c κs =
       let d = c .before .before .before in
       let k = let-ready d in
-      let n = term-words (d .before .before .before .before .before .before .before .before .before .before .before .before .before .before .before .before .before .before .before .before .before .before .before .before .before .before .before .before .before .before .before .before .before .before .before .before .before .before .before .before .before .before .before .before .pre .1 .0) in
-      let h = listed-ready (d .before .before .before .before .before .before .before .before .before .before .before .before .before .before .before .before .before .before .before .before) .1 in (
+      let n = term-words
+      (d .before .before .before .before .before .before .before .before .before .before .before .before .before .before .before .before .before .before
+      .before .before .before .before .before .before .before .before .before .before .before .before .before .before .before .before .before .before
+      .before .before .before .before .before .before .before .before .pre .1 .0) in
+      let h = listed-ready
+      (d .before .before .before .before .before .before .before .before .before .before .before .before .before .before .before .before .before .before
+      .before .before) .1 in (
         k .0,
         omega arith,
         n .0,
         n .1,
         let-words d .0,
         omega (arith, h),
-        omega (arith, k .2, length-set (d .before .before .before .before .before .before .before .visit-term2 .last .1 .0) (d .before .before .before .before .before .before .before .before .before .before .before .before .before .before .before .before .before .before .before .before .before .listed .given .0 .1 .0) (c .before .before .pack .result)),
+        omega (
+          arith,
+          k .2,
+          length-set (d .before .before .before .before .before .before .before .visit-term2 .last .1 .0)
+              (d .before .before .before .before .before .before .before .before .before .before .before .before .before .before .before .before .before .before
+              .before .before .before .listed .given .0 .1 .0) (c .before .before .pack .result),
+        ),
       )
 
   visit-term-returns-7 : visit-term-lts.Need-returns-7 (term-calls t) (visit-term-at t) visit-term.Post
   visit-term-returns-7 c =
       let o = c .before .before .before .before in
       let l = o .before .before .before .before .before .before .before .before .before .before .before in
-      let f = l .before .before .before .before .before .before .before in
-      (let-closed (f .before .before .before .before .before .before .before .before .before .before .pre .1 .0) (term-reads f) (l .before .before .before .before .before .before .if1 .left) (not-quantifies (l .before .before .before .before)) (l .visit-list .ensures .0) (o .before .before .before .before .before .listed .given .1) (o .before .before .before .if3 .left) (o .open-let .ensures .0) (o .open-let .ensures .1) (c .enum-told4 .given .1), full-visit)
+      let f = l .before .before .before .before .before .before .before in (
+        let-closed (f .before .before .before .before .before .before .before .before .before .before .pre .1 .0) (term-reads f)
+            (l .before .before .before .before .before .before .if1 .left) (not-quantifies (l .before .before .before .before)) (l .visit-list .ensures .0)
+            (o .before .before .before .before .before .listed .given .1) (o .before .before .before .if3 .left) (o .open-let .ensures .0)
+            (o .open-let .ensures .1) (c .enum-told4 .given .1),
+        full-visit,
+      )
 
   visit-term-same-length-11 : visit-term-lts.Need-same-length-11 (term-calls t) (visit-term-at t) visit-term.Post
   visit-term-same-length-11 c = visit-term-returns-7 c .0 .long
@@ -458,8 +593,13 @@ module _ (t : ℕ) where
       let v = c .before .before .before .before .before .before in
       let o = v .before .before .before .before .before .before .before .before .before in
       let l = o .before .before .before .before .before .before .before .before .before .before .before in
-      let f = l .before .before .before .before .before .before .before in
-      (body-full (f .before .before .before .before .before .before .before .before .before .before .pre .1 .0) (term-reads f) (l .before .before .before .before .before .before .if1 .left) (not-quantifies (l .before .before .before .before)) (l .visit-list .ensures .0) (o .before .before .before .before .before .listed .given .1) (o .before .before .before .if3 .left) (o .open-let .ensures .0) (o .open-let .ensures .1) (v .before .before .before .before .before .opened2 .given .1) (v .visit-term2 .ensures .0) (c .enum-told5 .given .1), full-visit)
+      let f = l .before .before .before .before .before .before .before in (
+        body-full (f .before .before .before .before .before .before .before .before .before .before .pre .1 .0) (term-reads f)
+            (l .before .before .before .before .before .before .if1 .left) (not-quantifies (l .before .before .before .before)) (l .visit-list .ensures .0)
+            (o .before .before .before .before .before .listed .given .1) (o .before .before .before .if3 .left) (o .open-let .ensures .0)
+            (o .open-let .ensures .1) (v .before .before .before .before .before .opened2 .given .1) (v .visit-term2 .ensures .0) (c .enum-told5 .given .1),
+        full-visit,
+      )
 
   visit-term-same-length-13 : visit-term-lts.Need-same-length-13 (term-calls t) (visit-term-at t) visit-term.Post
   visit-term-same-length-13 c = visit-term-returns-8 c .0 .long
@@ -474,8 +614,19 @@ module _ (t : ℕ) where
       let l = o .before .before .before .before .before .before .before .before .before .before .before in
       let f = l .before .before .before .before .before .before .before in
       let top = o .before .before .before .before .before .listed .given .0 .1 .0 in (
-        body-done (f .before .before .before .before .before .before .before .before .before .before .pre .1 .0) (term-reads f) (l .before .before .before .before .before .before .if1 .left) (not-quantifies (l .before .before .before .before)) (l .visit-list .ensures .0) (o .before .before .before .before .before .listed .given .1) (o .before .before .before .if3 .left) (o .open-let .ensures .0) (o .open-let .ensures .1) (v .before .before .before .before .before .opened2 .given .1) (v .visit-term2 .ensures .0) (c .before .before .before .before .before .before .before .visited2 .given .1) (let-pair (c .before .before .before .before .before)) (c .before .before .conclude .ensures .0) (c .before .before .conclude .ensures .1),
-        step-indexed (v .visit-term2 .ensures .1 .held _ _ _ (c .before .before .before .before .before .before .before .visited2 .given .1)) 5 (f .before .before .before .before .before .before .before .before .before .before .args .context) (f .before .before .before .before .before .before .before .before .before .before .args .term) (c .before .before .before .before .before .before .before .visited2 .given .0 .1 .0) (halves false (set (v .visit-term2 .last .1 .0) top (c .before .before .before .before .before .pack .result)) (f .before .before .before .before .before .before .before .before .before .before .args .height) (top + 1)) (c .before .before .conclude .ensures .1),
+        body-done (f .before .before .before .before .before .before .before .before .before .before .pre .1 .0) (term-reads f)
+            (l .before .before .before .before .before .before .if1 .left) (not-quantifies (l .before .before .before .before)) (l .visit-list .ensures .0)
+            (o .before .before .before .before .before .listed .given .1) (o .before .before .before .if3 .left) (o .open-let .ensures .0)
+            (o .open-let .ensures .1) (v .before .before .before .before .before .opened2 .given .1) (v .visit-term2 .ensures .0)
+            (c .before .before .before .before .before .before .before .visited2 .given .1) (let-pair (c .before .before .before .before .before))
+            (c .before .before .conclude .ensures .0) (c .before .before .conclude .ensures .1),
+        step-indexed (v .visit-term2 .ensures .1 .held _ _ _ (c .before .before .before .before .before .before .before .visited2 .given .1)) 5
+            (f .before .before .before .before .before .before .before .before .before .before .args .context)
+            (f .before .before .before .before .before .before .before .before .before .before .args .term)
+            (c .before .before .before .before .before .before .before .visited2 .given .0 .1 .0)
+            (halves false (set (v .visit-term2 .last .1 .0) top (c .before .before .before .before .before .pack .result))
+            (f .before .before .before .before .before .before .before .before .before .before .args .height) (top + 1))
+            (c .before .before .conclude .ensures .1),
       )
 
   visit-term-same-length-15 : visit-term-lts.Need-same-length-15 (term-calls t) (visit-term-at t) visit-term.Post
