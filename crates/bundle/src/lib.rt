@@ -3,7 +3,7 @@
 // limits, length exact. What it gives is said of the bundle that the file stands for, `bundleAt`.
 ghost use mathlib.Core.Path.{_≡_};
 ghost use Prim.Native.Nat.{_≤_, _<_};
-ghost use Rattle.bundle.specs.Limits.{limits, setWords, leastBytes, headerWords, symbolsAt, variablesAt, termsAt, linksAt, contextsAt, stepsAt};
+ghost use Rattle.bundle.specs.Limits.{limits, setWords, leastBytes, symbolsAt, variablesAt, termsAt, linksAt, contextsAt, stepsAt};
 ghost use Rattle.bundle.specs.Limits.{bytesOf, withinOf, Within};
 ghost use Rattle.bundle.specs.Limits.{sections, extentOf};
 

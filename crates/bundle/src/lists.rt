@@ -1,7 +1,5 @@
 // Walks of lists of links. A walk goes on while its link is not 0; it ends by itself, whatever the links are.
 ghost use mathlib.Core.Path.{_≡_};
-ghost use Prim.Native.Nat.{ℕ, _≤_};
-ghost use lib.ListN.{length};
 ghost use Rattle.bundle.specs.Links.{follows, nextOf, startsAt, items};
 ghost use Rattle.bundle.specs.File.{Whole, bundleAt};
 ghost use Rattle.bundle.specs.Lists.{sameList, numbers, each, has, different};

@@ -56,5 +56,8 @@ pub fn all_lower(
         i = next_link(file, b, i);
         left -= 1;
     }
+    if i == 0 {
+        return true;
+    }
     far_lower(file, b, lower, i, n)
 }

@@ -1,6 +1,6 @@
 // Fields of records, by the record's number. See `termField` and the like in specs/Bundle.antt for the order of the fields.
 ghost use mathlib.Core.Path.{_≡_};
-ghost use Prim.Native.Nat.{ℕ, _+_, _*_, _≤_, _<_};
+ghost use Prim.Native.Nat.{_+_, _*_, _≤_, _<_};
 ghost use lib.ListN.{length};
 ghost use Rattle.bundle.specs.Words.{wordAt};
 ghost use Rattle.bundle.specs.Bundle.{at, symbolOf, sortOfVariable, termOf, linkOf, contextOf, stepOf, symbolField, termField, linkField, contextField};

@@ -97,9 +97,9 @@ fn late_fault(file: &[u8], b: Bundle, sorts: &[usize], free: &[u64]) -> Fault
         let mut few_moved = [0u64; Bundle::SET_WORDS * 8];
         return late_fault_in(file, b, sorts, free, &mut few_images, &mut few_moved);
     }
-    if b.contexts < 64 {
-        let mut some_images = [0u16; Bundle::VARIABLES * 64];
-        let mut some_moved = [0u64; Bundle::SET_WORDS * 64];
+    if b.contexts < 32 {
+        let mut some_images = [0u16; Bundle::VARIABLES * 32];
+        let mut some_moved = [0u64; Bundle::SET_WORDS * 32];
         return late_fault_in(file, b, sorts, free, &mut some_images, &mut some_moved);
     }
     let mut images = [0u16; Bundle::VARIABLES * (Bundle::CONTEXTS + 1)];

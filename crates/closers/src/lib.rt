@@ -5,7 +5,7 @@ ghost use mathlib.Core.Bool.{true, false};
 ghost use mathlib.Core.List.{[], _∷_};
 ghost use Prim.Native.Nat.{_≤_};
 ghost use lib.ListN.{length};
-ghost use Rattle.logic.specs.Terms.{Binder, binder, numberOf};
+ghost use Rattle.logic.specs.Terms.{Binder, binder, numberOf, isBinder};
 ghost use Rattle.scratch.specs.Scratch.{bundleIn, Ready};
 ghost use Rattle.scratch.specs.Stack.{halves};
 ghost use Rattle.filing.specs.Filing.{Indexed};
@@ -277,7 +277,8 @@ pub fn close_quantifier(
     step: usize,
     index: &mut [u16; DIGESTS + Bundle::TERMS + 1],
 ) -> Visited
-    requires { ⌜ Ready (now words) c × (context ≤ 4294967295) × (term ≤ 4294967295) × (3 ≤ kind) × (kind ≤ 4) × (y ≤ 4294967295) × (result ≤ 4294967295)
+    requires { ⌜ Ready (now words) c × (context ≤ 4294967295) × (term ≤ 4294967295) × (isBinder kind ≡ true) × (kind ≤ 4294967295) × (y ≤ 4294967295)
+        × (result ≤ 4294967295)
         × (step ≤ 4294967295) × Indexed (bundleIn (now words) c) (now index) ⌝ }
     ensures { λ r. ⌜ (length (now (words .exit)) ≡ length (now (words .entry)))
         × ((q : Binder) → kind ≡ numberOf (binder q) → VisitOutcome

@@ -8,7 +8,7 @@ use Rattle.logic.specs.Tests.{firstFailing, fault, orElse}
 use Rattle.logic.specs.Checks.{tablesFault}
 use Rattle.judgement.proofs.Sizes.{SmallFault, failing-le, none-small, else-small, next-small, tables-small}
 use Rattle.expansion.specs.declared.Answer.the-variants.{Refused}
-use Rattle.expansion.specs.Expansion.{longEnough, jobTests, jobFault, Outcome, expansion}
+use Rattle.expansion.specs.Expansion.{longEnough, jobTests, jobFault, expansion}
 use Rattle.expansion.proofs.JobChecks.{refused-job-where}
 
 job-small : (f : List ℕ) (out words sets : ℕ) → SmallFault (jobFault f out words sets)

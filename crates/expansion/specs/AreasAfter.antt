@@ -1,7 +1,7 @@
 -- What `expand` leaves, and what is left before the zeros are written.
 use Prim.Native.Nat.{ℕ, _≤_}
 use mathlib.Core.Path.{_≡_}
-use mathlib.Core.List.{List, [], _∷_}
+use mathlib.Core.List.{List}
 use lib.ListN.{length, take}
 use Rattle.bundle.specs.File.{bundleOf}
 use Rattle.expansion.specs.declared.Answer.{Answer}

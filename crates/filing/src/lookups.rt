@@ -103,7 +103,7 @@ pub fn find_application(
 }
 
 // Whether term t has this kind, which is a binder's, this variable and this body.
-fn is_binder(words: &[u32], c: Bundle, t: usize, kind: usize, y: usize, body: usize) -> bool
+fn same_binder(words: &[u32], c: Bundle, t: usize, kind: usize, y: usize, body: usize) -> bool
     requires { ⌜ Roomy (now words) c ⌝ }
     ensures { λ r. ⌜ ((q : Binder) → kind ≡ numberOf (binder q) → r ≡ sameBinder q y body (termOf (bundleIn (now (words .entry)) c) t)) ⌝ }
 {
@@ -129,7 +129,7 @@ pub fn find_binder(
     let mut found = 0;
     let mut t = wide(index[d]);
     while t != 0 {
-        let same = is_binder(words, c, t, kind, y, body);
+        let same = same_binder(words, c, t, kind, y, body);
         found = if same { t } else { found };
         t = wide(index[DIGESTS + t]);
     }

@@ -6,13 +6,13 @@
 --     replaces-lists           then its lists have variables, all different, and terms
 use mathlib.Core.Path.{_≡_, refl, sym, ap, _∙_}
 use mathlib.Core.Bool.{Bool, true, false, false≢true}
-use mathlib.Core.List.{List, [], _∷_, map}
+use mathlib.Core.List.{[], _∷_, map}
 use Prim.Native.Nat.{ℕ, _≤_, _<_}
 use native.Mathlib.Omega.{arith}
 use native.Mathlib.Decide.{ℕ-discrete}
 use lib.ListN.{length}
-use lib.Dec.{eqb, ltb, leb}
-use borrow.Author.Tests.{eqb-true, ltb-true, ne-eqb, eq-eqb}
+use lib.Dec.{eqb, ltb}
+use borrow.Author.Tests.{ltb-true}
 use Rattle.bundle.specs.Bundle.{Bundle, sortOfVariable, contextOf}
 use Rattle.bundle.specs.Links.{items}
 use Rattle.bundle.specs.Lists.{numbers, each, different, sameList}

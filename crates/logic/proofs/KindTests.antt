@@ -28,6 +28,11 @@ module _ (k : ℕ) (not2 : k ≡ 2 → ⊥) (no-binder : isBinder k ≡ false) (
   pub kind-other : (k ≡ 1 → ⊥) → kindOf k ≡ other
   kind-other not1 = rw (kind-rest, ne-eqb k 1 not1)
 
+-- a binder has no list
+pub binder-no-list : (k : ℕ) → isBinder k ≡ true → (k ≡ 2 → ⊥) × (k ≡ 5 → ⊥)
+unfolding isBinder
+binder-no-list k e = (λ z. false≢true (rw z at e), λ z. false≢true (rw z at e))
+
 -- the code's test of a kind with a list of terms: neither 2 nor 5, or one of them
 pub kind-none : (k : ℕ) → (k ≡ 1 → ⊥) → isBinder k ≡ false → (not (eqb k 2) && not (eqb k 5)) ≡ true → kindOf k ≡ other
 kind-none k not1 no-binder neither =

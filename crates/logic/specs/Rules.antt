@@ -3,7 +3,7 @@
 use Prim.Native.Nat.{ℕ, _-_}
 use mathlib.Core.Bool.{Bool, true, false, cond, not, _&&_, _||_}
 use mathlib.Core.List.{List, [], _∷_}
-use lib.ListN.{length, getD}
+use lib.ListN.{length}
 use lib.Dec.{eqb, leb}
 use Rattle.bundle.specs.Bundle.{Bundle, Step, termOf, contextOf, stepOf}
 use Rattle.bundle.specs.Links.{items}

@@ -1,5 +1,5 @@
 -- DEMAND 3 WHOLE.
-use mathlib.Core.Path.{_≡_, sym, subst, _∙_}
+use mathlib.Core.Path.{sym, subst, _∙_}
 use mathlib.Core.List.{List}
 use lib.ListN.{take}
 use Rattle.judgement.proofs.Demands.{accepted-sound}

@@ -11,15 +11,16 @@
 --     binder-full, binder-over, binder-on        what a quantifier opens: no room for its term, none for its contexts, room
 --     binder-of                                  the binder of a kind
 use mathlib.Core.Path.{_≡_, refl, sym, ap, subst, _∙_}
+use mathlib.Core.Bool.{true}
 use mathlib.Core.List.{List, [], _∷_}
 use Prim.Native.Nat.{ℕ, zero, suc, _≤_}
-use native.Mathlib.Decide.{decLe}
 use native.Mathlib.Omega.{arith}
 use lib.ListN.{length, length-append}
 use Rattle.bundle.specs.declared.Bundle.{Bundle as Counts}
 use Rattle.bundle.specs.Bundle.{Bundle, TermRecord, Context, sortOfVariable}
 use Rattle.logic.specs.declared.Image.the-variants.{Own, Gives}
-use Rattle.logic.specs.Terms.{Binder, forAll, exists, binder, numberOf}
+use Rattle.logic.specs.Terms.{Binder, binder, numberOf, isBinder}
+use Rattle.logic.proofs.TermKinds.{binder-kind, is-binder-exactly}
 use Rattle.logic.specs.Contexts.{image}
 use Rattle.logic.specs.Lookup.{seek, sameVariable, sameApplication, sameBinder}
 use Rattle.logic.specs.Longer.{withVariables, withTerms, withContexts, withSteps, addList, listStart}
@@ -255,9 +256,5 @@ module _ (b : Bundle) {w : List ℕ} {a : Recorded} {c : Counts} {n : ℕ} where
       )
 
 -- the binder of a kind
-pub binder-of : (k : ℕ) → 3 ≤ k → k ≤ 4 → (q : Binder) × (k ≡ numberOf (binder q))
-binder-of k l h = go (decLe k 3)
-  where
-    go : Dec (k ≤ 3) → (q : Binder) × (k ≡ numberOf (binder q))
-    go (yes e) = (forAll, omega arith)
-    go (no e) = (exists, omega arith)
+pub binder-of : (k : ℕ) → isBinder k ≡ true → (q : Binder) × (k ≡ numberOf (binder q))
+binder-of k e = let h = is-binder-exactly k .0 e in (h .0, binder-kind k (h .0) (h .1))

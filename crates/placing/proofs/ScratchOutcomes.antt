@@ -7,7 +7,7 @@
 --     list-over, variable-over, term-over, context-over, step-over     a section that has no room: one more is too much
 --     longer-over                               a bundle that is longer than one that is too much
 --     start-word, placed-word, given-word       where a list starts, a term that is placed, an image's term: words of 32 bits
-use mathlib.Core.Path.{_≡_, refl, sym, ap, ap₂, subst, _∙_}
+use mathlib.Core.Path.{_≡_, sym, ap, ap₂, subst, _∙_}
 use mathlib.Core.List.{List, [], _∷_}
 use Prim.Native.Nat.{ℕ, zero, suc, _+_, _≤_, _<_}
 use native.Mathlib.Omega.{arith}

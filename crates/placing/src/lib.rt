@@ -6,7 +6,7 @@ ghost use mathlib.Core.List.{[], _∷_};
 ghost use Prim.Native.Nat.{suc, _≤_, _<_};
 ghost use lib.ListN.{length};
 ghost use Rattle.bundle.specs.Filed.{digests};
-ghost use Rattle.logic.specs.Terms.{Binder, binder, numberOf};
+ghost use Rattle.logic.specs.Terms.{Binder, binder, numberOf, isBinder};
 ghost use Rattle.logic.specs.Longer.{withTerms, withContexts, withSteps};
 ghost use Rattle.scratch.specs.Scratch.{bundleIn, Ready};
 ghost use Rattle.scratch.specs.Stack.{halves};
@@ -275,7 +275,8 @@ pub fn place_binder(
     body: usize,
     index: &mut [u16; DIGESTS + Bundle::TERMS + 1],
 ) -> Recorded
-    requires { ⌜ Ready (now words) c × (3 ≤ kind) × (kind ≤ 4) × (y ≤ 4294967295) × (body ≤ 4294967295) × Indexed (bundleIn (now words) c) (now index) ⌝ }
+    requires { ⌜ Ready (now words) c × (isBinder kind ≡ true) × (kind ≤ 4294967295) × (y ≤ 4294967295) × (body ≤ 4294967295)
+        × Indexed (bundleIn (now words) c) (now index) ⌝ }
     ensures { λ r. ⌜ (length (now (words .exit)) ≡ length (now (words .entry)))
         × ((q : Binder) → kind ≡ numberOf (binder q) → PlaceOutcome (placeBinder (bundleIn (now (words .entry)) c) q y body) (now (words .exit)) r)
         × RecordIndexed (now (words .exit)) (now (index .exit)) r ⌝ }

@@ -6,7 +6,7 @@ ghost use lib.ListN.{length};
 ghost use Rattle.bundle.specs.Limits.{limits};
 ghost use Rattle.bundle.specs.File.{Whole, bundleAt};
 ghost use Rattle.logic.specs.Tests.{passed};
-ghost use Rattle.logic.specs.Rules.{carries, isImage, reflHoldsBy, congWhere, transTestsBy, transSideBy, bindTermsBy, bindContextsBy, freeInImageBy};
+ghost use Rattle.logic.specs.Rules.{isImage, reflHoldsBy, congWhere, transTestsBy, transSideBy, bindTermsBy, bindContextsBy, freeInImageBy};
 ghost use Rattle.logic.specs.Rules.{bindSidesBy, letTestsBy};
 ghost use Rattle.rules.specs.StepWords.{asStep};
 ghost use Rattle.images.specs.LentReading.{Lent, freeIn, stepIn, imagesIn, allSettledIn};

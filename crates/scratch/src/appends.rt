@@ -1,7 +1,7 @@
 // One record appended to a section that has room.
 ghost use mathlib.Core.Path.{_≡_};
 ghost use mathlib.Core.List.{[], _∷_};
-ghost use Prim.Native.Nat.{ℕ, _≤_, _<_};
+ghost use Prim.Native.Nat.{_≤_, _<_};
 ghost use lib.ListN.{length};
 ghost use Rattle.bundle.specs.Limits.{limits};
 ghost use Rattle.logic.specs.Longer.{withVariables, withTerms, withLinks, withContexts, withSteps};

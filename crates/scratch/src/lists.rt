@@ -1,13 +1,13 @@
 // Lists of links in the scratch: walks, and lists appended.
 ghost use mathlib.Core.Path.{_≡_};
-ghost use mathlib.Core.Bool.{Bool, true, false};
+ghost use mathlib.Core.Bool.{true, false};
 ghost use mathlib.Core.List.{[], _∷_};
-ghost use Prim.Native.Nat.{ℕ, suc, _+_, _-_, _≤_, _<_};
+ghost use Prim.Native.Nat.{suc, _+_, _-_, _≤_, _<_};
 ghost use lib.ListN.{length};
 ghost use Rattle.bundle.specs.Limits.{limits};
 ghost use Rattle.bundle.specs.Links.{nextOf, items};
 ghost use Rattle.bundle.specs.Lists.{sameList};
-ghost use Rattle.logic.specs.Longer.{addList, startOf};
+ghost use Rattle.logic.specs.Longer.{addList};
 ghost use Rattle.scratch.specs.Scratch.{bundleIn, Roomy};
 ghost use Rattle.scratch.specs.Stack.{halfOf, halves};
 use super::appends::append_link;

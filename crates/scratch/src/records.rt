@@ -1,7 +1,7 @@
 // Fields of records in the scratch, by the record's number.
 ghost use mathlib.Core.Path.{_≡_};
-ghost use Prim.Native.Nat.{ℕ, _+_, _*_, _≤_, _<_};
-ghost use lib.ListN.{length, getD};
+ghost use Prim.Native.Nat.{_+_, _*_, _≤_, _<_};
+ghost use lib.ListN.{length};
 ghost use Rattle.bundle.specs.Bundle.{at, sortOfVariable, termOf, linkOf, contextOf, termField, linkField, contextField};
 ghost use Rattle.bundle.specs.File.{tab, recordBy};
 ghost use Rattle.scratch.specs.Scratch.{wordIn, bundleIn, Roomy};

@@ -1,6 +1,6 @@
 // Sets of variables in lent words, for any number of words a set. Laws of membership are in proofs/Members.antt.
 ghost use mathlib.Core.Path.{_≡_};
-ghost use Prim.Native.Nat.{ℕ, _+_, _^_, _≤_, _<_};
+ghost use Prim.Native.Nat.{_+_, _^_, _≤_, _<_};
 ghost use lib.ListN.{length};
 ghost use Rattle.sets.specs.Sets.{bitAt, withBit, withoutBit, member, inserted, removed, cleared, united, disjointOf};
 

@@ -5,7 +5,7 @@
 --     some-start       a list is not empty
 --     replicate-cons, variables-cons, variables-nil     the equation of the first list, for sorts that are all the same and for those of variables
 use mathlib.Core.Path.{_≡_, refl, sym, ap, _∙_}
-use mathlib.Core.Bool.{Bool, false, not, _&&_}
+use mathlib.Core.Bool.{false, not, _&&_}
 use mathlib.Core.List.{List, [], _∷_, map}
 use Prim.Native.Nat.{ℕ, zero, suc, _-_, _≤_}
 use native.Mathlib.Omega.{arith}

@@ -48,7 +48,7 @@ slice-aggregate-late-fault-in-4 c = search needs
 late-fault-in-requires-2 : tie.Need-late-fault-in-requires-2
 late-fault-in-requires-2 c κs =
     let s = c .before .before .before .before .before .before .before .before .before in
-    asks (s .args .file .now) (s .args .b) 64 (s .pre .0) (s .pre .1) (s .pre .2) (c .before .before .if2 .taken)
+    asks (s .args .file .now) (s .args .b) 32 (s .pre .0) (s .pre .1) (s .pre .2) (c .before .before .if2 .taken)
 
 returns-2 : tie.Need-returns-2
 returns-2 c = c .before .before .late-fault-in2 .ensures

@@ -22,7 +22,7 @@ conclude-one-requires : tie.Need-conclude-one-requires
 conclude-one-requires c κs =
     let s = c .before .before .before .before .before .before .before .before .before .before in
     let a = s .args in
-    let q = binder-of (a .kind) (s .pre .3) (s .pre .4) in
+    let q = binder-of (a .kind) (s .pre .3) in
     let k = binder-asks (bundleIn (a .words .now) (a .c)) (q .0) (a .y) (a .result)
     (c .before .before .before .before .before .before .place-binder .ensures .1 (q .0) (q .1))
     (c .before .before .placed .given .1) in

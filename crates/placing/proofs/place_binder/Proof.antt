@@ -3,7 +3,7 @@ use Rattle.logic.specs.Terms.{binder, numberOf}
 use mathlib.Core.Path.{refl, subst}
 use mathlib.Core.List.{[]}
 use Prim.Native.Nat.{ℕ}
-use native.Mathlib.Omega.{arith}
+use Rattle.logic.proofs.KindTests.{binder-no-list}
 use Rattle.scratch.specs.Scratch.{bundleIn}
 use Rattle.placing.specs.Outcomes.{PlaceOutcome}
 use Rattle.placing.proofs.CallOutcomes.{termed, no-list, found-is, term-on}
@@ -39,15 +39,16 @@ add-term-requires : tie.Need-add-term-requires
 add-term-requires c κs =
     let s = c .before .before .before .before .before .before .before .before in
     let a = s .args in
-    let d = c .before .before .before .before .before .before .root-digest in (
+    let d = c .before .before .before .before .before .before .root-digest in
+    let no-list-of = binder-no-list (a .kind) (s .pre .1) in (
       s .pre .0,
-      omega arith,
+      s .pre .2,
       s .pre .3,
       s .pre .4,
       s .pre .5,
       d .ensures .1,
       plain-filed (bundleIn (a .words .now) (a .c)) (a .kind) (a .y) (a .body)
-          (d .result) (λ e. omega arith) (λ e. omega arith) (d .ensures .0),
+          (d .result) (no-list-of .0) (no-list-of .1) (d .ensures .0),
     )
 
 same-length-2 : tie.Need-same-length-2

@@ -9,7 +9,7 @@ use Rattle.bundle.specs.Links.{items}
 use Rattle.bundle.specs.Lists.{numbers, each}
 use Rattle.bundle.specs.File.{bundleAt}
 use Rattle.bundle.proofs.Walks.{walk-start, walk-start-le, walk-le}
-use Rattle.bundle.proofs.NumberLists.{each-on, each-here, both-some}
+use Rattle.bundle.proofs.NumberLists.{each-nil, each-on, each-here, both-some}
 use Rattle.bundle.proofs.notes.all_lower.Statement.{statement}
 use Rattle.bundle.proofs.notes.all_lower.Tie as tie
 
@@ -66,16 +66,24 @@ loop-again c =
       l .inv .1 ∙ each-on (a .file .now) (a .b) (a .n) (l .i) (x .result) (r .result) (some .0) (l .inv .0) (x .ensures) (r .ensures) (c .before .if1 .left),
     )
 
+returns-2 : tie.Need-returns-2 Inv-loop μ-loop
+returns-2 c =
+    let s = c .before .before .before .before .before .before in
+    let l = c .before .before .loop in
+    (sym (l .inv .1 ∙ each-nil (s .args .file .now) (s .args .b) (s .args .n) (l .i) (c .if2 .taken)), λ e. s .pre .1)
+
 far-lower-requires : tie.Need-far-lower-requires Inv-loop μ-loop
 far-lower-requires c κs =
-    (c .before .before .before .before .before .before .pre .0, c .before .before .before .before .before .before .pre .1, c .before .before .loop .inv .0)
+    let s = c .before .before .before .before .before .before .before in
+    (s .pre .0, s .pre .1, c .before .before .before .loop .inv .0)
 
 same-length : tie.Need-same-length Inv-loop μ-loop
 same-length c = search needs
 
-returns-2 : tie.Need-returns-2 Inv-loop μ-loop
-returns-2 c =
-    (c .before .before .far-lower .ensures .0 ∙ sym (c .before .before .before .before .before .loop .inv .1), c .before .before .far-lower .ensures .1)
+returns-3 : tie.Need-returns-3 Inv-loop μ-loop
+returns-3 c =
+    let f = c .before .before .far-lower in
+    (f .ensures .0 ∙ sym (c .before .before .before .before .before .before .loop .inv .1), f .ensures .1)
 
 pub all-lower-spec : {M : Type 1} → statement M
 all-lower-spec =
@@ -91,6 +99,7 @@ all-lower-spec =
     sub-left
     loop-less
     loop-again
+    returns-2
     far-lower-requires
     same-length
-    returns-2)
+    returns-3)

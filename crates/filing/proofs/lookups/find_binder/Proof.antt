@@ -43,8 +43,8 @@ loop-holds c =
           (λ j t. binder-digest (bundleIn (a .words .now) (a .c)) q (a .y) (a .body) _ t ∙ ap (λ (k : ℕ). rootDigest k (a .y)) (sym f) ∙ sym (k .pre .3)) e,
     )
 
-is-binder-requires : tie.Need-is-binder-requires Inv-loop μ-loop
-is-binder-requires c κs = search needs
+same-binder-requires : tie.Need-same-binder-requires Inv-loop μ-loop
+same-binder-requires c κs = search needs
 
 add-wide : tie.Need-add-wide Inv-loop μ-loop
 add-wide c = omega (arith, c .before .before .before .loop .inv .0, c .before .before .before .before .before .before .before .pre .0 .within .terms)
@@ -73,8 +73,8 @@ loop-again c =
     let e : c .wide2 .result ≡ getD (k .args .index .now) (2048 + l .t) 0 = c .wide2 .ensures in (
       omega (arith, l .inv .0, sought-less filed some e),
       λ q f. ⊎-elim
-          (λ w. sought-hit filed (l .inv .1 q f) some e (c .before .before .before .is-binder .ensures q f) (w .0 .taken) (w .1))
-          (λ w. sought-miss filed (l .inv .1 q f) some e (c .before .before .before .is-binder .ensures q f) (w .0 .left) (w .1))
+          (λ w. sought-hit filed (l .inv .1 q f) some e (c .before .before .before .same-binder .ensures q f) (w .0 .taken) (w .1))
+          (λ w. sought-miss filed (l .inv .1 q f) some e (c .before .before .before .same-binder .ensures q f) (w .0 .left) (w .1))
           (c .before .before .if1 .came),
     )
 
@@ -94,7 +94,7 @@ find-binder-spec =
     element-copy-out-wide
     wide-requires
     loop-holds
-    is-binder-requires
+    same-binder-requires
     add-wide
     mul-wide-2
     element-copy-out-wide-2

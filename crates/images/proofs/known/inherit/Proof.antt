@@ -1,6 +1,5 @@
 -- `known::inherit` meets its contract: a row copied, and a set cleared and united with the parent's.
 use native.Mathlib.Omega.{arith}
-use Prim.Native.Nat.{_+_, _*_, _≤_}
 use Rattle.bundle.specs.File.{bundleAt}
 use Rattle.bundle.proofs.Fields.{variables-length}
 use Rattle.images.proofs.ContextRows.{row-copied, parent-words, inherited, set-copied}

@@ -1,6 +1,5 @@
 -- `records::section_lines` is safe and ends: it counts up to the last record.
 use borrow.Author.Needs.{needs}
-use native.Mathlib.Omega.{arith}
 use Prim.Native.Nat.{_+_, _-_, _≤_}
 use Rattle.show_records.proofs.records.section_lines.Statement.{statement}
 use Rattle.show_records.proofs.records.section_lines.Tie as tie

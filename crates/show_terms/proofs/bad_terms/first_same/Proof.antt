@@ -1,6 +1,5 @@
 -- `bad_terms::first_same` is safe and ends: it counts up to the term.
 use borrow.Author.Needs.{needs}
-use native.Mathlib.Omega.{arith}
 use Prim.Native.Nat.{_-_, _≤_}
 use Rattle.show_terms.proofs.bad_terms.first_same.Statement.{statement}
 use Rattle.show_terms.proofs.bad_terms.first_same.Tie as tie

@@ -1,7 +1,6 @@
 -- `duplicates::mixed_items` meets its contract. The invariant: the digest of all is the digest so far with as many items more as are left to take.
 -- The measure is how many those are.
 use borrow.Author.Needs.{needs}
-use native.Mathlib.Omega.{arith}
 use Prim.Native.Nat.{_≤_, _<_}
 use mathlib.Core.Path.{_≡_, sym, ap, _∙_}
 use Rattle.bundle.specs.Links.{items}

@@ -310,7 +310,7 @@ module _ (t : ℕ) where
       (λ i. omega (arith, c .before .before .before .before .before .before .before .slice-known5 .given i)) in
       let n = term-words (f .before .before .before .before .before .before .before .before .before .before .pre .1 .0) in
       let range = quantified (f .before .before .before .before .before .before .term-field .result) q in
-      (k .0, n .0, n .1, range .0, range .1, k .1, k .2, k .3, v .visit-term .ensures .1 .held _ _ _ (c .before .before .before .visited .given .1))
+      (k .0, n .0, n .1, q, omega (arith, range .1), k .1, k .2, k .3, v .visit-term .ensures .1 .held _ _ _ (c .before .before .before .visited .given .1))
 
   visit-term-returns-2 : visit-term-lts.Need-returns-2 (term-calls t) (visit-term-at t) visit-term.Post
   visit-term-returns-2 c =
