@@ -13,7 +13,7 @@ use super::records::link_field;
 
 // Whether each item from link `start` on is 1 to n: up to a link from which that is noted. Each link on the way is noted before the rest of its
 // list is known, so what is noted holds only where the answer is yes.
-fn far_lower(file: &[u8], b: Bundle, lower: &mut [u8], start: usize, n: usize) -> bool
+pub fn far_lower(file: &[u8], b: Bundle, lower: &mut [u8], start: usize, n: usize) -> bool
     requires { ⌜ Whole (now file) b × LowerNoted (now file) b n (now lower) × (start ≤ b .links) ⌝ }
     ensures { λ r. ⌜ (r ≡ each (numbers n) (items (bundleAt (now (file .entry)) b) start))
         × (r ≡ true → LowerNoted (now (file .entry)) b n (now (lower .exit))) ⌝ }
@@ -33,21 +33,14 @@ fn far_lower(file: &[u8], b: Bundle, lower: &mut [u8], start: usize, n: usize) -
     true
 }
 
-// Whether each item of a list is 1 to n. The first links, so many as `plain` says, are not noted: most lists of terms end before any is.
-pub fn all_lower(
-    file: &[u8],
-    b: Bundle,
-    lower: &mut [u8],
-    list: usize,
-    n: usize,
-    plain: usize,
-) -> bool
+// Whether each item of a list is 1 to n. The first links are not noted: most lists of terms end before any is.
+pub fn all_lower(file: &[u8], b: Bundle, lower: &mut [u8], list: usize, n: usize) -> bool
     requires { ⌜ Whole (now file) b × LowerNoted (now file) b n (now lower) ⌝ }
     ensures { λ r. ⌜ (r ≡ each (numbers n) (items (bundleAt (now (file .entry)) b) list))
         × (r ≡ true → LowerNoted (now (file .entry)) b n (now (lower .exit))) ⌝ }
 {
     let mut i = first_link(b, list);
-    let mut left = plain;
+    let mut left = 8usize;
     while (i != 0) & (left != 0) {
         let x = link_field(file, b, i, 0);
         if (x == 0) | (x > n) {

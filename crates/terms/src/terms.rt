@@ -58,7 +58,7 @@ pub fn term_refers(file: &[u8], b: Bundle, lower: &mut [u8], i: usize) -> bool
     if (kind != APPLICATION) & (kind != LET) {
         return false;
     }
-    let terms = all_lower(file, b, lower, second, below, 8);
+    let terms = all_lower(file, b, lower, second, below);
     if kind == APPLICATION {
         let symbol = is_known(signature_of(b, first));
         return symbol & (second <= links) & terms & (third == 0);

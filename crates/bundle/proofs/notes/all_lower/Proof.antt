@@ -14,11 +14,11 @@ use Rattle.bundle.proofs.notes.all_lower.Statement.{statement}
 use Rattle.bundle.proofs.notes.all_lower.Tie as tie
 
 abbrev Inv-loop : tie.InvT-loop
-Inv-loop file b lower list n plain i₀ left₀ i left = (i ≤ b .links)
+Inv-loop file b lower list n i₀ left₀ i left = (i ≤ b .links)
     × (each (numbers n) (items (bundleAt file b) list) ≡ each (numbers n) (items (bundleAt file b) i))
 
 abbrev μ-loop : tie.MeasureT-loop
-μ-loop file b lower list n plain i₀ left₀ i left = left
+μ-loop file b lower list n i₀ left₀ i left = left
 
 first-link-requires : tie.Need-first-link-requires Inv-loop μ-loop
 first-link-requires c κs = search needs
