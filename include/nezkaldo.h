@@ -21,7 +21,7 @@ extern "C" {
  * enough. It may hold anything before. Accepted: bit v-1 of word i-1 is set exactly where variable v is free in term i; the rest is zero.
  * Refused: all zero.
  *
- * It takes at most 60 KB of stack, whatever the file.
+ * It takes at most 80 KB of stack, whatever the file.
  *
  * Both pointers are never null; with length 0 they may point anywhere that is aligned. The areas do not overlap. */
 uint64_t nezkaldo_check(const uint8_t *file, size_t file_length, uint64_t *free, size_t free_length);
