@@ -23,7 +23,8 @@ use logic::Fault;
 use logic::kinds::FIXES;
 use logic::kinds::REPLACES;
 use logic::no_fault;
-use sorting::sorts::lists_agree;
+use sorting::sorts::some_different;
+use sorting::sorts::variables_fit;
 
 // 10: whether the kind of context i is one, its unused field is zero, its lists agree, and it refers to variables, terms and a lower context.
 fn context_refers(file: &[u8], b: Bundle, sorts: &[usize], i: usize) -> bool
@@ -42,8 +43,14 @@ fn context_refers(file: &[u8], b: Bundle, sorts: &[usize], i: usize) -> bool
     if kind == REPLACES {
         let replaced = all_numbers(file, b, first, variables);
         let terms = all_numbers(file, b, second, b.terms);
-        let agree = lists_agree(file, b, sorts, first, second);
-        return (first <= links) & replaced & (second <= links) & terms & agree & (parent < i);
+        let distinct = some_different(file, b, first);
+        let fit = variables_fit(file, b, sorts, first, second);
+        return (first <= links)
+            & replaced
+            & (second <= links)
+            & terms
+            & (distinct & fit)
+            & (parent < i);
     }
     false
 }

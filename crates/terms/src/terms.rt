@@ -26,9 +26,10 @@ use logic::kinds::is_binder;
 use logic::no_fault;
 use sorting::sorts::arguments_fit;
 use sorting::sorts::is_known;
-use sorting::sorts::lists_agree;
 use sorting::sorts::signature_of;
+use sorting::sorts::some_different;
 use sorting::sorts::sort_in;
+use sorting::sorts::variables_fit;
 
 // Whether x is a record's number in a section of n.
 fn is_number(n: usize, x: usize) -> bool
@@ -82,7 +83,9 @@ pub fn term_sorted(file: &[u8], b: Bundle, sorts: &[usize], fitting: &mut [u16],
         return sort_in(sorts, second) == 0;
     }
     if kind == LET {
-        return lists_agree(file, b, sorts, first, second);
+        let distinct = some_different(file, b, first);
+        let fit = variables_fit(file, b, sorts, first, second);
+        return distinct & fit;
     }
     true
 }

@@ -6,7 +6,8 @@ use lib.Dec.{eqb}
 use Rattle.bundle.specs.Bundle.{Bundle, TermRecord}
 use Rattle.bundle.proofs.Fields.{symbols-length}
 use Rattle.logic.specs.Terms.{variable, other}
-use Rattle.logic.specs.Checks.{sortedAs, sorted}
+use Rattle.logic.specs.Tests.{passed}
+use Rattle.logic.specs.Checks.{listsAgree, sortedAs, sorted}
 use Rattle.logic.proofs.KindTests.{kind-binder, kind-rest}
 use Rattle.terms.proofs.terms.term_sorted.Statement.{statement}
 use Rattle.terms.proofs.terms.term_sorted.Tie as tie
@@ -73,20 +74,24 @@ returns-2 c =
           c .before .before .before .before .before .before .before .before .before .before .pre .2,
     )
 
-lists-agree-requires : tie.Need-lists-agree-requires
-lists-agree-requires c κs = search needs
+some-different-requires : tie.Need-some-different-requires
+some-different-requires c κs = search needs
+
+variables-fit-requires : tie.Need-variables-fit-requires
+variables-fit-requires c κs = search needs
 
 returns-3 : tie.Need-returns-3
-unfolding sorted
+unfolding sorted listsAgree passed
 returns-3 c = (
   rw (
-    ← c .before .before .before .before .before .before .before .term-field .ensures,
-    c .before .if3 .taken,
-    ← c .before .before .before .before .before .before .term-field2 .ensures,
-    ← c .before .before .before .before .before .term-field3 .ensures,
-    ← c .lists-agree .ensures,
+    ← c .before .before .before .before .before .before .before .before .term-field .ensures,
+    c .before .before .if3 .taken,
+    ← c .before .before .before .before .before .before .before .term-field2 .ensures,
+    ← c .before .before .before .before .before .before .term-field3 .ensures,
+    ← c .before .some-different .ensures,
+    ← c .variables-fit .ensures,
   ),
-  λ e. c .before .before .before .before .before .before .before .before .before .before .before .pre .2,
+  λ e. c .before .before .before .before .before .before .before .before .before .before .before .before .pre .2,
 )
 
 returns-4 : tie.Need-returns-4
@@ -115,6 +120,7 @@ term-sorted-spec =
     is-binder-requires
     sort-in-requires
     returns-2
-    lists-agree-requires
+    some-different-requires
+    variables-fit-requires
     returns-3
     returns-4)
