@@ -9,6 +9,8 @@ ghost use Rattle.bundle.specs.File.{Whole, bundleAt};
 ghost use Rattle.bundle.specs.Filed.{digests};
 ghost use Rattle.logic.specs.Checks.{sameField, sameTerm, isNew};
 ghost use Rattle.terms.specs.Digests.{mixItems, mixField, termDigest, FiledBelow};
+ghost use Rattle.terms.specs.TermWords.{asTerm};
+use super::TermWords;
 use bundle::Bundle;
 use bundle::digests::DIGESTS;
 use bundle::digests::mixed;
@@ -53,19 +55,16 @@ fn mixed_field(file: &[u8], b: Bundle, list: bool, d: usize, x: usize) -> usize
     }
 }
 
-// The digest of the record of term i.
-pub fn digest(file: &[u8], b: Bundle, i: usize) -> usize
+// The digest of a term's record, by its words.
+pub fn digest(file: &[u8], b: Bundle, w: TermWords) -> usize
     requires { ⌜ Whole (now file) b ⌝ }
-    ensures { λ r. ⌜ (r ≡ termDigest (bundleAt (now (file .entry)) b) (termOf (bundleAt (now (file .entry)) b) i)) × (r < digests) ⌝ }
+    ensures { λ r. ⌜ (r ≡ termDigest (bundleAt (now (file .entry)) b) (asTerm w)) × (r < digests) ⌝ }
 {
-    let kind = term_field(file, b, i, 0);
-    let first = term_field(file, b, i, 1);
-    let second = term_field(file, b, i, 2);
-    let third = term_field(file, b, i, 3);
+    let kind = w.kind;
     let d = mixed(0, kind);
-    let d1 = mixed_field(file, b, kind == LET, d, first);
-    let d2 = mixed_field(file, b, (kind == APPLICATION) | (kind == LET), d1, second);
-    mixed(d2, third)
+    let d1 = mixed_field(file, b, kind == LET, d, w.first);
+    let d2 = mixed_field(file, b, (kind == APPLICATION) | (kind == LET), d1, w.second);
+    mixed(d2, w.third)
 }
 
 // Whether two fields are the same: as lists, item by item, or as numbers.

@@ -15,6 +15,14 @@ use declarations::section_fault;
 use logic::Fault;
 use sorting::notes::note_sorts;
 
+// The words of a term.
+pub struct TermWords {
+    pub kind: usize,
+    pub first: usize,
+    pub second: usize,
+    pub third: usize,
+}
+
 // The first bad record of links, symbols, variables, terms, where the sorts of all terms are noted.
 pub fn sections_fault(file: &[u8], b: Bundle, sorts: &[usize]) -> Fault
     requires { ⌜ Whole (now file) b × Sorted (now file) b (now sorts) ⌝ }

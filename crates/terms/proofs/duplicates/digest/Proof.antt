@@ -1,20 +1,8 @@
--- `duplicates::digest` meets its contract: the definition, on the fields that the readers give.
+-- `duplicates::digest` meets its contract: the definition, on the words.
 use borrow.Author.Needs.{needs}
 use Rattle.terms.specs.Digests.{termDigest}
 use Rattle.terms.proofs.duplicates.digest.Statement.{statement}
 use Rattle.terms.proofs.duplicates.digest.Tie as tie
-
-term-field-requires : tie.Need-term-field-requires
-term-field-requires c κs = search needs
-
-term-field-requires-2 : tie.Need-term-field-requires-2
-term-field-requires-2 c κs = search needs
-
-term-field-requires-3 : tie.Need-term-field-requires-3
-term-field-requires-3 c κs = search needs
-
-term-field-requires-4 : tie.Need-term-field-requires-4
-term-field-requires-4 c κs = search needs
 
 mixed-requires : tie.Need-mixed-requires
 mixed-requires c κs = search needs
@@ -32,10 +20,6 @@ returns : tie.Need-returns
 unfolding termDigest
 returns c = (
   rw (
-    ← c .before .before .before .before .before .before .before .term-field .ensures,
-    ← c .before .before .before .before .before .before .term-field2 .ensures,
-    ← c .before .before .before .before .before .term-field3 .ensures,
-    ← c .before .before .before .before .term-field4 .ensures,
     ← c .before .before .before .mixed .ensures .0,
     ← c .before .before .mixed-field .ensures .0,
     ← c .before .mixed-field2 .ensures .0,
@@ -48,10 +32,6 @@ pub digest-spec : {M : Type 1} → statement M
 digest-spec =
     tie.close
     (tie.spec
-    term-field-requires
-    term-field-requires-2
-    term-field-requires-3
-    term-field-requires-4
     mixed-requires
     mixed-field-requires
     mixed-field-requires-2
