@@ -3,9 +3,10 @@
 --     done-start, done-on           at the start; after a word with no bit from j on
 --     least-here, least-over        a bit is found: it is that of the least member, or of a number above the last one
 --     least-end                     all words are done
+--     least-some, least-none        what a caller learns, where the answer is a number and where it is 0
 use mathlib.Core.Path.{_≡_, refl, ap, _∙_}
 use mathlib.Core.List.{List}
-use mathlib.Core.Bool.{false}
+use mathlib.Core.Bool.{Bool, true, false}
 use Prim.Native.Nat.{ℕ, _+_, _-_, _*_, _/_, _%_, _≤_, _<_}
 use native.Mathlib.Omega.{arith}
 use native.Mathlib.Decide.{decLe}
@@ -70,3 +71,12 @@ module _ (w : List ℕ) (at n v : ℕ) where
       go : (x : ℕ) → v ≤ x → Dec (x ≤ 64 * k + j) → member w at n x ≡ false
       go x l (yes e) = done .below x l e
       go x l (no e) = beyond x (omega arith)
+
+module _ {p : ℕ → Bool} {v last r : ℕ} where
+  pub least-some : Least p v last r → (r ≡ 0 → ⊥) → (v ≤ r) × (r ≤ last) × (p r ≡ true) × ((x : ℕ) → v ≤ x → x < r → p x ≡ false)
+  least-some (none-is e h) some = absurd (some e)
+  least-some (least-is l m e h) some = (l, m, e, h)
+
+  pub least-none : Least p v last r → 1 ≤ v → r ≡ 0 → (x : ℕ) → v ≤ x → x ≤ last → p x ≡ false
+  least-none (none-is e h) pos gone = h
+  least-none (least-is l m e h) pos gone = absurd (omega arith)
