@@ -23,6 +23,7 @@ use images::images::image_of;
 use images::images::is_free;
 use images::images::is_settled;
 use images::images::is_variable;
+use images::images::next_free;
 use logic::Image;
 use logic::kinds::APPLICATION;
 use logic::kinds::FIXES;
@@ -221,17 +222,17 @@ pub fn bind_sides(
     if is_free(b, area, n, left, y) {
         return false;
     }
-    let mut z = b.variables;
-    while z != 0 {
-        if is_free(b, area, n, left, z) {
-            let image = image_of(b, images, context, z);
-            if free_in_image(b, area, n, image, z, y) {
-                return false;
-            }
+    let mut z = 0;
+    loop {
+        z = next_free(b, area, n, left, z + 1);
+        if z == 0 {
+            return true;
         }
-        z -= 1;
+        let image = image_of(b, images, context, z);
+        if free_in_image(b, area, n, image, z, y) {
+            return false;
+        }
     }
-    true
 }
 
 // ---- LET
