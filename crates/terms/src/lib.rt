@@ -5,7 +5,6 @@ ghost use Rattle.bundle.specs.File.{Whole, bundleAt};
 ghost use Rattle.logic.specs.Checks.{sectionsFault, tablesFault};
 ghost use Rattle.sorting.specs.Notes.{Sorted};
 
-pub mod duplicates; // duplicates.rt: 9
 pub mod terms; // terms.rt: 7, 8, and all of a term
 
 use bundle::Bundle;
@@ -14,14 +13,6 @@ use declarations::Section;
 use declarations::section_fault;
 use logic::Fault;
 use sorting::notes::note_sorts;
-
-// The words of a term.
-pub struct TermWords {
-    pub kind: usize,
-    pub first: usize,
-    pub second: usize,
-    pub third: usize,
-}
 
 // The first bad record of links, symbols, variables, terms, where the sorts of all terms are noted.
 pub fn sections_fault(file: &[u8], b: Bundle, sorts: &[usize]) -> Fault

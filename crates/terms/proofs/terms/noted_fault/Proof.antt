@@ -12,9 +12,9 @@ use Rattle.bundle.proofs.Filed.{filed-none}
 use Rattle.bundle.proofs.LinkNotes.{zeros, noted-none, lower-up}
 use Rattle.logic.specs.Checks.{termFault, termsFault}
 use Rattle.logic.proofs.Firsts.{restFault, rest-start, rest-on, rest-here, rest-end}
-use Rattle.terms.specs.Digests.{termDigest, FiledBelow}
+use Rattle.duplicates.specs.Digests.{termDigest, FiledBelow}
 use Rattle.sorting.specs.Notes.{SortsFit, Fitting}
-use Rattle.terms.proofs.Digests.{term-filed}
+use Rattle.duplicates.proofs.Digests.{term-filed}
 use Rattle.terms.proofs.terms.noted_fault.Statement.{statement}
 use Rattle.terms.proofs.terms.noted_fault.Tie as tie
 

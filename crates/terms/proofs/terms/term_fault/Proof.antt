@@ -9,7 +9,7 @@ use Rattle.bundle.specs.Bundle.{Bundle, TermRecord, termOf}
 use Rattle.logic.specs.Terms.{kindOf}
 use Rattle.logic.specs.Tests.{passed}
 use Rattle.logic.specs.Checks.{refersAs, sortedAs, isNew, termFault}
-use Rattle.terms.specs.TermWords.{asTerm}
+use Rattle.duplicates.specs.TermWords.{asTerm}
 use Rattle.terms.proofs.terms.term_fault.Statement.{statement}
 use Rattle.terms.proofs.terms.term_fault.Tie as tie
 

@@ -18,7 +18,7 @@ use Rattle.bundle.proofs.Filed.{mix-small, filed-on, Sought, sought-lowest}
 use Rattle.logic.specs.Checks.{firstIsList, secondIsList, sameField, sameTerm, isNew}
 use Rattle.logic.proofs.Tests.{passed-each, same-list, not-in, up-to-all}
 use Rattle.logic.proofs.Passes.{new-before}
-use Rattle.terms.specs.Digests.{mixItems, mixField, termDigest, FiledBelow}
+use Rattle.duplicates.specs.Digests.{mixItems, mixField, termDigest, FiledBelow}
 
 -- ---- the first items of a list, along a walk
 

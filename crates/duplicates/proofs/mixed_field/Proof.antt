@@ -1,8 +1,8 @@
--- `duplicates::mixed_field` meets its contract: the definition, by whether the field is a list.
+-- `mixed_field` meets its contract: the definition, by whether the field is a list.
 use borrow.Author.Needs.{needs}
-use Rattle.terms.specs.Digests.{mixField}
-use Rattle.terms.proofs.duplicates.mixed_field.Statement.{statement}
-use Rattle.terms.proofs.duplicates.mixed_field.Tie as tie
+use Rattle.duplicates.specs.Digests.{mixField}
+use Rattle.duplicates.proofs.mixed_field.Statement.{statement}
+use Rattle.duplicates.proofs.mixed_field.Tie as tie
 
 mixed-items-requires : tie.Need-mixed-items-requires
 mixed-items-requires c κs = search needs

@@ -1,9 +1,9 @@
--- `duplicates::same_term` meets its contract: the tests of `sameTerm` in their order, on the fields that the readers give.
+-- `same_term` meets its contract: the tests of `sameTerm` in their order, on the fields that the readers give.
 use borrow.Author.Needs.{needs}
 use borrow.Author.Tests.{eq-eqb, ne-eqb}
 use Rattle.logic.specs.Checks.{sameTerm}
-use Rattle.terms.proofs.duplicates.same_term.Statement.{statement}
-use Rattle.terms.proofs.duplicates.same_term.Tie as tie
+use Rattle.duplicates.proofs.same_term.Statement.{statement}
+use Rattle.duplicates.proofs.same_term.Tie as tie
 
 term-field-requires : tie.Need-term-field-requires
 term-field-requires c κs = search needs

@@ -1,6 +1,6 @@
 -- A term as the code holds it.
 use Rattle.bundle.specs.Bundle.{TermRecord}
-use Rattle.terms.specs.declared.TermWords.{TermWords}
+use Rattle.duplicates.specs.declared.TermWords.{TermWords}
 
 -- the record whose words the code holds
 abbrev pub asTerm : TermWords → TermRecord

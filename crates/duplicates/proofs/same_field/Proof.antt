@@ -1,8 +1,8 @@
--- `duplicates::same_field` meets its contract: the definition, by whether the field is a list.
+-- `same_field` meets its contract: the definition, by whether the field is a list.
 use borrow.Author.Needs.{needs}
 use Rattle.logic.specs.Checks.{sameField}
-use Rattle.terms.proofs.duplicates.same_field.Statement.{statement}
-use Rattle.terms.proofs.duplicates.same_field.Tie as tie
+use Rattle.duplicates.proofs.same_field.Statement.{statement}
+use Rattle.duplicates.proofs.same_field.Tie as tie
 
 same-list-requires : tie.Need-same-list-requires
 same-list-requires c κs = search needs

@@ -1,4 +1,4 @@
--- `duplicates::is_new` meets its contract. The invariant: the walk stands at 0 or a lower term, and whatever has the record of term i is on the
+-- `is_new` meets its contract. The invariant: the walk stands at 0 or a lower term, and whatever has the record of term i is on the
 -- chain from there. Chains fall, so the measure is where it stands.
 use borrow.Author.Needs.{needs}
 use native.Mathlib.Omega.{arith}
@@ -7,9 +7,9 @@ use mathlib.Core.Path.{_≡_, refl, sym, _∙_}
 use lib.ListN.{getD}
 use Rattle.bundle.specs.File.{bundleAt}
 use Rattle.bundle.proofs.Filed.{Sought, sought-start, sought-less, sought-miss}
-use Rattle.terms.proofs.Digests.{same-digest, same, new-at-end, not-new}
-use Rattle.terms.proofs.duplicates.is_new.Statement.{statement}
-use Rattle.terms.proofs.duplicates.is_new.Tie as tie
+use Rattle.duplicates.proofs.Digests.{same-digest, same, new-at-end, not-new}
+use Rattle.duplicates.proofs.is_new.Statement.{statement}
+use Rattle.duplicates.proofs.is_new.Tie as tie
 
 abbrev Inv-loop : tie.InvT-loop
 Inv-loop file b heads next i d j₀ j = Sought (λ k. getD next k 0) (i - 1) (same (bundleAt file b) i) j 0

@@ -8,9 +8,8 @@ ghost use Rattle.bundle.specs.Links.{items};
 ghost use Rattle.bundle.specs.File.{Whole, bundleAt};
 ghost use Rattle.bundle.specs.Filed.{digests};
 ghost use Rattle.logic.specs.Checks.{sameField, sameTerm, isNew};
-ghost use Rattle.terms.specs.Digests.{mixItems, mixField, termDigest, FiledBelow};
-ghost use Rattle.terms.specs.TermWords.{asTerm};
-use super::TermWords;
+ghost use Rattle.duplicates.specs.Digests.{mixItems, mixField, termDigest, FiledBelow};
+ghost use Rattle.duplicates.specs.TermWords.{asTerm};
 use bundle::Bundle;
 use bundle::digests::DIGESTS;
 use bundle::digests::mixed;
@@ -22,6 +21,14 @@ use bundle::records::link_field;
 use bundle::records::term_field;
 use logic::kinds::APPLICATION;
 use logic::kinds::LET;
+
+// The words of a term.
+pub struct TermWords {
+    pub kind: usize,
+    pub first: usize,
+    pub second: usize,
+    pub third: usize,
+}
 
 // A digest and the first items of a list.
 fn mixed_items(file: &[u8], b: Bundle, d: usize, list: usize) -> usize

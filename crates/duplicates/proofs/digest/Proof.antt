@@ -1,8 +1,8 @@
--- `duplicates::digest` meets its contract: the definition, on the words.
+-- `digest` meets its contract: the definition, on the words.
 use borrow.Author.Needs.{needs}
-use Rattle.terms.specs.Digests.{termDigest}
-use Rattle.terms.proofs.duplicates.digest.Statement.{statement}
-use Rattle.terms.proofs.duplicates.digest.Tie as tie
+use Rattle.duplicates.specs.Digests.{termDigest}
+use Rattle.duplicates.proofs.digest.Statement.{statement}
+use Rattle.duplicates.proofs.digest.Tie as tie
 
 mixed-requires : tie.Need-mixed-requires
 mixed-requires c κs = search needs

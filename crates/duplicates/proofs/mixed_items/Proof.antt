@@ -1,4 +1,4 @@
--- `duplicates::mixed_items` meets its contract. The invariant: the digest of all is the digest so far with as many items more as are left to take.
+-- `mixed_items` meets its contract. The invariant: the digest of all is the digest so far with as many items more as are left to take.
 -- The measure is how many those are.
 use borrow.Author.Needs.{needs}
 use Prim.Native.Nat.{_≤_, _<_}
@@ -6,10 +6,10 @@ use mathlib.Core.Path.{_≡_, sym, ap, _∙_}
 use Rattle.bundle.specs.Links.{items}
 use Rattle.bundle.specs.File.{bundleAt}
 use Rattle.bundle.proofs.Walks.{walk-start, walk-start-le, walk-le, walk-nil, walk-cons}
-use Rattle.terms.specs.Digests.{mixItems}
-use Rattle.terms.proofs.Digests.{mix-none, mix-on, mix-full}
-use Rattle.terms.proofs.duplicates.mixed_items.Statement.{statement}
-use Rattle.terms.proofs.duplicates.mixed_items.Tie as tie
+use Rattle.duplicates.specs.Digests.{mixItems}
+use Rattle.duplicates.proofs.Digests.{mix-none, mix-on, mix-full}
+use Rattle.duplicates.proofs.mixed_items.Statement.{statement}
+use Rattle.duplicates.proofs.mixed_items.Tie as tie
 
 abbrev Inv-loop : tie.InvT-loop
 Inv-loop file b d list sum₀ i₀ left₀ sum i left = (i ≤ b .links) × (sum < 2048)
