@@ -1,58 +1,59 @@
--- What each answer of the reader means: Req 01's sentences, one constructor each; and the statements about the job.
-use Prim.Native.Nat.{ℕ, _<_}
+-- What each answer to a text means: Req 01's sentences, one constructor each.
+use Prim.Native.Nat.{ℕ}
 use mathlib.Core.Path.{_≡_}
-use mathlib.Core.Bool.{Bool, true, false}
-use mathlib.Core.List.{List, []}
-use mathlib.Core.Option.{Option, none, some}
+use mathlib.Core.Logic.{_↔_}
+use mathlib.Core.List.{List, [], _∷_, _++_}
 use Rattle.bundle.specs.Bundle.{Bundle}
-use Rattle.logic.specs.Terms.{Term, tree}
-use Rattle.bundle.specs.Limits.{limits}
+use Rattle.bundle.specs.Limits.{Within}
+use Rattle.logic.specs.Lists.{All}
 use Rattle.logic.specs.Symbols.{truthSort}
-use Rattle.logic.specs.Checks.{sectionsFault}
+use Rattle.expansion.specs.Placed.{PlacedTerm}
+use Rattle.expansion.specs.File.{countsIn}
 use Rattle.grammar.specs.Grammar.{Formula, Reads, Unread}
-use Rattle.grammar.specs.Names.{Name, names, calledOf, met, firstUnknown, allKnown}
-use Rattle.reading.specs.Called.{knownIn}
-use Rattle.reading.specs.Typing.{Typed, sorts}
-use Rattle.reading.specs.Records.{Placed, file, depth}
-use Rattle.reading.specs.Reader.{Answer, job, refused, withLeft, fits, readText}
+use Rattle.grammar.specs.Names.{names, Located, met}
+use Rattle.reading.specs.Called.{DeclaredName}
+use Rattle.reading.specs.Local.{plain}
+use Rattle.reading.specs.WellSorted.{WellSorted}
+use Rattle.reading.specs.Records.{file}
+use Rattle.reading.specs.Reader.{Answer, job, refused, jobOf, readText}
 
 -- the text is in the grammar with the reading φ, and its names are declared ones of the kind due
-pub record Known (b : Bundle) (text : List ℕ) (φ : Formula) : Type 0 where
+pub record Named (b : Bundle) (text : List ℕ) (φ : Formula) : Type 0 where
   pub reads : Reads text φ
-  pub known : allKnown (knownIn b) (names φ []) ≡ true
+  pub names : All (DeclaredName b) (names φ [])
 
--- φ is well sorted, without repeats in a let, and Bool: it stands for t
-pub record Sorted (b : Bundle) (φ : Formula) (t : Typed) : Type 0 where
-  pub sorted : sorts b φ ≡ some t
-  pub bool : t .sort ≡ truthSort
+-- and φ is well sorted, without repeats in a let, and Bool
+pub record ReadAs (b : Bundle) (text : List ℕ) (φ : Formula) : Type 0 where
+  pub named : Named b text φ
+  pub sorted : WellSorted b φ truthSort
+
+-- the declarations with the records of the formula's term, and the number of that term
+abbrev pub filedFor : Bundle → Formula → PlacedTerm
+filedFor b φ = file (plain b φ) b
+
+-- its job is within the limits
+abbrev pub FitsLimits : Bundle → Formula → Type 0
+FitsLimits b φ = Within (countsIn (filedFor b φ .bundle))
+
+-- of the names that stand in a text, the first one that is not a declared one of the kind due has the first byte n
+pub record FirstUnknown (b : Bundle) (ls : List Located) (n : ℕ) : Type 0 where
+  pub before : List Located
+  pub unknown : Located
+  pub after : List Located
+  pub split : ls ≡ before ++ (unknown ∷ after)
+  pub known : All (λ l. DeclaredName b (l .called)) before
+  pub fails : DeclaredName b (unknown .called) → ⊥
+  pub first : unknown .first ≡ n
 
 pub data Answered (b : Bundle) (text : List ℕ) : Answer → Type 0 where
-  -- 19, with the byte where no text in the grammar can continue, no name before being unknown
-  unread : {n : ℕ} → Unread text n → allKnown (knownIn b) (calledOf (met text)) ≡ true → Answered b text (refused 19 n)
-  -- 20, with the first byte of the first unknown word
-  unknown : {n : ℕ} → firstUnknown (knownIn b) (met text) ≡ some n → Answered b text (refused 20 n)
-  missorted : (φ : Formula) → Known b text φ → ((t : Typed) → Sorted b φ t → ⊥) → Answered b text (refused 8 0)
-  full : (φ : Formula) (t : Typed) → Known b text φ → Sorted b φ t → fits (file (t .term) b .bundle) ≡ false → Answered b text (refused 16 0)
-  read : (φ : Formula) (t : Typed) → Known b text φ → Sorted b φ t → fits (file (t .term) b .bundle) ≡ true
-      → Answered b text (job (withLeft (file (t .term) b .bundle) (file (t .term) b .term)))
+  -- 19, with the byte where no text in the grammar can continue, or the text's length, no name before it being unknown
+  unread : {n : ℕ} → Unread text n → All (λ l. DeclaredName b (l .called)) (met text) → Answered b text (refused 19 n)
+  -- 20, with the first byte of the first unknown name
+  unknown : {n : ℕ} → FirstUnknown b (met text) n → Answered b text (refused 20 n)
+  missorted : (φ : Formula) → Named b text φ → (WellSorted b φ truthSort → ⊥) → Answered b text (refused 8 0)
+  full : (φ : Formula) → ReadAs b text φ → (FitsLimits b φ → ⊥) → Answered b text (refused 16 0)
+  read : (φ : Formula) → ReadAs b text φ → FitsLimits b φ → Answered b text (job (jobOf (filedFor b φ)))
 
--- The answer has its meaning, and no other answer has.
-abbrev pub AnswersMean : Type 0
-AnswersMean = (b : Bundle) (text : List ℕ) → Answered b text (readText b text)
-
-abbrev pub AnswersOnly : Type 0
-AnswersOnly = (b : Bundle) (text : List ℕ) (a : Answer) → Answered b text a → a ≡ readText b text
-
--- ---- the job
-
--- Beside declarations with no terms, the job's left stands for the formula's term.
-abbrev pub LeftStands : Type 0
-LeftStands = (b : Bundle) → b .terms ≡ [] → (text : List ℕ) (φ : Formula) (t : Typed) (j : Bundle) → Known b text φ → Sorted b φ t → readText b text ≡ job j → tree j (j .left) ≡ t .term
-
--- Nested terms are all different, so a term nested deeper than the limit of terms does not fit.
-abbrev pub DeepNeverFits : Type 0
-DeepNeverFits = (b : Bundle) → b .terms ≡ [] → (t : Term) → limits .terms < depth t → fits (file t b .bundle) ≡ false
-
--- NOT PROVED HERE: checks 5 to 9 find nothing in the job, where they find nothing in the declarations.
-abbrev pub JobPasses : Type 0
-JobPasses = (b : Bundle) → b .terms ≡ [] → sectionsFault b .number ≡ 0 → (text : List ℕ) (j : Bundle) → readText b text ≡ job j → sectionsFault j .number ≡ 0
+-- An answer is given exactly where it means what it says.
+abbrev pub AnswersExactly : Type 0
+AnswersExactly = (b : Bundle) (text : List ℕ) (a : Answer) → (readText b text ≡ a) ↔ Answered b text a

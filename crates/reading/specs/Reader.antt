@@ -1,49 +1,41 @@
 -- THE READER: declarations and a text to a job, or a refusal with its byte. Checks 1 to 6 and 18 of the declarations come before it.
 use Prim.Native.Nat.{ℕ}
-use mathlib.Core.Bool.{Bool, cond, _&&_}
+use mathlib.Core.Bool.{Bool, cond}
 use mathlib.Core.List.{List}
 use mathlib.Core.Option.{Option, none, some}
-use lib.ListN.{length}
-use lib.Dec.{eqb, leb}
+use lib.Dec.{eqb}
 use Rattle.bundle.specs.Bundle.{Bundle}
-use Rattle.bundle.specs.Limits.{limits}
+use Rattle.bundle.specs.Limits.{withinOf}
 use Rattle.logic.specs.Symbols.{truthSort}
-use Rattle.grammar.specs.Grammar.{Formula}
+use Rattle.expansion.specs.Placed.{PlacedTerm}
+use Rattle.expansion.specs.Visit.{claiming}
+use Rattle.expansion.specs.File.{countsIn}
 use Rattle.grammar.specs.Names.{Resolved, resolved, unreadAt, unknownAt, resolve}
 use Rattle.reading.specs.Called.{knownIn}
 use Rattle.reading.specs.Typing.{Typed, sorts}
-use Rattle.reading.specs.Records.{Placed, file}
+use Rattle.reading.specs.Records.{file}
 
 pub data Answer : Type 0 where
   job : Bundle → Answer
-  -- the refusal's number, and the byte (0 for 8 and 16)
+  -- the refusal's number, and its byte (0 for 8 and 16)
   refused : ℕ → ℕ → Answer
 
--- a bundle with a left
-abbrev pub withLeft : Bundle → ℕ → Bundle
-withLeft b l = record {
-  version = b .version;
-  symbols = b .symbols;
-  variables = b .variables;
-  terms = b .terms;
-  links = b .links;
-  contexts = b .contexts;
-  steps = b .steps;
-  left = l;
-  right = b .right;
-}
+-- the job: all records, the formula's term as its left, no right
+abbrev pub jobOf : PlacedTerm → Bundle
+jobOf p = claiming (p .bundle) (p .term) 0
 
--- the records and links are within the limits (else 16)
-abbrev pub fits : Bundle → Bool
-fits b = leb (length (b .terms)) (limits .terms) && leb (length (b .links)) (limits .links)
+-- no section passes its limit (else 16)
+abbrev pub fits : PlacedTerm → Bool
+fits p = withinOf (countsIn (p .bundle))
 
-unfoldable pub jobOf : Placed → Answer
-jobOf p = cond (fits (p .bundle)) (job (withLeft (p .bundle) (p .term))) (refused 16 0)
+unfoldable pub fittingJob : PlacedTerm → Answer
+fittingJob p = cond (fits p) (job (jobOf p)) (refused 16 0)
 
+-- a formula that is not well sorted is refused 8, and so is one that is not Bool
 unfoldable pub sortedJob : Bundle → Option Typed → Answer
-unfolding jobOf file
+unfolding fittingJob file
 sortedJob b none = refused 8 0
-sortedJob b (some t) = cond (eqb (t .sort) truthSort) (jobOf (file (t .term) b)) (refused 8 0)
+sortedJob b (some t) = cond (eqb (t .sort) truthSort) (fittingJob (file (t .term) b)) (refused 8 0)
 
 unfoldable pub answerOf : Bundle → Resolved → Answer
 unfolding sortedJob sorts
