@@ -4,7 +4,7 @@
 --     items-small, image-small         items of lists; images
 --     SmallNode, node-small            the numbers of a node; of the node of a term
 -- Where the last bundle, which is longer than all in between, is within the limits:
---     list-small, placed-small, concluded-small, replacing-small, fixing-small, new-small, fresh-small, open-small     openers and closers
+--     list-small, start-small, placed-small, concluded-small, replacing-small, fixing-small, new-small, fresh-small, open-small     openers and closers
 --     visit-small, visitAll-small      the visits
 --     expanded-small                   THE LAW: the bundle that is written
 use Prim.Native.Nat.{ℕ, zero, suc, _+_, _*_, _-_, _^_, _≤_, _<_}
@@ -301,7 +301,7 @@ pub record SmallVisits (v : Visits) : Type 0 where
   pub results : All Word (v .results)
   pub steps : All Word (v .steps)
 
-binder-word : (q : Binder) → Word (numberOf (binder q))
+pub binder-word : (q : Binder) → Word (numberOf (binder q))
 binder-word forAll = omega arith
 binder-word exists = omega arith
 
@@ -312,7 +312,7 @@ module _ {end : Bundle} (fit : Within (countsIn end)) where
       let new : List Link = consecutive (suc (length (b .links))) vs in
       omega (arith, fit .links, sizes e .links, length-append (b .links) new, consecutive-length (suc (length (b .links))) vs)
 
-  start-small : (b : Bundle) (vs : List ℕ) → Longer (addList b vs) end → Word (listStart b vs)
+  pub start-small : (b : Bundle) (vs : List ℕ) → Longer (addList b vs) end → Word (listStart b vs)
   start-small b vs e = start-word (suc (length (b .links))) vs (list-room b vs e)
 
   pub list-small : (b : Bundle) (vs : List ℕ) → SmallBundle b → All Word vs → Longer (addList b vs) end → SmallBundle (addList b vs)

@@ -53,7 +53,7 @@ module _ (b : Bundle) where
   sorted-alone (suc x) f s h = (refl, h)
 
   -- a connective: what it joins, and the sorts of its symbol
-  join-sorts : (c : Connective) (u : ℕ) → Joins c u
+  pub join-sorts : (c : Connective) (u : ℕ) → Joins c u
       → (argumentSorts b (signatureOf b (connectiveSymbol c u)) ≡ u ∷ u ∷ []) × (resultSort b (signatureOf b (connectiveSymbol c u)) ≡ truthSort)
   unfolding connectiveSymbol argumentSorts resultSort signatureOf kindOfSymbol symbolKind signature
   join-sorts conjunction u h = rw h (refl, refl)
@@ -75,7 +75,7 @@ module _ (b : Bundle) where
           (inl (eqb-true s truthSort q), sym (first-same (rest-same t)) ∙ first-same t)
       go false q e = let t = takes 8 (s ∷ v ∷ []) e in (inr (sym (first-same t)), sym (first-same (rest-same t)) ∙ first-same t)
 
-  join-result : (c : Connective) (s : ℕ) → resultSort b (signatureOf b (connectiveSymbol c s)) ≡ truthSort
+  pub join-result : (c : Connective) (s : ℕ) → resultSort b (signatureOf b (connectiveSymbol c s)) ≡ truthSort
   unfolding connectiveSymbol resultSort signatureOf kindOfSymbol symbolKind signature
   join-result conjunction s = refl
   join-result disjunction s = refl
