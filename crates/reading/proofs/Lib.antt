@@ -5,6 +5,8 @@
 --     TermSorts   the term of a well-sorted formula is well sorted
 --     Records     the records of a well-sorted term, appended to a bundle
 --     SmallRecords     all numbers of those records are words of 32 bits
+--     Answers     THE THEOREM of the answer to a text
+--     ReadOrder     the checks of declarations
 --     Examples     the table of examples holds
 pub mod KnownNames
 pub mod LocalSorts
@@ -12,4 +14,8 @@ pub mod TypingExactly
 pub mod TermSorts
 pub mod Records
 pub mod SmallRecords
+pub mod Answers
+pub mod ReadOrder
+pub mod Jobs
+pub mod Demands
 pub mod Examples

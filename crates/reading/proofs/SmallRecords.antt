@@ -1,6 +1,6 @@
 -- All numbers of the records of a well-sorted term are words of 32 bits, where the counts are within the limits.
 --     known-small      a symbol that there is
---     file-small       THE LAW
+--     term-small       THE LAW
 use Prim.Native.Nat.{ℕ, _+_, _≤_, _<_, _^_}
 use native.Mathlib.Omega.{arith}
 use native.Mathlib.Decide.{decLe}
@@ -91,9 +91,10 @@ module _ (b₀ : Bundle) (formed : TablesFormed b₀) {end : Bundle} (fit : With
   let-small b vs ts t small hv ht w e =
       placed-small fit b (addList (addList b vs) ts) _ (seek (sameLet b vs ts t) (b .terms)) small (lists-longer b vs ts)
       (λ l.
-      let l₁ : Longer (addList b vs) end = longer-trans (list-longer (addList b vs) ts) l in
-      (list-small fit (addList b vs) ts (list-small fit b vs small hv l₁) ht l,
-      (omega arith, (start-small fit b vs l₁, (start-small fit (addList b vs) ts l, (w, tt))))))
+      let l₁ : Longer (addList b vs) end = longer-trans (list-longer (addList b vs) ts) l in (
+        list-small fit (addList b vs) ts (list-small fit b vs small hv l₁) ht l,
+        (omega arith, (start-small fit b vs l₁, (start-small fit (addList b vs) ts l, (w, tt)))),
+      ))
       (seek-le (sameLet b vs ts t) (b .terms)) e
 
   -- ---- terms
@@ -102,24 +103,24 @@ module _ (b₀ : Bundle) (formed : TablesFormed b₀) {end : Bundle} (fit : With
     unfolding file
 
     -- THE LAW
-    pub file-small : (τ : Term) (b : Bundle) → Longer b₀ b → Checked b → TermSorted b₀ τ → SmallBundle b → Longer (file τ b .bundle) end
+    pub term-small : (τ : Term) (b : Bundle) → Longer b₀ b → Checked b → TermSorted b₀ τ → SmallBundle b → Longer (file τ b .bundle) end
         → SmallPlaced (file τ b)
-    file-small (var x) b l old h small e =
+    term-small (var x) b l old h small e =
         variable-small b x small (variable-word l (longer-trans (variable-longer b x) e) x h) e
-    file-small (app f ts) b l old h small e =
+    term-small (app f ts) b l old h small e =
         let p : PlacedTerms = fileAll ts b in
         let a : AllFiled b ts p = all-filed b₀ formed ts b l old (h .2) in
         let e₁ : Longer (p .bundle) end = longer-trans (application-longer (p .bundle) f (p .terms)) e in
         let s : SmallTerms p = all-small ts b l old (h .2) small e₁ in
         let symbols = sizes (longer-trans l (longer-trans (a .longer) e₁)) .symbols in
         application-small (p .bundle) f (p .terms) (s .bundle) (omega (arith, known-small b₀ f (h .0), symbols, fit .symbols)) (s .terms) e
-    file-small (bind q x t) b l old h small e =
+    term-small (bind q x t) b l old h small e =
         let p : PlacedTerm = file t b in
         let a : FiledAs b t p = filed b₀ formed t b l old (h .2) in
         let e₁ : Longer (p .bundle) end = longer-trans (binder-longer (p .bundle) q x (p .term)) e in
-        let s : SmallPlaced p = file-small t b l old (h .2) small e₁ in
+        let s : SmallPlaced p = term-small t b l old (h .2) small e₁ in
         quantifier-small (p .bundle) q x (p .term) (s .bundle) (variable-word (longer-trans l (a .longer)) e₁ x (h .0)) (s .term) e
-    file-small (letIn vs ts t) b l old h small e =
+    term-small (letIn vs ts t) b l old h small e =
         let p : PlacedTerms = fileAll ts b in
         let a : AllFiled b ts p = all-filed b₀ formed ts b l old (h .4) in
         let l₁ : Longer b₀ (p .bundle) = longer-trans l (a .longer) in
@@ -127,7 +128,7 @@ module _ (b₀ : Bundle) (formed : TablesFormed b₀) {end : Bundle} (fit : With
         let c : FiledAs (p .bundle) t r = filed b₀ formed t (p .bundle) l₁ (a .checked) (h .5) in
         let e₂ : Longer (r .bundle) end = longer-trans (let-longer (r .bundle) vs (p .terms) (r .term)) e in
         let s : SmallTerms p = all-small ts b l old (h .4) small (longer-trans (c .longer) e₂) in
-        let u : SmallPlaced r = file-small t (p .bundle) l₁ (a .checked) (h .5) (s .bundle) e₂ in
+        let u : SmallPlaced r = term-small t (p .bundle) l₁ (a .checked) (h .5) (s .bundle) e₂ in
         let-small (r .bundle) vs (p .terms) (r .term) (u .bundle) (variables-word (longer-trans l₁ (c .longer)) e₂ vs (h .0)) (s .terms) (u .term) e
 
     all-small : (ts : Terms) (b : Bundle) → Longer b₀ b → Checked b → TermsSorted b₀ ts → SmallBundle b → Longer (fileAll ts b .bundle) end
@@ -138,6 +139,6 @@ module _ (b₀ : Bundle) (formed : TablesFormed b₀) {end : Bundle} (fit : With
         let a : FiledAs b t p = filed b₀ formed t b l old (h .0) in
         let l₁ : Longer b₀ (p .bundle) = longer-trans l (a .longer) in
         let c : AllFiled (p .bundle) ts (fileAll ts (p .bundle)) = all-filed b₀ formed ts (p .bundle) l₁ (a .placed .checked) (h .1) in
-        let s : SmallPlaced p = file-small t b l old (h .0) small (longer-trans (c .longer) e) in
+        let s : SmallPlaced p = term-small t b l old (h .0) small (longer-trans (c .longer) e) in
         let u : SmallTerms (fileAll ts (p .bundle)) = all-small ts (p .bundle) l₁ (a .placed .checked) (h .1) (s .bundle) e in
         record { bundle = u .bundle; terms = (s .term, u .terms) }
