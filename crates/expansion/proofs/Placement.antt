@@ -21,7 +21,8 @@ use Rattle.bundle.specs.Lists.{sameList}
 use Rattle.logic.specs.declared.Signature.the-variants.{Unknown}
 use Rattle.logic.specs.Lists.{All, Number}
 use Rattle.logic.specs.Symbols.{truthSort, signatureOf, argumentSorts}
-use Rattle.logic.specs.Terms.{Binder, forAll, exists, Term, var, app, bind, letIn, more, Kind, variable, application, binder, letting, other, kindOf, gather, tree}
+use Rattle.logic.specs.Terms.{Binder, forAll, exists, Term, var, app, bind, letIn, more, Kind, variable, application, binder, letting, other, kindOf}
+use Rattle.logic.specs.Terms.{gather, tree}
 use Rattle.logic.specs.Terms.{numberOf}
 use Rattle.logic.specs.WellFormed.{sortOfTerm, ListsFormed, TermFormed, a-variable, an-application, a-binder, a-let, number, list, Fields, fieldsAs, fieldsOf}
 use Rattle.logic.specs.WellFormed.{TablesFormed}

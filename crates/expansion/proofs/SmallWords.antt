@@ -407,7 +407,8 @@ module _ {end : Bundle} (fit : Within (countsIn end)) where
         let sv : SmallVisits v = visitAll-small ns c b (h .2) hc small e₁ in
         let sp : SmallPlaced p =
         placed-small (v .bundle) (addList (v .bundle) (v .results)) _ n (sv .bundle) (list-longer (v .bundle) (v .results))
-        (λ l. (list-small (v .bundle) (v .results) (sv .bundle) (sv .results) l, (omega arith, (h .1, (start-small (v .bundle) (v .results) l, (omega arith, tt))))))
+        (λ l.
+        (list-small (v .bundle) (v .results) (sv .bundle) (sv .results) l, (omega arith, (h .1, (start-small (v .bundle) (v .results) l, (omega arith, tt))))))
         (seek-le (sameApplication (v .bundle) f (v .results)) (v .bundle .terms)) e₂ in
         concluded-small (p .bundle) 2 c t (p .term) (v .steps) (sp .bundle) (omega arith) hc (h .0) (sp .term) (sv .steps) e
     visit-small (scope t q x u) c b h hc small e =

@@ -9,7 +9,9 @@ use mathlib.Core.List.{List, [], _∷_, _++_}
 use mathlib.Core.Option.{Option, none, some}
 use Rattle.grammar.specs.Bytes.{Class, space, lineEnd, semicolon, opening, closing, digit, symbol, other, classOf, wordOf, bytes}
 use Rattle.grammar.specs.Grammar.{Lexeme, opens, closes, word, stray, Mode, between, comment, within, bracket, ends, outside, onwards, last, lexemesFrom}
-use Rattle.grammar.specs.Parser.{Due, formula, formulas, inside, opener, closer, sorted, sorteds, bound, bounds, variable, sortName, Fill, Stack, andThen, advance, takes, feed, complete, run, starts, mayGrow, viable, State, enter, step, steps, finish}
+use Rattle.grammar.specs.Parser.{Due, formula, formulas, inside, opener, closer, sorted, sorteds, bound, bounds, variable, sortName, Fill}
+use Rattle.grammar.specs.Parser.{Stack, andThen, advance, takes, feed, complete, run, starts, mayGrow, viable, State, enter, step, steps}
+use Rattle.grammar.specs.Parser.{finish}
 use Rattle.grammar.proofs.Words.{or-false, not-sort, grown}
 
 pub then-then : {B C D : Type 0} (o : Option B) (f : B → Option C) (g : C → Option D) → andThen (andThen o f) g ≡ andThen o (λ b. andThen (f b) g)
@@ -23,7 +25,8 @@ module _ {A : Type 0} where
   feed-append [] ys s = refl
   feed-append (x ∷ xs) ys s = go (takes (s .due) (s .back) x) (feed-append xs ys)
     where
-      go : (o : Option (Stack A)) → ((s : Stack A) → feed (xs ++ ys) s ≡ andThen (feed xs s) (feed ys)) → andThen o (feed (xs ++ ys)) ≡ andThen (andThen o (feed xs)) (feed ys)
+      go : (o : Option (Stack A)) → ((s : Stack A) → feed (xs ++ ys) s ≡ andThen (feed xs s) (feed ys))
+          → andThen o (feed (xs ++ ys)) ≡ andThen (andThen o (feed xs)) (feed ys)
       go none h = refl
       go (some s) h = h s
 
@@ -36,7 +39,8 @@ module _ {A : Type 0} where
   steps-append [] ys st = refl
   steps-append (x ∷ xs) ys st = go (step st x) (steps-append xs ys)
     where
-      go : (o : Option (State A)) → ((st : State A) → steps (xs ++ ys) st ≡ andThen (steps xs st) (steps ys)) → andThen o (steps (xs ++ ys)) ≡ andThen (andThen o (steps xs)) (steps ys)
+      go : (o : Option (State A)) → ((st : State A) → steps (xs ++ ys) st ≡ andThen (steps xs st) (steps ys))
+          → andThen o (steps (xs ++ ys)) ≡ andThen (andThen o (steps xs)) (steps ys)
       go none h = refl
       go (some st) h = h st
 
@@ -59,7 +63,8 @@ module _ {A : Type 0} where
       let h = or-false (starts w (bytes "Bool")) (starts w (bytes "Item")) e in
       rw (not-sort w (h .0) (h .1))
 
-  refused : (cs : List ℕ) (w : List ℕ) (σ : List Due) (k : Fill σ → A) → mayGrow w σ ≡ false → run (lexemesFrom (within w) cs) (record { due = σ; back = k }) ≡ none
+  refused : (cs : List ℕ) (w : List ℕ) (σ : List Due) (k : Fill σ → A) → mayGrow w σ ≡ false
+      → run (lexemesFrom (within w) cs) (record { due = σ; back = k }) ≡ none
   unfolding lexemesFrom last run feed andThen ends onwards
   refused [] w σ k e = rw (refuses w σ k e)
   refused (c ∷ cs) w σ k e = go (classOf c) (refused cs (w ++ (c ∷ [])) σ k (grown w c σ e))
@@ -90,12 +95,16 @@ module _ {A : Type 0} where
       byFeed (feed (ends (st .mode) (classOf c)) (st .stack)) (agrees cs)
       ∙ sym (run-append (ends (st .mode) (classOf c)) (lexemesFrom (onwards (st .mode) c (classOf c)) cs) (st .stack))
     where
-      byViable : (m : Mode) (s : Stack A) (b : Bool) → viable m (s .due) ≡ b → andThen (steps cs (record { mode = m; stack = s })) finish ≡ run (lexemesFrom m cs) s
+      byViable : (m : Mode) (s : Stack A) (b : Bool) → viable m (s .due) ≡ b
+          → andThen (steps cs (record { mode = m; stack = s })) finish ≡ run (lexemesFrom m cs) s
           → andThen (andThen (cond b (some (record { mode = m; stack = s })) none) (steps cs)) finish ≡ run (lexemesFrom m cs) s
       byViable m s true e h = h
       byViable m s false e h = sym (not-viable m (s .due) (s .back) cs e)
 
       byFeed : (o : Option (Stack A)) → ((st : State A) → andThen (steps cs st) finish ≡ run (lexemesFrom (st .mode) cs) (st .stack))
-          → andThen (andThen (andThen o (enter (onwards (st .mode) c (classOf c)))) (steps cs)) finish ≡ andThen o (run (lexemesFrom (onwards (st .mode) c (classOf c)) cs))
+          → andThen (andThen (andThen o (enter (onwards (st .mode) c (classOf c)))) (steps cs)) finish
+          ≡ andThen o (run (lexemesFrom (onwards (st .mode) c (classOf c)) cs))
       byFeed none h = refl
-      byFeed (some s) h = byViable (onwards (st .mode) c (classOf c)) s (viable (onwards (st .mode) c (classOf c)) (s .due)) refl (h (record { mode = onwards (st .mode) c (classOf c); stack = s }))
+      byFeed (some s) h =
+          let m : Mode = onwards (st .mode) c (classOf c) in
+          byViable m s (viable m (s .due)) refl (h (record { mode = m; stack = s }))

@@ -9,9 +9,13 @@ use mathlib.Core.Option.{Option, none, some}
 use lib.Dec.{eqb}
 use borrow.Author.Tests.{eqb-true}
 use Rattle.logic.specs.Terms.{Binder, forAll, exists}
-use Rattle.grammar.specs.Bytes.{Class, space, lineEnd, semicolon, opening, closing, digit, symbol, other, SortWord, bool, item, classOf, wordOf, bytes, Word, sort, name, wordAmong, twelve}
-use Rattle.grammar.specs.Grammar.{declares, Formula, called, denies, noFormula, noBinding, Lexeme, opens, closes, word, stray, Mode, between, comment, within, bracket, ends, outside, onwards, last, lexemesFrom, spell, spellVariable, spellVariables}
-use Rattle.grammar.specs.Parser.{Due, formula, formulas, inside, opener, closer, sorted, sorteds, bound, bounds, variable, sortName, One, Fill, Stack, andThen, advance, takes, push, feed, complete, run, starts, mayGrow, viable, onFormula, onFormulas, onInside, onVariable, onSort}
+use Rattle.grammar.specs.Bytes.{Class, space, lineEnd, semicolon, opening, closing, digit, symbol, other, SortWord, bool, item, classOf, wordOf}
+use Rattle.grammar.specs.Bytes.{bytes, Word, sort, name, wordAmong, twelve}
+use Rattle.grammar.specs.Grammar.{declares, Formula, called, denies, noFormula, noBinding, Lexeme, opens, closes, word, stray, Mode, between}
+use Rattle.grammar.specs.Grammar.{comment, within, bracket, ends, outside, onwards, last, lexemesFrom, spell, spellVariable, spellVariables}
+use Rattle.grammar.specs.Parser.{Due, formula, formulas, inside, opener, closer, sorted, sorteds, bound, bounds, variable, sortName, One, Fill}
+use Rattle.grammar.specs.Parser.{Stack, andThen, advance, takes, push, feed, complete, run, starts, mayGrow, viable, onFormula, onFormulas}
+use Rattle.grammar.specs.Parser.{onInside, onVariable, onSort}
 use Rattle.grammar.proofs.Words.{grows-name}
 
 -- what supplies each that may be due
@@ -60,14 +64,17 @@ leaves [] v s e = (v, refl, s)
 leaves (x ∷ w) [] s e = absurd (false≢true e)
 leaves (x ∷ w) (y ∷ v) s e = go (eqb x y) refl (leaves w v (s .1)) e
   where
-    go : (b : Bool) → eqb x y ≡ b → (starts w v ≡ true → (u : List ℕ) × (w ++ u ≡ v) × Symbols u) → (b && starts w v) ≡ true → (u : List ℕ) × ((x ∷ w) ++ u ≡ y ∷ v) × Symbols u
+    go : (b : Bool) → eqb x y ≡ b → (starts w v ≡ true → (u : List ℕ) × (w ++ u ≡ v) × Symbols u) → (b && starts w v) ≡ true
+        → (u : List ℕ) × ((x ∷ w) ++ u ≡ y ∷ v) × Symbols u
     go true q f e = let r = f e in (r .0, ap₂ (λ a as′. a ∷ as′) (eqb-true x y q) (r .1), r .2)
     go false q f e = absurd (false≢true e)
 
 module _ {A : Type 0} where
   supply-one : (d : Due) (σ : List Due) (k : Fill (d ∷ σ) → A) (rest : List ℕ)
-      → run (lexemesFrom between (supply d rest)) (record { due = d ∷ σ; back = k }) ≡ run (lexemesFrom between rest) (record { due = σ; back = λ f. k (supplied-as d, f) })
-  unfolding supply bytes lexemesFrom ends bracket onwards outside classOf wordOf run feed takes andThen push advance onFormula onFormulas onInside onVariable onSort
+      → run (lexemesFrom between (supply d rest)) (record { due = d ∷ σ; back = k })
+      ≡ run (lexemesFrom between rest) (record { due = σ; back = λ f. k (supplied-as d, f) })
+  unfolding supply bytes lexemesFrom ends bracket onwards outside classOf wordOf run feed takes andThen push advance onFormula onFormulas onInside onVariable
+      onSort
   supply-one formula σ k rest = refl
   supply-one formulas σ k rest = refl
   supply-one inside σ k rest = refl
@@ -93,20 +100,23 @@ module _ {A : Type 0} where
   -- ---- from within a word
 
   -- a run that ends in '~' is a name, and then a blank
-  with-name : (w : List ℕ) (d : Due) (σ : List Due) (k : Fill (d ∷ σ) → A) (s : Stack A) → takes (d ∷ σ) k (word (name (w ++ (126 ∷ [])))) ≡ some s → GoesOn (within w) (record { due = d ∷ σ; back = k })
+  with-name : (w : List ℕ) (d : Due) (σ : List Due) (k : Fill (d ∷ σ) → A) (s : Stack A) → takes (d ∷ σ) k (word (name (w ++ (126 ∷ [])))) ≡ some s
+      → GoesOn (within w) (record { due = d ∷ σ; back = k })
   unfolding lexemesFrom classOf ends onwards outside run feed andThen bracket
   with-name w d σ k s e =
       let r = supplied (s .due) (s .back) in
       (126 ∷ 32 ∷ r .0, r .1, rw (grows-name w) (rw e (r .2)))
 
-  with-sort : (w v : List ℕ) (s : SortWord) (σ : List Due) (k : Fill (sortName ∷ σ) → A) → Symbols v → wordOf v ≡ sort s → starts w v ≡ true → GoesOn (within w) (record { due = sortName ∷ σ; back = k })
+  with-sort : (w v : List ℕ) (s : SortWord) (σ : List Due) (k : Fill (sortName ∷ σ) → A) → Symbols v → wordOf v ≡ sort s → starts w v ≡ true
+      → GoesOn (within w) (record { due = sortName ∷ σ; back = k })
   unfolding lexemesFrom classOf ends onwards outside run feed andThen bracket takes push advance onSort
   with-sort w v s σ k sy q e =
       let r = supplied σ (λ f. k (s, f)) in
       let l = leaves w v sy e in
       (l .0 ++ (32 ∷ r .0), r .1, rw (grow-by (l .0) w (32 ∷ r .0) (l .2)) (rw (l .1) (rw q (r .2))))
 
-  sorts : (w : List ℕ) (σ : List Due) (k : Fill (sortName ∷ σ) → A) (b : Bool) → starts w (bytes "Bool") ≡ b → (b || starts w (bytes "Item")) ≡ true → GoesOn (within w) (record { due = sortName ∷ σ; back = k })
+  sorts : (w : List ℕ) (σ : List Due) (k : Fill (sortName ∷ σ) → A) (b : Bool) → starts w (bytes "Bool") ≡ b → (b || starts w (bytes "Item")) ≡ true
+      → GoesOn (within w) (record { due = sortName ∷ σ; back = k })
   unfolding bytes classOf wordOf Symbols
   sorts w σ k true e h = with-sort w (bytes "Bool") bool σ k (refl, (refl, (refl, (refl, tt)))) refl e
   sorts w σ k false e h = with-sort w (bytes "Item") item σ k (refl, (refl, (refl, (refl, tt)))) refl h

@@ -7,7 +7,8 @@ use mathlib.Core.List.{List, [], _∷_, _++_}
 use mathlib.Core.Option.{Option, none, some}
 use Rattle.grammar.specs.Bytes.{classOf}
 use Rattle.grammar.specs.Grammar.{Formula, Lexeme, Mode, ends, onwards, last, InGrammar, Unread}
-use Rattle.grammar.specs.Parser.{Due, Fill, Move, Stack, split, andThen, push, advance, takes, feed, complete, run, viable, State, enter, step, finish, Outcome, read, unread, onRead, onStep, parseFrom, start, parse, stackOf, startOfScan, judged}
+use Rattle.grammar.specs.Parser.{Due, Fill, Move, Stack, split, andThen, push, advance, takes, feed, complete, run, viable, State, enter, step}
+use Rattle.grammar.specs.Parser.{finish, Outcome, read, unread, onRead, onStep, parseFrom, start, parse, stackOf, startOfScan, judged}
 use Rattle.grammar.specs.Statements.{JudgedExactly}
 use Rattle.grammar.proofs.Exact.{read-exactly, unread-exactly, apart}
 
@@ -40,7 +41,8 @@ module _ {A B : Type 0} (g : A → B) where
   feed-by [] s = refl
   feed-by (l ∷ ls) s = ap (λ o. andThen o (feed ls)) (takes-by (s .due) (s .back) l) ∙ go (takes (s .due) (s .back) l) (feed-by ls)
     where
-      go : (o : Option (Stack A)) → ((s : Stack A) → feed ls (stackBy s) ≡ mapped stackBy (feed ls s)) → andThen (mapped stackBy o) (feed ls) ≡ mapped stackBy (andThen o (feed ls))
+      go : (o : Option (Stack A)) → ((s : Stack A) → feed ls (stackBy s) ≡ mapped stackBy (feed ls s))
+          → andThen (mapped stackBy o) (feed ls) ≡ mapped stackBy (andThen o (feed ls))
       go none h = refl
       go (some s) h = h s
 
@@ -55,9 +57,11 @@ module _ {A B : Type 0} (g : A → B) where
   step-by : (st : State A) (c : ℕ) → step (stateBy st) c ≡ mapped stateBy (step st c)
   unfolding step mapped andThen
   step-by st c =
-      ap (λ o. andThen o (enter (onwards (st .mode) c (classOf c)))) (feed-by (ends (st .mode) (classOf c)) (st .stack)) ∙ go (feed (ends (st .mode) (classOf c)) (st .stack))
+      ap (λ o. andThen o (enter (onwards (st .mode) c (classOf c)))) (feed-by (ends (st .mode) (classOf c)) (st .stack))
+      ∙ go (feed (ends (st .mode) (classOf c)) (st .stack))
     where
-      go : (o : Option (Stack A)) → andThen (mapped stackBy o) (enter (onwards (st .mode) c (classOf c))) ≡ mapped stateBy (andThen o (enter (onwards (st .mode) c (classOf c))))
+      go : (o : Option (Stack A))
+          → andThen (mapped stackBy o) (enter (onwards (st .mode) c (classOf c))) ≡ mapped stateBy (andThen o (enter (onwards (st .mode) c (classOf c))))
       go none = refl
       go (some s) = enter-by (onwards (st .mode) c (classOf c)) s
 
@@ -83,7 +87,8 @@ module _ {A B : Type 0} (g : A → B) where
       go (some a) = refl
   parse-by (c ∷ cs) n st = ap (λ o. onStep n o (parseFrom (suc n) cs)) (step-by st c) ∙ go (step st c) (parse-by cs (suc n))
     where
-      go : (o : Option (State A)) → ((st : State A) → parseFrom (suc n) cs (stateBy st) ≡ outcomeBy (parseFrom (suc n) cs st)) → onStep n (mapped stateBy o) (parseFrom (suc n) cs) ≡ outcomeBy (onStep n o (parseFrom (suc n) cs))
+      go : (o : Option (State A)) → ((st : State A) → parseFrom (suc n) cs (stateBy st) ≡ outcomeBy (parseFrom (suc n) cs st))
+          → onStep n (mapped stateBy o) (parseFrom (suc n) cs) ≡ outcomeBy (onStep n o (parseFrom (suc n) cs))
       go none h = refl
       go (some st) h = h st
 

@@ -10,8 +10,10 @@ use mathlib.Core.Option.{Option, none, some, Option·none-ne-some, Option·some-
 use lib.ListN.{length, take, drop, take-append-drop}
 use lib.Seq.{take-take}
 use Rattle.grammar.specs.Bytes.{classOf}
-use Rattle.grammar.specs.Grammar.{Formula, spelling, Mode, between, ends, onwards, lexemes, lexemesFrom, Reads, InGrammar, Continues, Unread, breaks, stops}
-use Rattle.grammar.specs.Parser.{Due, Stack, andThen, feed, run, viable, State, enter, step, steps, finish, Outcome, read, unread, onRead, onStep, parseFrom, start, parse}
+use Rattle.grammar.specs.Grammar.{Formula, spelling, Mode, between, ends, onwards, lexemes, lexemesFrom, Reads, InGrammar, Continues, Unread}
+use Rattle.grammar.specs.Grammar.{breaks, stops}
+use Rattle.grammar.specs.Parser.{Due, Stack, andThen, feed, run, viable, State, enter, step, steps, finish, Outcome, read, unread, onRead}
+use Rattle.grammar.specs.Parser.{onStep, parseFrom, start, parse}
 use Rattle.grammar.specs.Statements.{SpellingInjective, OneReading, ReadExactly, UnreadExactly}
 use Rattle.grammar.proofs.Machine.{reads-spelling, spelling-injective, spelled}
 use Rattle.grammar.proofs.Bytewise.{steps-append, agrees}
@@ -47,7 +49,8 @@ module _ {A : Type 0} where
   stays-all [] st st′ v e = rw (sym (Option·some-injective st st′ e)) v
   stays-all (c ∷ cs) st st′ v e = go (step st c) refl (λ st″ v″. stays-all cs st″ st′ v″) e
     where
-      go : (o : Option (State A)) → step st c ≡ o → ((st″ : State A) → Viable st″ → steps cs st″ ≡ some st′ → Viable st′) → andThen o (steps cs) ≡ some st′ → Viable st′
+      go : (o : Option (State A)) → step st c ≡ o → ((st″ : State A) → Viable st″ → steps cs st″ ≡ some st′ → Viable st′)
+          → andThen o (steps cs) ≡ some st′ → Viable st′
       go none h rec e = absurd (Option·none-ne-some st′ e)
       go (some st″) h rec e = rec st″ (stays st c st″ h) e
 
@@ -64,7 +67,8 @@ accepted text φ e = spelled (lexemes text) φ (sym (agrees text start) ∙ e)
 dead : (p : List ℕ) → steps p start ≡ none → ¬ (Continues p)
 unfolding andThen
 dead p e c =
-    let h : andThen (andThen (steps p start) (steps (c .0))) finish ≡ some (c .1 .0) = rw (steps-append p (c .0) start) at (accepts (p ++ c .0) (c .1 .0) (c .1 .1)) in
+    let h : andThen (andThen (steps p start) (steps (c .0))) finish ≡ some (c .1 .0) =
+    rw (steps-append p (c .0) start) at (accepts (p ++ c .0) (c .1 .0) (c .1 .1)) in
     Option·none-ne-some (c .1 .0) (rw e at h)
 
 alive : (p : List ℕ) (st : State Formula) → steps p start ≡ some st → Continues p
@@ -104,7 +108,8 @@ module _ {A : Type 0} where
       go (some a) h e = absurd (apart a m e)
   stopped (c ∷ cs) n m st e = go (step st c) refl (stopped cs (suc n) m) e
     where
-      go : (o : Option (State A)) → step st c ≡ o → ((st′ : State A) → parseFrom (suc n) cs st′ ≡ unread m → Stopped (suc n) cs st′ m) → onStep n o (parseFrom (suc n) cs) ≡ unread m → Stopped n (c ∷ cs) st m
+      go : (o : Option (State A)) → step st c ≡ o → ((st′ : State A) → parseFrom (suc n) cs st′ ≡ unread m → Stopped (suc n) cs st′ m)
+          → onStep n o (parseFrom (suc n) cs) ≡ unread m → Stopped n (c ∷ cs) st m
       go none h rec e = let q : n ≡ m = cc in at-byte 0 st (omega arith) (omega arith) refl (rw h)
       go (some st′) h rec e = further c cs n m st st′ h (rec st′ e)
 
@@ -117,7 +122,8 @@ module _ {A : Type 0} where
       go (some b) e = cc
   read-parsed (c ∷ cs) n st a e = go (step st c) (λ st′. read-parsed cs (suc n) st′ a) e
     where
-      go : (o : Option (State A)) → ((st′ : State A) → parseFrom (suc n) cs st′ ≡ read a → andThen (steps cs st′) finish ≡ some a) → onStep n o (parseFrom (suc n) cs) ≡ read a → andThen (andThen o (steps cs)) finish ≡ some a
+      go : (o : Option (State A)) → ((st′ : State A) → parseFrom (suc n) cs st′ ≡ read a → andThen (steps cs st′) finish ≡ some a)
+          → onStep n o (parseFrom (suc n) cs) ≡ read a → andThen (andThen o (steps cs)) finish ≡ some a
       go none rec e = absurd (apart a n (sym e))
       go (some st′) rec e = rec st′ e
 
@@ -126,7 +132,8 @@ module _ {A : Type 0} where
   parsed-read [] n st a e = rw e
   parsed-read (c ∷ cs) n st a e = go (step st c) (λ st′. parsed-read cs (suc n) st′ a) e
     where
-      go : (o : Option (State A)) → ((st′ : State A) → andThen (steps cs st′) finish ≡ some a → parseFrom (suc n) cs st′ ≡ read a) → andThen (andThen o (steps cs)) finish ≡ some a → onStep n o (parseFrom (suc n) cs) ≡ read a
+      go : (o : Option (State A)) → ((st′ : State A) → andThen (steps cs st′) finish ≡ some a → parseFrom (suc n) cs st′ ≡ read a)
+          → andThen (andThen o (steps cs)) finish ≡ some a → onStep n o (parseFrom (suc n) cs) ≡ read a
       go none rec e = absurd (Option·none-ne-some a e)
       go (some st′) rec e = rec st′ e
 
@@ -148,7 +155,8 @@ take-shorter i text c = shorter (take i text) (drop i text) (rw (take-append-dro
 take-lower : (i j : ℕ) (text : List ℕ) → i ≤ j → Continues (take j text) → Continues (take i text)
 take-lower i j text h c = rw (take-take i j text h) at (take-shorter i (take j text) c)
 
-same-break : (text : List ℕ) (n m : ℕ) → Continues (take n text) → ¬ (Continues (take (suc n) text)) → Continues (take m text) → ¬ (Continues (take (suc m) text)) → n ≡ m
+same-break : (text : List ℕ) (n m : ℕ) → Continues (take n text) → ¬ (Continues (take (suc n) text)) → Continues (take m text)
+    → ¬ (Continues (take (suc m) text)) → n ≡ m
 same-break text n m y z y′ z′ = go (decLt n m) (decLt m n)
   where
     go : Dec (n < m) → Dec (m < n) → n ≡ m

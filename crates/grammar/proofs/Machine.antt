@@ -7,8 +7,12 @@ use mathlib.Core.Path.{_≡_, refl, sym, ap, _∙_}
 use mathlib.Core.List.{List, [], _∷_, _++_}
 use mathlib.Core.Option.{Option, none, some, Option·none-ne-some, Option·some-injective}
 use Rattle.grammar.specs.Bytes.{Word, constant, negation, connective, quantifier, letting, sort, name}
-use Rattle.grammar.specs.Grammar.{SortedVariable, declares, Formula, called, truth, bracketed, Bracketed, denies, connects, applies, quantifies, lets, Formulas, noFormula, andFormula, Bindings, noBinding, andBinding, Lexeme, opens, closes, word, stray, spell, spellVariable, spellVariables, spellBracketed, spellFormulas, spellBindings, spelling}
-use Rattle.grammar.specs.Parser.{Due, formula, formulas, inside, opener, closer, sorted, sorteds, bound, bounds, variable, sortName, One, Fill, spellOne, spellFill, Move, onFormula, onFormulas, onInside, onVariable, onSort, advance, Stack, split, andThen, push, takes, feed, complete, run, start}
+use Rattle.grammar.specs.Grammar.{SortedVariable, declares, Formula, called, truth, bracketed, Bracketed, denies, connects, applies, quantifies}
+use Rattle.grammar.specs.Grammar.{lets, Formulas, noFormula, andFormula, Bindings, noBinding, andBinding, Lexeme, opens, closes, word, stray}
+use Rattle.grammar.specs.Grammar.{spell, spellVariable, spellVariables, spellBracketed, spellFormulas, spellBindings, spelling}
+use Rattle.grammar.specs.Parser.{Due, formula, formulas, inside, opener, closer, sorted, sorteds, bound, bounds, variable, sortName, One, Fill}
+use Rattle.grammar.specs.Parser.{spellOne, spellFill, Move, onFormula, onFormulas, onInside, onVariable, onSort, advance, Stack, split, andThen}
+use Rattle.grammar.specs.Parser.{push, takes, feed, complete, run, start}
 
 -- ---- moves
 
@@ -115,7 +119,8 @@ moves sortName stray = tt
 
 -- ---- what is read is spelled
 
-spell-split : (τ σ : List Due) (f : Fill (τ ++ σ)) (rest : List Lexeme) → spellFill (τ ++ σ) f rest ≡ spellFill τ (split τ σ f .0) (spellFill σ (split τ σ f .1) rest)
+spell-split : (τ σ : List Due) (f : Fill (τ ++ σ)) (rest : List Lexeme)
+    → spellFill (τ ++ σ) f rest ≡ spellFill τ (split τ σ f .0) (spellFill σ (split τ σ f .1) rest)
 unfolding spellFill
 spell-split [] σ f rest = refl
 spell-split (d ∷ τ) σ f rest = ap (spellOne d (f .0)) (spell-split τ σ (f .1) rest)
@@ -175,7 +180,8 @@ module _ {A : Type 0} where
     reads (truth v) ls σ k = refl
     reads (bracketed b) ls σ k = reads-inside b ls σ (λ f. k (bracketed (f .0), f .1))
 
-    reads-inside : (b : Bracketed) (ls : List Lexeme) (σ : List Due) (k : Fill (inside ∷ σ) → A) → feed (spellBracketed b ls) (at inside σ k) ≡ feed ls (past inside b σ k)
+    reads-inside : (b : Bracketed) (ls : List Lexeme) (σ : List Due) (k : Fill (inside ∷ σ) → A)
+        → feed (spellBracketed b ls) (at inside σ k) ≡ feed ls (past inside b σ k)
     reads-inside (denies φ) ls σ k = reads φ (closes ∷ ls) (closer ∷ σ) (λ f. k (denies (f .0), f .1 .1))
     reads-inside (connects c φ ψ) ls σ k =
         reads φ (spell ψ (closes ∷ ls)) (formula ∷ closer ∷ σ) (λ f. k (connects c (f .0) (f .1 .0), f .1 .1 .1))
@@ -184,22 +190,26 @@ module _ {A : Type 0} where
         reads φ (spellFormulas φs ls) (formulas ∷ σ) (λ f. k (applies w (f .0) (f .1 .0), f .1 .1))
         ∙ reads-formulas φs ls σ (λ f. k (applies w φ (f .0), f .1))
     reads-inside (quantifies q x xs φ) ls σ k =
-        reads-variable x (spellVariables xs (spell φ (closes ∷ ls))) (sorteds ∷ formula ∷ closer ∷ σ) (λ f. k (quantifies q (f .0) (f .1 .0) (f .1 .1 .0), f .1 .1 .1 .1))
+        reads-variable x (spellVariables xs (spell φ (closes ∷ ls))) (sorteds ∷ formula ∷ closer ∷ σ)
+        (λ f. k (quantifies q (f .0) (f .1 .0) (f .1 .1 .0), f .1 .1 .1 .1))
         ∙ reads-variables xs (spell φ (closes ∷ ls)) (formula ∷ closer ∷ σ) (λ f. k (quantifies q x (f .0) (f .1 .0), f .1 .1 .1))
         ∙ reads φ (closes ∷ ls) (closer ∷ σ) (λ f. k (quantifies q x xs (f .0), f .1 .1))
     reads-inside (lets x φ xs ψ) ls σ k =
-        reads φ (closes ∷ spellBindings xs (spell ψ (closes ∷ ls))) (closer ∷ bounds ∷ formula ∷ closer ∷ σ) (λ f. k (lets x (f .0) (f .1 .1 .0) (f .1 .1 .1 .0), f .1 .1 .1 .1 .1))
+        reads φ (closes ∷ spellBindings xs (spell ψ (closes ∷ ls))) (closer ∷ bounds ∷ formula ∷ closer ∷ σ)
+        (λ f. k (lets x (f .0) (f .1 .1 .0) (f .1 .1 .1 .0), f .1 .1 .1 .1 .1))
         ∙ reads-bindings xs (spell ψ (closes ∷ ls)) (formula ∷ closer ∷ σ) (λ f. k (lets x φ (f .0) (f .1 .0), f .1 .1 .1))
         ∙ reads ψ (closes ∷ ls) (closer ∷ σ) (λ f. k (lets x φ xs (f .0), f .1 .1))
 
-    reads-formulas : (φs : Formulas) (ls : List Lexeme) (σ : List Due) (k : Fill (formulas ∷ σ) → A) → feed (spellFormulas φs ls) (at formulas σ k) ≡ feed ls (past formulas φs σ k)
+    reads-formulas : (φs : Formulas) (ls : List Lexeme) (σ : List Due) (k : Fill (formulas ∷ σ) → A)
+        → feed (spellFormulas φs ls) (at formulas σ k) ≡ feed ls (past formulas φs σ k)
     reads-formulas noFormula ls σ k = refl
     reads-formulas (andFormula φ φs) ls σ k =
         first-formula φ (spellFormulas φs ls) σ k
         ∙ reads φ (spellFormulas φs ls) (formulas ∷ σ) (λ f. k (andFormula (f .0) (f .1 .0), f .1 .1))
         ∙ reads-formulas φs ls σ (λ f. k (andFormula φ (f .0), f .1))
 
-    reads-bindings : (xs : Bindings) (ls : List Lexeme) (σ : List Due) (k : Fill (bounds ∷ σ) → A) → feed (spellBindings xs ls) (at bounds σ k) ≡ feed ls (past bounds xs σ k)
+    reads-bindings : (xs : Bindings) (ls : List Lexeme) (σ : List Due) (k : Fill (bounds ∷ σ) → A)
+        → feed (spellBindings xs ls) (at bounds σ k) ≡ feed ls (past bounds xs σ k)
     reads-bindings noBinding ls σ k = refl
     reads-bindings (andBinding x φ xs) ls σ k =
         reads φ (closes ∷ spellBindings xs ls) (closer ∷ bounds ∷ σ) (λ f. k (andBinding x (f .0) (f .1 .1 .0), f .1 .1 .1))

@@ -7,10 +7,15 @@ use mathlib.Core.Bool.{Bool, true, false, cond, _&&_, true≢false, false≢true
 use mathlib.Core.List.{List, [], _∷_, _++_, append-assoc, append-nil}
 use mathlib.Core.Option.{Option, none, some, Option·none-ne-some, Option·some-injective}
 use lib.ListN.{length, take, drop, length-append}
-use Rattle.grammar.specs.Bytes.{Class, space, lineEnd, semicolon, opening, closing, digit, symbol, other, Word, constant, negation, connective, quantifier, letting, sort, name, classOf, wordOf}
-use Rattle.grammar.specs.Grammar.{Formula, Mode, between, comment, within, outside, onwards, ends, lexemes, lexemesFrom, Reads, InGrammar, Continues, Unread, breaks, stops}
-use Rattle.grammar.specs.Parser.{Due, Fill, Stack, andThen, feed, run, viable, State, enter, step, steps, finish, Outcome, read, unread, onRead, onStep, parseFrom, start, parse}
-use Rattle.grammar.specs.Names.{Place, Name, names, nameAt, wordAt, metAt, Located, locate, calledOf, endsAt, endedBy, whileSteps, metFrom, met, Every, EndsRun, StandsIn, firstUnknown, allKnown, Resolved, resolved, unreadAt, unknownAt, otherwise, orUnknown, resolve}
+use Rattle.grammar.specs.Bytes.{Class, space, lineEnd, semicolon, opening, closing, digit, symbol, other, Word, constant, negation, connective}
+use Rattle.grammar.specs.Bytes.{quantifier, letting, sort, name, classOf, wordOf}
+use Rattle.grammar.specs.Grammar.{Formula, Mode, between, comment, within, outside, onwards, ends, lexemes, lexemesFrom, Reads, InGrammar}
+use Rattle.grammar.specs.Grammar.{Continues, Unread, breaks, stops}
+use Rattle.grammar.specs.Parser.{Due, Fill, Stack, andThen, feed, run, viable, State, enter, step, steps, finish, Outcome, read, unread, onRead}
+use Rattle.grammar.specs.Parser.{onStep, parseFrom, start, parse}
+use Rattle.grammar.specs.Names.{Place, Name, names, nameAt, wordAt, metAt, Located, locate, calledOf, endsAt, endedBy, whileSteps, metFrom, met}
+use Rattle.grammar.specs.Names.{Every, EndsRun, StandsIn, firstUnknown, allKnown, Resolved, resolved, unreadAt, unknownAt, otherwise, orUnknown}
+use Rattle.grammar.specs.Names.{resolve}
 use Rattle.grammar.specs.Statements.{NamesMet, NamesStand, NamesBefore, NamesDue, ResolvedExactly, UnreadFirst, UnknownFirst}
 use Rattle.grammar.proofs.Exact.{read-exactly, unread-exactly}
 use Rattle.grammar.proofs.NamesMet.{names-met}
@@ -23,7 +28,8 @@ module _ (known : Name → Bool) where
   first-none [] e = refl
   first-none (l ∷ ls) e = go (known (l .called)) (first-none ls) e
     where
-      go : (b : Bool) → (firstUnknown known ls ≡ none → allKnown known (calledOf ls) ≡ true) → cond b (firstUnknown known ls) (some (l .first)) ≡ none → (b && allKnown known (calledOf ls)) ≡ true
+      go : (b : Bool) → (firstUnknown known ls ≡ none → allKnown known (calledOf ls) ≡ true) → cond b (firstUnknown known ls) (some (l .first)) ≡ none
+          → (b && allKnown known (calledOf ls)) ≡ true
       go true f e = f e
       go false f e = absurd (Option·none-ne-some (l .first) (sym e))
 
@@ -32,7 +38,8 @@ module _ (known : Name → Bool) where
   all-first [] e = refl
   all-first (l ∷ ls) e = go (known (l .called)) (all-first ls) e
     where
-      go : (b : Bool) → (allKnown known (calledOf ls) ≡ true → firstUnknown known ls ≡ none) → (b && allKnown known (calledOf ls)) ≡ true → cond b (firstUnknown known ls) (some (l .first)) ≡ none
+      go : (b : Bool) → (allKnown known (calledOf ls) ≡ true → firstUnknown known ls ≡ none) → (b && allKnown known (calledOf ls)) ≡ true
+          → cond b (firstUnknown known ls) (some (l .first)) ≡ none
       go true f e = f e
       go false f e = absurd (false≢true e)
 
@@ -46,9 +53,13 @@ off i j h e = omega arith
 
 pub resolved-exactly : ResolvedExactly
 unfolding resolve orUnknown otherwise code
-resolved-exactly known text φ = (there (firstUnknown known (met text)) refl (parse text) refl, λ h. rw (all-first known (met text) (rw (names-met text φ (h .0)) (h .1)), read-exactly text φ .1 (h .0)))
+resolved-exactly known text φ = (
+  there (firstUnknown known (met text)) refl (parse text) refl,
+  λ h. rw (all-first known (met text) (rw (names-met text φ (h .0)) (h .1)), read-exactly text φ .1 (h .0)),
+)
   where
-    there : (o : Option ℕ) → firstUnknown known (met text) ≡ o → (p : Outcome Formula) → parse text ≡ p → orUnknown o (otherwise p) ≡ resolved φ → Reads text φ × (allKnown known (names φ []) ≡ true)
+    there : (o : Option ℕ) → firstUnknown known (met text) ≡ o → (p : Outcome Formula) → parse text ≡ p → orUnknown o (otherwise p) ≡ resolved φ
+        → Reads text φ × (allKnown known (names φ []) ≡ true)
     there (some m) h p q e = absurd (off 0 2 (omega arith) (sym (ap code e)))
     there none h (unread m) q e = absurd (off 0 1 (omega arith) (sym (ap code e)))
     there none h (read ψ) q e =
@@ -58,9 +69,13 @@ resolved-exactly known text φ = (there (firstUnknown known (met text)) refl (pa
 
 pub unread-first : UnreadFirst
 unfolding resolve orUnknown otherwise code
-unread-first known text n = (there (firstUnknown known (met text)) refl (parse text) refl, λ h. rw (all-first known (met text) (h .1), unread-exactly text n .1 (h .0)))
+unread-first known text n = (
+  there (firstUnknown known (met text)) refl (parse text) refl,
+  λ h. rw (all-first known (met text) (h .1), unread-exactly text n .1 (h .0)),
+)
   where
-    there : (o : Option ℕ) → firstUnknown known (met text) ≡ o → (p : Outcome Formula) → parse text ≡ p → orUnknown o (otherwise p) ≡ unreadAt n → Unread text n × (allKnown known (calledOf (met text)) ≡ true)
+    there : (o : Option ℕ) → firstUnknown known (met text) ≡ o → (p : Outcome Formula) → parse text ≡ p → orUnknown o (otherwise p) ≡ unreadAt n
+        → Unread text n × (allKnown known (calledOf (met text)) ≡ true)
     there (some m) h p q e = absurd (off 1 2 (omega arith) (sym (ap code e)))
     there none h (read ψ) q e = absurd (off 0 1 (omega arith) (ap code e))
     there none h (unread m) q e =

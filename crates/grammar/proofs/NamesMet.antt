@@ -8,10 +8,17 @@ use mathlib.Core.Bool.{Bool, true, false, cond, true≢false, false≢true}
 use mathlib.Core.List.{List, [], _∷_, _++_, append-assoc, append-nil}
 use mathlib.Core.Option.{Option, none, some}
 use lib.ListN.{length}
-use Rattle.grammar.specs.Bytes.{Class, space, lineEnd, semicolon, opening, closing, digit, symbol, other, Word, constant, negation, connective, quantifier, letting, sort, name, classOf, wordOf, bytes}
-use Rattle.grammar.specs.Grammar.{SortedVariable, declares, Formula, called, truth, bracketed, Bracketed, denies, connects, applies, quantifies, lets, Formulas, noFormula, andFormula, Bindings, noBinding, andBinding, Lexeme, opens, closes, word, stray, spell, spellVariable, spellVariables, spellBracketed, spellFormulas, spellBindings, spelling, Mode, between, comment, within, bracket, ends, outside, onwards, last, lexemesFrom, lexemes, Reads}
-use Rattle.grammar.specs.Parser.{Due, formula, formulas, inside, opener, closer, sorted, sorteds, bound, bounds, variable, sortName, One, Fill, Stack, andThen, push, advance, onFormula, onFormulas, onInside, onVariable, onSort, takes, feed, complete, run, mayGrow, viable, State, enter, step, steps, finish, start}
-use Rattle.grammar.specs.Names.{Place, either, symbolOnly, variableOnly, Name, variableNames, names, namesInside, namesOfAll, namesBound, nameAt, wordAt, metAt, Located, locate, calledOf, endsAt, endedBy, whileSteps, metFrom, met}
+use Rattle.grammar.specs.Bytes.{Class, space, lineEnd, semicolon, opening, closing, digit, symbol, other, Word, constant, negation, connective}
+use Rattle.grammar.specs.Bytes.{quantifier, letting, sort, name, classOf, wordOf, bytes}
+use Rattle.grammar.specs.Grammar.{SortedVariable, declares, Formula, called, truth, bracketed, Bracketed, denies, connects, applies, quantifies}
+use Rattle.grammar.specs.Grammar.{lets, Formulas, noFormula, andFormula, Bindings, noBinding, andBinding, Lexeme, opens, closes, word, stray}
+use Rattle.grammar.specs.Grammar.{spell, spellVariable, spellVariables, spellBracketed, spellFormulas, spellBindings, spelling, Mode, between}
+use Rattle.grammar.specs.Grammar.{comment, within, bracket, ends, outside, onwards, last, lexemesFrom, lexemes, Reads}
+use Rattle.grammar.specs.Parser.{Due, formula, formulas, inside, opener, closer, sorted, sorteds, bound, bounds, variable, sortName, One, Fill}
+use Rattle.grammar.specs.Parser.{Stack, andThen, push, advance, onFormula, onFormulas, onInside, onVariable, onSort, takes, feed, complete, run}
+use Rattle.grammar.specs.Parser.{mayGrow, viable, State, enter, step, steps, finish, start}
+use Rattle.grammar.specs.Names.{Place, either, symbolOnly, variableOnly, Name, variableNames, names, namesInside, namesOfAll, namesBound}
+use Rattle.grammar.specs.Names.{nameAt, wordAt, metAt, Located, locate, calledOf, endsAt, endedBy, whileSteps, metFrom, met}
 use Rattle.grammar.proofs.Words.{grown}
 use Rattle.grammar.proofs.Bytewise.{refuses}
 
@@ -56,7 +63,8 @@ module _ {A : Type 0} where
       → trace (spellVariables xs ls) (at sorteds σ k) ≡ variableNames xs (trace ls (past sorteds xs σ k))
   unfolding spellVariables trace onStack metIn metAt wordAt nameAt takes andThen push advance onVariable onSort variableNames
   traces-variables [] ls σ k = refl
-  traces-variables (declares x s ∷ xs) ls σ k = ap (λ ns. record { place = variableOnly; spelled = x } ∷ ns) (traces-variables xs ls σ (λ f. k (declares x s ∷ f .0, f .1)))
+  traces-variables (declares x s ∷ xs) ls σ k =
+      ap (λ ns. record { place = variableOnly; spelled = x } ∷ ns) (traces-variables xs ls σ (λ f. k (declares x s ∷ f .0, f .1)))
 
   first-traced : (φ : Formula) (ls : List Lexeme) (σ : List Due) (k : Fill (formulas ∷ σ) → A)
       → trace (spell φ ls) (at formulas σ k) ≡ trace (spell φ ls) (at formula (formulas ∷ σ) (λ f. k (andFormula (f .0) (f .1 .0), f .1 .1)))
@@ -66,14 +74,17 @@ module _ {A : Type 0} where
   first-traced (bracketed b) ls σ k = refl
 
   mutual
-    unfolding spell spellVariable spellVariables trace onStack metIn metAt wordAt nameAt takes andThen push advance onFormula onFormulas onInside onVariable onSort names variableNames
+    unfolding spell spellVariable spellVariables trace onStack metIn metAt wordAt nameAt takes andThen push advance onFormula onFormulas onInside onVariable onSort names
+        variableNames
 
-    pub traces : (φ : Formula) (ls : List Lexeme) (σ : List Due) (k : Fill (formula ∷ σ) → A) → trace (spell φ ls) (at formula σ k) ≡ names φ (trace ls (past formula φ σ k))
+    pub traces : (φ : Formula) (ls : List Lexeme) (σ : List Due) (k : Fill (formula ∷ σ) → A)
+        → trace (spell φ ls) (at formula σ k) ≡ names φ (trace ls (past formula φ σ k))
     traces (called w) ls σ k = refl
     traces (truth v) ls σ k = refl
     traces (bracketed b) ls σ k = traces-inside b ls σ (λ f. k (bracketed (f .0), f .1))
 
-    traces-inside : (b : Bracketed) (ls : List Lexeme) (σ : List Due) (k : Fill (inside ∷ σ) → A) → trace (spellBracketed b ls) (at inside σ k) ≡ namesInside b (trace ls (past inside b σ k))
+    traces-inside : (b : Bracketed) (ls : List Lexeme) (σ : List Due) (k : Fill (inside ∷ σ) → A)
+        → trace (spellBracketed b ls) (at inside σ k) ≡ namesInside b (trace ls (past inside b σ k))
     traces-inside (denies φ) ls σ k = traces φ (closes ∷ ls) (closer ∷ σ) (λ f. k (denies (f .0), f .1 .1))
     traces-inside (connects c φ ψ) ls σ k =
         traces φ (spell ψ (closes ∷ ls)) (formula ∷ closer ∷ σ) (λ f. k (connects c (f .0) (f .1 .0), f .1 .1 .1))
@@ -88,19 +99,22 @@ module _ {A : Type 0} where
         ∙ ap (variableNames xs) (traces φ (closes ∷ ls) (closer ∷ σ) (λ f. k (quantifies q (declares x s) xs (f .0), f .1 .1))))
     traces-inside (lets x φ xs ψ) ls σ k =
         ap (λ ns. record { place = variableOnly; spelled = x } ∷ ns)
-        (traces φ (closes ∷ spellBindings xs (spell ψ (closes ∷ ls))) (closer ∷ bounds ∷ formula ∷ closer ∷ σ) (λ f. k (lets x (f .0) (f .1 .1 .0) (f .1 .1 .1 .0), f .1 .1 .1 .1 .1))
+        (traces φ (closes ∷ spellBindings xs (spell ψ (closes ∷ ls))) (closer ∷ bounds ∷ formula ∷ closer ∷ σ)
+        (λ f. k (lets x (f .0) (f .1 .1 .0) (f .1 .1 .1 .0), f .1 .1 .1 .1 .1))
         ∙ ap (names φ)
         (traces-bindings xs (spell ψ (closes ∷ ls)) (formula ∷ closer ∷ σ) (λ f. k (lets x φ (f .0) (f .1 .0), f .1 .1 .1))
         ∙ ap (namesBound xs) (traces ψ (closes ∷ ls) (closer ∷ σ) (λ f. k (lets x φ xs (f .0), f .1 .1)))))
 
-    traces-formulas : (φs : Formulas) (ls : List Lexeme) (σ : List Due) (k : Fill (formulas ∷ σ) → A) → trace (spellFormulas φs ls) (at formulas σ k) ≡ namesOfAll φs (trace ls (past formulas φs σ k))
+    traces-formulas : (φs : Formulas) (ls : List Lexeme) (σ : List Due) (k : Fill (formulas ∷ σ) → A)
+        → trace (spellFormulas φs ls) (at formulas σ k) ≡ namesOfAll φs (trace ls (past formulas φs σ k))
     traces-formulas noFormula ls σ k = refl
     traces-formulas (andFormula φ φs) ls σ k =
         first-traced φ (spellFormulas φs ls) σ k
         ∙ traces φ (spellFormulas φs ls) (formulas ∷ σ) (λ f. k (andFormula (f .0) (f .1 .0), f .1 .1))
         ∙ ap (names φ) (traces-formulas φs ls σ (λ f. k (andFormula φ (f .0), f .1)))
 
-    traces-bindings : (xs : Bindings) (ls : List Lexeme) (σ : List Due) (k : Fill (bounds ∷ σ) → A) → trace (spellBindings xs ls) (at bounds σ k) ≡ namesBound xs (trace ls (past bounds xs σ k))
+    traces-bindings : (xs : Bindings) (ls : List Lexeme) (σ : List Due) (k : Fill (bounds ∷ σ) → A)
+        → trace (spellBindings xs ls) (at bounds σ k) ≡ namesBound xs (trace ls (past bounds xs σ k))
     traces-bindings noBinding ls σ k = refl
     traces-bindings (andBinding x φ xs) ls σ k =
         ap (λ ns. record { place = variableOnly; spelled = x } ∷ ns)
@@ -176,7 +190,8 @@ module _ {A : Type 0} where
   trace-word : (w : List ℕ) (k : Class) (n : ℕ) (s : Stack A) → trace (word (wordOf w) ∷ bracket k) s ≡ calledOf (endsAt n (within w) (s .due))
   unfolding trace metIn endsAt onStack
   trace-word w k n s =
-      ap (metAt (s .due) (wordOf w) ++_) (go (takes (s .due) (s .back) (word (wordOf w)))) ∙ append-nil (metAt (s .due) (wordOf w)) ∙ sym (located (n - length w) (metAt (s .due) (wordOf w)))
+      ap (metAt (s .due) (wordOf w) ++_) (go (takes (s .due) (s .back) (word (wordOf w)))) ∙ append-nil (metAt (s .due) (wordOf w))
+      ∙ sym (located (n - length w) (metAt (s .due) (wordOf w)))
     where
       go : (o : Option (Stack A)) → onStack o (trace (bracket k)) ≡ []
       go none = refl
@@ -230,15 +245,19 @@ module _ {A : Type 0} where
       ∙ ap₂ _++_ (sym (ended-traced (st .mode) (classOf c) n (st .stack))) (byFeed (feed (ends (st .mode) (classOf c)) (st .stack)) (met-agrees cs (suc n)))
       ∙ sym (trace-append (ends (st .mode) (classOf c)) (lexemesFrom (onwards (st .mode) c (classOf c)) cs) (st .stack))
     where
-      byViable : (m : Mode) (s : Stack A) (b : Bool) → viable m (s .due) ≡ b → calledOf (metFrom (suc n) cs (record { mode = m; stack = s })) ≡ trace (lexemesFrom m cs) s
+      byViable : (m : Mode) (s : Stack A) (b : Bool) → viable m (s .due) ≡ b
+          → calledOf (metFrom (suc n) cs (record { mode = m; stack = s })) ≡ trace (lexemesFrom m cs) s
           → calledOf (whileSteps (cond b (some (record { mode = m; stack = s })) none) (metFrom (suc n) cs)) ≡ trace (lexemesFrom m cs) s
       byViable m s true e h = h
       byViable m s false e h = sym (not-viable-traced m s cs e)
 
       byFeed : (o : Option (Stack A)) → ((st : State A) → calledOf (metFrom (suc n) cs st) ≡ trace (lexemesFrom (st .mode) cs) (st .stack))
-          → calledOf (whileSteps (andThen o (enter (onwards (st .mode) c (classOf c)))) (metFrom (suc n) cs)) ≡ onStack o (trace (lexemesFrom (onwards (st .mode) c (classOf c)) cs))
+          → calledOf (whileSteps (andThen o (enter (onwards (st .mode) c (classOf c)))) (metFrom (suc n) cs))
+          ≡ onStack o (trace (lexemesFrom (onwards (st .mode) c (classOf c)) cs))
       byFeed none h = refl
-      byFeed (some s) h = byViable (onwards (st .mode) c (classOf c)) s (viable (onwards (st .mode) c (classOf c)) (s .due)) refl (h (record { mode = onwards (st .mode) c (classOf c); stack = s }))
+      byFeed (some s) h =
+          let m : Mode = onwards (st .mode) c (classOf c) in
+          byViable m s (viable m (s .due)) refl (h (record { mode = m; stack = s }))
 
 -- In a text that is read, the names met are those of its formula.
 pub names-met : (text : List ℕ) (φ : Formula) → Reads text φ → calledOf (met text) ≡ names φ []

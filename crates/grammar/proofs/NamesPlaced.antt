@@ -10,10 +10,15 @@ use mathlib.Core.List.{List, [], _∷_, _++_, append-assoc, append-nil}
 use mathlib.Core.Logic.{_⊎_, inl, inr}
 use mathlib.Core.Option.{Option, none, some, Option·none-ne-some, Option·some-injective}
 use lib.ListN.{length, take, drop, length-append}
-use Rattle.grammar.specs.Bytes.{Class, space, lineEnd, semicolon, opening, closing, digit, symbol, other, Word, constant, negation, connective, quantifier, letting, sort, name, Reserved, wordAmong, twelve, classOf, wordOf}
-use Rattle.grammar.specs.Grammar.{Formula, word, bracket, Mode, between, comment, within, outside, onwards, ends, lexemes, lexemesFrom, Reads, InGrammar, Continues, Unread, breaks, stops}
-use Rattle.grammar.specs.Parser.{Due, formula, formulas, inside, opener, closer, sorted, sorteds, bound, bounds, variable, sortName, Fill, Stack, Move, advance, onFormula, onFormulas, onInside, onVariable, push, takes, mayGrow, andThen, feed, run, viable, State, enter, step, steps, finish, Outcome, read, unread, onRead, onStep, parseFrom, start, parse}
-use Rattle.grammar.specs.Names.{Place, Name, names, nameAt, wordAt, metAt, Located, locate, calledOf, endsAt, endedBy, whileSteps, metFrom, met, Every, inRun, EndsRun, StandsIn}
+use Rattle.grammar.specs.Bytes.{Class, space, lineEnd, semicolon, opening, closing, digit, symbol, other, Word, constant, negation, connective}
+use Rattle.grammar.specs.Bytes.{quantifier, letting, sort, name, Reserved, wordAmong, twelve, classOf, wordOf}
+use Rattle.grammar.specs.Grammar.{Formula, word, bracket, Mode, between, comment, within, outside, onwards, ends, lexemes, lexemesFrom, Reads}
+use Rattle.grammar.specs.Grammar.{InGrammar, Continues, Unread, breaks, stops}
+use Rattle.grammar.specs.Parser.{Due, formula, formulas, inside, opener, closer, sorted, sorteds, bound, bounds, variable, sortName, Fill}
+use Rattle.grammar.specs.Parser.{Stack, Move, advance, onFormula, onFormulas, onInside, onVariable, push, takes, mayGrow, andThen, feed, run}
+use Rattle.grammar.specs.Parser.{viable, State, enter, step, steps, finish, Outcome, read, unread, onRead, onStep, parseFrom, start, parse}
+use Rattle.grammar.specs.Names.{Place, Name, names, nameAt, wordAt, metAt, Located, locate, calledOf, endsAt, endedBy, whileSteps, metFrom, met}
+use Rattle.grammar.specs.Names.{Every, inRun, EndsRun, StandsIn}
 use Rattle.grammar.specs.Statements.{NamesStand, NamesBefore, NamesDue}
 use Rattle.grammar.proofs.Exact.{read-exactly, unread-exactly, accepted, apart, Viable, stays}
 use Rattle.grammar.proofs.Bytewise.{agrees}
@@ -88,7 +93,8 @@ every-append P [] ys h k = k
 every-append P (x ∷ xs) ys h k = (h .0, every-append P xs ys (h .1) k)
 
 -- the name that a word is met as is spelled as the run
-name-spelled : (P : Located → Type 0) (n : ℕ) (d : Due) (w : List ℕ) → ((p : Place) → P (record { first = n; called = record { place = p; spelled = w } })) → Every P (locate n (nameAt d w))
+name-spelled : (P : Located → Type 0) (n : ℕ) (d : Due) (w : List ℕ)
+    → ((p : Place) → P (record { first = n; called = record { place = p; spelled = w } })) → Every P (locate n (nameAt d w))
 unfolding nameAt locate
 name-spelled P n formula w h = (h _, tt)
 name-spelled P n formulas w h = (h _, tt)
@@ -102,7 +108,8 @@ name-spelled P n bounds w h = tt
 name-spelled P n variable w h = (h _, tt)
 name-spelled P n sortName w h = tt
 
-word-spelled : (P : Located → Type 0) (n : ℕ) (σ : List Due) (w : List ℕ) → ((p : Place) → P (record { first = n; called = record { place = p; spelled = w } })) → Every P (locate n (metAt σ (wordOf w)))
+word-spelled : (P : Located → Type 0) (n : ℕ) (σ : List Due) (w : List ℕ)
+    → ((p : Place) → P (record { first = n; called = record { place = p; spelled = w } })) → Every P (locate n (metAt σ (wordOf w)))
 unfolding metAt locate wordOf twelve wordAt
 word-spelled P n [] w h = tt
 word-spelled P n (d ∷ σ) w h =
@@ -141,11 +148,13 @@ module _ {A : Type 0} where
   unfolding metFrom whileSteps
   stand [] p st h = ends-stand p [] (st .mode) (st .stack .due) h tt
   stand (c ∷ cs) p st h =
-      every-append (StandsIn (p ++ (c ∷ cs))) (endedBy (classOf c) (length p) (st .mode) (st .stack .due)) (whileSteps (step st c) (metFrom (suc (length p)) cs))
+      every-append (StandsIn (p ++ (c ∷ cs))) (endedBy (classOf c) (length p) (st .mode) (st .stack .due))
+      (whileSteps (step st c) (metFrom (suc (length p)) cs))
       (ended-every (StandsIn (p ++ (c ∷ cs))) (classOf c) (length p) (st .mode) (st .stack .due) (λ e. ends-stand p (c ∷ cs) (st .mode) (st .stack .due) h e))
       (go (step st c) refl (stand cs (p ++ (c ∷ []))))
     where
-      go : (o : Option (State A)) → step st c ≡ o → ((st′ : State A) → Held (p ++ (c ∷ [])) (st′ .mode) → Every (StandsIn (p ++ (c ∷ []) ++ cs)) (metFrom (length (p ++ (c ∷ []))) cs st′))
+      go : (o : Option (State A)) → step st c ≡ o
+          → ((st′ : State A) → Held (p ++ (c ∷ [])) (st′ .mode) → Every (StandsIn (p ++ (c ∷ []) ++ cs)) (metFrom (length (p ++ (c ∷ []))) cs st′))
           → Every (StandsIn (p ++ (c ∷ cs))) (whileSteps o (metFrom (suc (length p)) cs))
       go none e f = tt
       go (some st′) e f =
@@ -163,7 +172,8 @@ ends-before : (p : List ℕ) (m : Mode) (σ : List Due) (u : ℕ) → Held p m �
 unfolding endsAt
 ends-before p between σ u h e = tt
 ends-before p comment σ u h e = tt
-ends-before p (within w) σ u h e = word-spelled (λ l. l .first < u) (length p - length w) σ w (λ pl. omega (arith, length-append (h .0) w, ap length (h .1), h .2))
+ends-before p (within w) σ u h e =
+    word-spelled (λ l. l .first < u) (length p - length w) σ w (λ pl. omega (arith, length-append (h .0) w, ap length (h .1), h .2))
 
 module _ {A : Type 0} where
   at-least : (cs : List ℕ) (n m : ℕ) (st : State A) → parseFrom n cs st ≡ unread m → n ≤ m
@@ -179,15 +189,19 @@ module _ {A : Type 0} where
       go none f e = let q : n ≡ m = cc in omega arith
       go (some st′) f e = let h = f st′ e in omega arith
 
-  befores : (cs p : List ℕ) (st : State A) (u : ℕ) → Held p (st .mode) → parseFrom (length p) cs st ≡ unread u → Every (λ l. l .first < u) (metFrom (length p) cs st)
+  befores : (cs p : List ℕ) (st : State A) (u : ℕ) → Held p (st .mode) → parseFrom (length p) cs st ≡ unread u
+      → Every (λ l. l .first < u) (metFrom (length p) cs st)
   unfolding metFrom whileSteps parseFrom onStep
   befores [] p st u h e = ends-before p (st .mode) (st .stack .due) u h (at-least [] (length p) u st e)
   befores (c ∷ cs) p st u h e =
       every-append (λ l. l .first < u) (endedBy (classOf c) (length p) (st .mode) (st .stack .due)) (whileSteps (step st c) (metFrom (suc (length p)) cs))
-      (ended-every (λ l. l .first < u) (classOf c) (length p) (st .mode) (st .stack .due) (λ q. ends-before p (st .mode) (st .stack .due) u h (at-least (c ∷ cs) (length p) u st e)))
+      (ended-every (λ l. l .first < u) (classOf c) (length p) (st .mode) (st .stack .due)
+      (λ q. ends-before p (st .mode) (st .stack .due) u h (at-least (c ∷ cs) (length p) u st e)))
       (go (step st c) refl (λ st′. befores cs (p ++ (c ∷ [])) st′ u) e)
     where
-      go : (o : Option (State A)) → step st c ≡ o → ((st′ : State A) → Held (p ++ (c ∷ [])) (st′ .mode) → parseFrom (length (p ++ (c ∷ []))) cs st′ ≡ unread u → Every (λ l. l .first < u) (metFrom (length (p ++ (c ∷ []))) cs st′))
+      go : (o : Option (State A)) → step st c ≡ o
+          → ((st′ : State A) → Held (p ++ (c ∷ [])) (st′ .mode) → parseFrom (length (p ++ (c ∷ []))) cs st′ ≡ unread u
+          → Every (λ l. l .first < u) (metFrom (length (p ++ (c ∷ []))) cs st′))
           → onStep (length p) o (parseFrom (suc (length p)) cs) ≡ unread u → Every (λ l. l .first < u) (whileSteps o (metFrom (suc (length p)) cs))
       go none q f e = tt
       go (some st′) q f e =
@@ -227,7 +241,10 @@ word-move d (name w) = named-move d w
 module _ {A : Type 0} where
   -- the text goes on from here so that the name that ends here is met first
   abbrev Duly : ℕ → List Located → List ℕ → State A → Type 0
-  Duly n ls cs st = (suffix : List ℕ) × (a : A) × (later : List Name) × (andThen (steps (cs ++ suffix) st) finish ≡ some a) × (calledOf (metFrom n (cs ++ suffix) st) ≡ calledOf ls ++ later)
+  Duly n ls cs st =
+      (suffix : List ℕ) × (a : A) × (later : List Name)
+      × (andThen (steps (cs ++ suffix) st) finish ≡ some a)
+      × (calledOf (metFrom n (cs ++ suffix) st) ≡ calledOf ls ++ later)
 
   anyhow : (n : ℕ) (ls : List Located) (st : State A) → Viable st → ls ≡ [] → Duly n ls [] st
   unfolding calledOf
@@ -249,7 +266,8 @@ module _ {A : Type 0} where
         called-append (endsAt n (within w) (d ∷ σ)) (whileSteps (step st 32) (metFrom (suc n) (r .0))),
       )
 
-  within-duly : (n : ℕ) (w : List ℕ) (σ : List Due) (k : Fill σ → A) → viable (within w) σ ≡ true → Duly n (endsAt n (within w) σ) [] (record { mode = within w; stack = record { due = σ; back = k } })
+  within-duly : (n : ℕ) (w : List ℕ) (σ : List Due) (k : Fill σ → A) → viable (within w) σ ≡ true
+      → Duly n (endsAt n (within w) σ) [] (record { mode = within w; stack = record { due = σ; back = k } })
   unfolding viable mayGrow endsAt metAt locate
   within-duly n w [] k v = absurd (false≢true v)
   within-duly n w (d ∷ σ) k v = go (word-move d (wordOf w))
@@ -261,14 +279,16 @@ module _ {A : Type 0} where
       go (inl e) = anyhow n (endsAt n (within w) (d ∷ σ)) st v (ap (locate (n - length w)) e)
       go (inr m) = word-duly n w d σ k (m .0) (m .1)
 
-  here-duly : (n : ℕ) (m : Mode) (σ : List Due) (k : Fill σ → A) → viable m σ ≡ true → Duly n (endsAt n m σ) [] (record { mode = m; stack = record { due = σ; back = k } })
+  here-duly : (n : ℕ) (m : Mode) (σ : List Due) (k : Fill σ → A) → viable m σ ≡ true
+      → Duly n (endsAt n m σ) [] (record { mode = m; stack = record { due = σ; back = k } })
   unfolding endsAt
   here-duly n between σ k v = anyhow n [] (record { mode = between; stack = record { due = σ; back = k } }) v refl
   here-duly n comment σ k v = anyhow n [] (record { mode = comment; stack = record { due = σ; back = k } }) v refl
   here-duly n (within w) σ k v = within-duly n w σ k v
 
   -- what byte k ends is met first, or nothing is
-  ended-duly : (k : Class) (n : ℕ) (st : State A) → Viable st → Duly n (endsAt n (st .mode) (st .stack .due)) [] st → Duly n (endedBy k n (st .mode) (st .stack .due)) [] st
+  ended-duly : (k : Class) (n : ℕ) (st : State A) → Viable st → Duly n (endsAt n (st .mode) (st .stack .due)) [] st
+      → Duly n (endedBy k n (st .mode) (st .stack .due)) [] st
   unfolding endedBy
   ended-duly space n st v h = h
   ended-duly lineEnd n st v h = h
@@ -279,7 +299,8 @@ module _ {A : Type 0} where
   ended-duly symbol n st v h = anyhow n [] st v refl
   ended-duly other n st v h = h
 
-  further-duly : (c : ℕ) (cs xs : List ℕ) (n : ℕ) (st st′ : State A) → step st c ≡ some st′ → Duly (suc n) (metFrom (suc n) cs st′) xs st′ → Duly n (metFrom n (c ∷ cs) st) (c ∷ xs) st
+  further-duly : (c : ℕ) (cs xs : List ℕ) (n : ℕ) (st st′ : State A) → step st c ≡ some st′ → Duly (suc n) (metFrom (suc n) cs st′) xs st′
+      → Duly n (metFrom n (c ∷ cs) st) (c ∷ xs) st
   unfolding steps andThen metFrom whileSteps
   further-duly c cs xs n st st′ h r =
       let b = endedBy (classOf c) n (st .mode) (st .stack .due) in (
@@ -290,7 +311,8 @@ module _ {A : Type 0} where
         called-append b (whileSteps (step st c) (metFrom (suc n) (xs ++ r .0)))
             ∙ ap (calledOf b ++_) (ap (λ o. calledOf (whileSteps o (metFrom (suc n) (xs ++ r .0)))) h ∙ r .4)
             ∙ sym (append-assoc (calledOf b) (calledOf (metFrom (suc n) cs st′)) (r .2))
-            ∙ ap (_++ r .2) (sym (called-append b (whileSteps (step st c) (metFrom (suc n) cs)) ∙ ap (λ o. calledOf b ++ calledOf (whileSteps o (metFrom (suc n) cs))) h)),
+            ∙ ap (_++ r .2) (sym (called-append b (whileSteps (step st c) (metFrom (suc n) cs))
+            ∙ ap (λ o. calledOf b ++ calledOf (whileSteps o (metFrom (suc n) cs))) h)),
       )
 
   duly : (cs : List ℕ) (n m : ℕ) (st : State A) → Viable st → parseFrom n cs st ≡ unread m → (i : ℕ) × (m ≡ n + i) × Duly n (metFrom n cs st) (take i cs) st
@@ -305,7 +327,9 @@ module _ {A : Type 0} where
       nothing : step st c ≡ none → metFrom n (c ∷ cs) st ≡ endedBy (classOf c) n (st .mode) (st .stack .due)
       nothing h = rw h (append-nil (endedBy (classOf c) n (st .mode) (st .stack .due)))
 
-      go : (o : Option (State A)) → step st c ≡ o → ((st′ : State A) → Viable st′ → parseFrom (suc n) cs st′ ≡ unread m → (i : ℕ) × (m ≡ suc n + i) × Duly (suc n) (metFrom (suc n) cs st′) (take i cs) st′)
+      go : (o : Option (State A)) → step st c ≡ o
+          → ((st′ : State A) → Viable st′ → parseFrom (suc n) cs st′ ≡ unread m
+          → (i : ℕ) × (m ≡ suc n + i) × Duly (suc n) (metFrom (suc n) cs st′) (take i cs) st′)
           → onStep n o (parseFrom (suc n) cs) ≡ unread m → (i : ℕ) × (m ≡ n + i) × Duly n (metFrom n (c ∷ cs) st) (take i (c ∷ cs)) st
       go none h f e =
           let q : n ≡ m = cc in

@@ -11,7 +11,8 @@ use lib.Dec.{eqb}
 use borrow.Author.Tests.{eqb-true, eq-eqb}
 use Rattle.bundle.specs.Lists.{sameList, has}
 use Rattle.grammar.specs.Bytes.{bytes, Word, Reserved, name, twelve, wordAmong, wordOf}
-use Rattle.grammar.specs.Parser.{Due, formula, formulas, inside, opener, closer, sorted, sorteds, bound, bounds, variable, sortName, Fill, onSort, starts, mayGrow, takes, advance, andThen}
+use Rattle.grammar.specs.Parser.{Due, formula, formulas, inside, opener, closer, sorted, sorteds, bound, bounds, variable, sortName, Fill}
+use Rattle.grammar.specs.Parser.{onSort, starts, mayGrow, takes, advance, andThen}
 
 abbrev pub Each : (Reserved → Type 0) → List Reserved → Type 0
 Each P [] = Unit {0}
@@ -51,9 +52,27 @@ tilde (x ∷ w) (y ∷ v) h e = go (eqb x y) (tilde w v (or-false (eqb 126 y) (h
 pub grows-name : (w : List ℕ) → wordOf (w ++ (126 ∷ [])) ≡ name (w ++ (126 ∷ []))
 unfolding wordOf twelve has bytes
 grows-name w =
-    let no : (v : List ℕ) (m : Word) → has 126 v ≡ false → sameList (w ++ (126 ∷ [])) v ≡ true → m ≡ name (w ++ (126 ∷ [])) = λ v m h e. absurd (false≢true (tilde w v h e)) in
-    among (λ m. m ≡ name (w ++ (126 ∷ []))) (w ++ (126 ∷ [])) refl twelve
-    (no _ _ refl, (no _ _ refl, (no _ _ refl, (no _ _ refl, (no _ _ refl, (no _ _ refl, (no _ _ refl, (no _ _ refl, (no _ _ refl, (no _ _ refl, (no _ _ refl, (no _ _ refl, tt))))))))))))
+    let no : (v : List ℕ) (m : Word) → has 126 v ≡ false → sameList (w ++ (126 ∷ [])) v ≡ true → m ≡ name (w ++ (126 ∷ [])) =
+    λ v m h e. absurd (false≢true (tilde w v h e)) in
+    among (λ m. m ≡ name (w ++ (126 ∷ []))) (w ++ (126 ∷ [])) refl twelve (
+      no _ _ refl,
+      (
+        no _ _ refl,
+        (
+          no _ _ refl,
+          (
+            no _ _ refl,
+            (
+              no _ _ refl,
+              (
+                no _ _ refl,
+                (no _ _ refl, (no _ _ refl, (no _ _ refl, (no _ _ refl, (no _ _ refl, (no _ _ refl, tt)))))),
+              ),
+            ),
+          ),
+        ),
+      ),
+    )
 
 -- ---- sorts
 
@@ -93,7 +112,10 @@ not-sort w b i =
                       λ e. refl,
                       (
                         λ e. refl,
-                        (λ e. absurd (false≢true (clash _ (same-starts w (bytes "Bool") e) b)), (λ e. absurd (false≢true (clash _ (same-starts w (bytes "Item") e) i)), tt)),
+                        (
+                          λ e. absurd (false≢true (clash _ (same-starts w (bytes "Bool") e) b)),
+                          (λ e. absurd (false≢true (clash _ (same-starts w (bytes "Item") e) i)), tt),
+                        ),
                       ),
                     ),
                   ),

@@ -5,7 +5,8 @@ use mathlib.Core.Bool.{Bool}
 use mathlib.Core.List.{List, [], _∷_, _++_}
 use lib.ListN.{length, take}
 use Rattle.logic.specs.Terms.{Binder}
-use Rattle.grammar.specs.Bytes.{Class, space, lineEnd, semicolon, opening, closing, digit, symbol, other, SortWord, Connective, Word, constant, negation, connective, quantifier, letting, sort, name, classOf, wordOf}
+use Rattle.grammar.specs.Bytes.{Class, space, lineEnd, semicolon, opening, closing, digit, symbol, other, SortWord, Connective, Word, constant}
+use Rattle.grammar.specs.Bytes.{negation, connective, quantifier, letting, sort, name, classOf, wordOf}
 
 -- ---- formulas
 

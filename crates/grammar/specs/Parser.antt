@@ -6,7 +6,10 @@ use mathlib.Core.Option.{Option, none, some}
 use lib.Dec.{eqb}
 use Rattle.logic.specs.Terms.{Binder}
 use Rattle.grammar.specs.Bytes.{SortWord, Connective, Word, constant, negation, connective, quantifier, letting, sort, name, classOf, wordOf, bytes}
-use Rattle.grammar.specs.Grammar.{SortedVariable, declares, Formula, called, truth, bracketed, Bracketed, denies, connects, applies, quantifies, lets, Formulas, noFormula, andFormula, Bindings, noBinding, andBinding, Lexeme, opens, closes, word, stray, Mode, between, comment, within, ends, onwards, last, spell, spellVariable, spellVariables, spellBracketed, spellFormulas, spellBindings}
+use Rattle.grammar.specs.Grammar.{SortedVariable, declares, Formula, called, truth, bracketed, Bracketed, denies, connects, applies, quantifies}
+use Rattle.grammar.specs.Grammar.{lets, Formulas, noFormula, andFormula, Bindings, noBinding, andBinding, Lexeme, opens, closes, word, stray}
+use Rattle.grammar.specs.Grammar.{Mode, between, comment, within, ends, onwards, last, spell, spellVariable, spellVariables, spellBracketed}
+use Rattle.grammar.specs.Grammar.{spellFormulas, spellBindings}
 
 -- ---- what may be due
 
@@ -91,8 +94,10 @@ unfoldable pub onInside : Word → Option (Move inside)
 onInside (constant v) = none
 onInside negation = some (record { next = formula ∷ closer ∷ []; back = λ f. denies (f .0) })
 onInside (connective c) = some (record { next = formula ∷ formula ∷ closer ∷ []; back = λ f. connects c (f .0) (f .1 .0) })
-onInside (quantifier q) = some (record { next = opener ∷ sorted ∷ sorteds ∷ formula ∷ closer ∷ []; back = λ f. quantifies q (f .1 .0) (f .1 .1 .0) (f .1 .1 .1 .0) })
-onInside letting = some (record { next = opener ∷ bound ∷ bounds ∷ formula ∷ closer ∷ []; back = λ f. lets (f .1 .0 .0) (f .1 .0 .1) (f .1 .1 .0) (f .1 .1 .1 .0) })
+onInside (quantifier q) =
+    some (record { next = opener ∷ sorted ∷ sorteds ∷ formula ∷ closer ∷ []; back = λ f. quantifies q (f .1 .0) (f .1 .1 .0) (f .1 .1 .1 .0) })
+onInside letting =
+    some (record { next = opener ∷ bound ∷ bounds ∷ formula ∷ closer ∷ []; back = λ f. lets (f .1 .0 .0) (f .1 .0 .1) (f .1 .1 .0) (f .1 .1 .1 .0) })
 onInside (sort s) = none
 onInside (name w) = some (record { next = formula ∷ formulas ∷ []; back = λ f. applies w (f .0) (f .1 .0) })
 

@@ -9,7 +9,8 @@ use Prim.Native.Nat.{_<_}
 use mathlib.Core.List.{_++_, []}
 use mathlib.Core.Option.{some}
 use Rattle.grammar.specs.Grammar.{Formula, spelling, Reads, InGrammar, Unread}
-use Rattle.grammar.specs.Names.{Name, names, Located, calledOf, met, Every, StandsIn, firstUnknown, allKnown, Resolved, resolved, unreadAt, unknownAt, resolve}
+use Rattle.grammar.specs.Names.{Name, names, Located, calledOf, met, Every, StandsIn, firstUnknown, allKnown, Resolved, resolved, unreadAt}
+use Rattle.grammar.specs.Names.{unknownAt, resolve}
 use Rattle.grammar.specs.Parser.{read, unread, parse, judged}
 
 -- Different formulas are spelled differently; so a text has one reading.
@@ -48,10 +49,12 @@ NamesDue = (text : List ℕ) (n : ℕ) → Unread text n →
 -- The answer with 19 and 20: a formula exactly where the text is read and its names are known; 19 exactly where it is unread and no name before
 -- is unknown; 20 exactly at the first unknown name.
 abbrev pub ResolvedExactly : Type 0
-ResolvedExactly = (known : Name → Bool) (text : List ℕ) (φ : Formula) → (resolve known text ≡ resolved φ) ↔ (Reads text φ × (allKnown known (names φ []) ≡ true))
+ResolvedExactly =
+    (known : Name → Bool) (text : List ℕ) (φ : Formula) → (resolve known text ≡ resolved φ) ↔ (Reads text φ × (allKnown known (names φ []) ≡ true))
 
 abbrev pub UnreadFirst : Type 0
-UnreadFirst = (known : Name → Bool) (text : List ℕ) (n : ℕ) → (resolve known text ≡ unreadAt n) ↔ (Unread text n × (allKnown known (calledOf (met text)) ≡ true))
+UnreadFirst =
+    (known : Name → Bool) (text : List ℕ) (n : ℕ) → (resolve known text ≡ unreadAt n) ↔ (Unread text n × (allKnown known (calledOf (met text)) ≡ true))
 
 abbrev pub UnknownFirst : Type 0
 UnknownFirst = (known : Name → Bool) (text : List ℕ) (n : ℕ) → (resolve known text ≡ unknownAt n) ↔ (firstUnknown known (met text) ≡ some n)

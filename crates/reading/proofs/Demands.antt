@@ -213,6 +213,7 @@ unfolding reading leaves
 areas-left f text out words sets =
     zeros-as (answer f text out words sets) out words sets
     (λ j e.
-    let s : ReadSo f text out words sets (length (fileOf j)) = written-so f text out words sets (length (fileOf j)) (ap (λ (a : Answer). leaves a out words sets .answer) e) in
+    let n : ℕ = length (fileOf j) in
+    let s : ReadSo f text out words sets n = written-so f text out words sets n (ap (λ (a : Answer). leaves a out words sets .answer) e) in
     let room = job-room (bundleOf f) (s .formula) out words sets (s .fits) (s .long) in
     omega (arith, room, s .size))

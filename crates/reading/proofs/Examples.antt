@@ -1,8 +1,17 @@
--- The table of examples holds, by computation.
+-- The examples are right, by computation.
 use mathlib.Core.Path.{_≡_, refl}
 use Rattle.reading.specs.Reader.{readText}
-use Rattle.reading.specs.Examples.{rows, Holds}
+use Rattle.reading.specs.Reading.{reading}
+use Rattle.reading.specs.Examples.{readRows, unreadRows, moreUnreadRows, unknownRows, missortedRows, crowdedRows, calls, ExamplesRight}
 
-pub examples-hold : Holds rows
-unfolding rows readText
-examples-hold = (refl, (refl, (refl, (refl, (refl, (refl, (refl, (refl, (refl, (refl, (refl, (refl, (refl, (refl, (refl, (refl, (refl, (refl, (refl, (refl, (refl, (refl, (refl, (refl, (refl, (refl, (refl, (refl, (refl, (refl, (refl, (refl, (refl, (refl, (refl, (refl, (refl, (refl, (refl, (refl, (refl, (refl, (refl, (refl, (refl, (refl, (refl, (refl, (refl, (refl, (refl, (refl, (refl, (refl, (refl, (refl, (refl, (refl, (refl, (refl, tt))))))))))))))))))))))))))))))))))))))))))))))))))))))))))))
+pub examples-right : ExamplesRight
+unfolding readRows unreadRows moreUnreadRows unknownRows missortedRows crowdedRows calls readText reading
+examples-right = record {
+  read = (refl, (refl, (refl, (refl, (refl, (refl, (refl, (refl, (refl, (refl, (refl, (refl, (refl, tt)))))))))))));
+  unread = (refl, (refl, (refl, (refl, (refl, (refl, (refl, (refl, (refl, (refl, (refl, (refl, tt))))))))))));
+  more-unread = (refl, (refl, (refl, (refl, (refl, (refl, (refl, (refl, (refl, (refl, (refl, (refl, (refl, (refl, tt))))))))))))));
+  unknown = (refl, (refl, (refl, (refl, (refl, (refl, (refl, (refl, (refl, (refl, (refl, (refl, (refl, (refl, (refl, (refl, tt))))))))))))))));
+  missorted = (refl, (refl, (refl, (refl, (refl, (refl, (refl, (refl, (refl, (refl, tt))))))))));
+  crowded = (refl, (refl, (refl, (refl, (refl, tt)))));
+  calls = (refl, (refl, (refl, (refl, (refl, (refl, (refl, (refl, (refl, (refl, (refl, (refl, (refl, (refl, (refl, (refl, (refl, tt)))))))))))))))));
+}

@@ -7,11 +7,14 @@ use mathlib.Core.List.{List, [], _∷_}
 use mathlib.Core.Option.{Option, none, some}
 use Rattle.bundle.specs.Bundle.{Bundle}
 use Rattle.logic.specs.Terms.{Terms}
-use Rattle.grammar.specs.Grammar.{Formula, called, truth, bracketed, Bracketed, denies, connects, applies, quantifies, lets, Formulas, noFormula, andFormula, Bindings, noBinding, andBinding}
+use Rattle.grammar.specs.Grammar.{Formula, called, truth, bracketed, Bracketed, denies, connects, applies, quantifies, lets, Formulas, noFormula}
+use Rattle.grammar.specs.Grammar.{andFormula, Bindings, noBinding, andBinding}
 use Rattle.grammar.specs.Parser.{andThen}
 use Rattle.reading.specs.Called.{variableCalled, symbolCalled}
-use Rattle.reading.specs.Typing.{Typed, TypedList, TypedBindings, only, applied, connectiveSymbol, alone, quantified, letting, sorts, sortsInside, sortsAll, sortsBound}
-use Rattle.reading.specs.Local.{aloneSort, aloneTerm, aloneFine, accepts, headSort, insideSort, headSorts, boundSorts, boundNames, plain, plainInside, plainAll, plainBound, fine, fineInside, fineAll, fineBound, typed, SortsLocal}
+use Rattle.reading.specs.Typing.{Typed, TypedList, TypedBindings, only, applied, connectiveSymbol, alone, quantified, letting, sorts}
+use Rattle.reading.specs.Typing.{sortsInside, sortsAll, sortsBound}
+use Rattle.reading.specs.Local.{aloneSort, aloneTerm, aloneFine, accepts, headSort, insideSort, headSorts, boundSorts, boundNames, plain}
+use Rattle.reading.specs.Local.{plainInside, plainAll, plainBound, fine, fineInside, fineAll, fineBound, typed, SortsLocal}
 
 -- one test after another
 both : {A B : Type 0} (o : Option A) (p : Bool) (a : A) (f : A → Option B) (q : Bool) (c : B) → o ≡ only p a → f a ≡ only q c → andThen o f ≡ only (p && q) c
@@ -45,8 +48,12 @@ mutual
 
   inside-local : (b : Bundle) (φ : Bracketed) → sortsInside b φ ≡ only (fineInside b φ) (record { term = plainInside b φ; sort = insideSort b φ })
   inside-local b (denies φ) = both (sorts b φ) (fine b φ) (typed b φ) _ _ _ (sorts-local b φ) refl
-  inside-local b (connects c φ ψ) = both (sorts b φ) (fine b φ) (typed b φ) _ _ _ (sorts-local b φ) (both (sorts b ψ) (fine b ψ) (typed b ψ) _ _ _ (sorts-local b ψ) refl)
-  inside-local b (applies f φ φs) = both (sorts b φ) (fine b φ) (typed b φ) _ _ _ (sorts-local b φ) (both (sortsAll b φs) (fineAll b φs) (listed b φs) _ _ _ (all-local b φs) refl)
+  inside-local b (connects c φ ψ) =
+      both (sorts b φ) (fine b φ) (typed b φ) _ _ _ (sorts-local b φ)
+      (both (sorts b ψ) (fine b ψ) (typed b ψ) _ _ _ (sorts-local b ψ) refl)
+  inside-local b (applies f φ φs) =
+      both (sorts b φ) (fine b φ) (typed b φ) _ _ _ (sorts-local b φ)
+      (both (sortsAll b φs) (fineAll b φs) (listed b φs) _ _ _ (all-local b φs) refl)
   inside-local b (quantifies q x xs φ) = both (sorts b φ) (fine b φ) (typed b φ) _ _ _ (sorts-local b φ) refl
   inside-local b (lets x φ xs ψ) =
       both (sorts b φ) (fine b φ) (typed b φ) _ _ _ (sorts-local b φ)
@@ -55,8 +62,12 @@ mutual
 
   all-local : (b : Bundle) (φs : Formulas) → sortsAll b φs ≡ only (fineAll b φs) (listed b φs)
   all-local b noFormula = refl
-  all-local b (andFormula φ φs) = both (sorts b φ) (fine b φ) (typed b φ) _ _ _ (sorts-local b φ) (after (sortsAll b φs) (fineAll b φs) (listed b φs) _ (all-local b φs))
+  all-local b (andFormula φ φs) =
+      both (sorts b φ) (fine b φ) (typed b φ) _ _ _ (sorts-local b φ)
+      (after (sortsAll b φs) (fineAll b φs) (listed b φs) _ (all-local b φs))
 
   bound-local : (b : Bundle) (xs : Bindings) → sortsBound b xs ≡ only (fineBound b xs) (bindings b xs)
   bound-local b noBinding = refl
-  bound-local b (andBinding x φ xs) = both (sorts b φ) (fine b φ) (typed b φ) _ _ _ (sorts-local b φ) (after (sortsBound b xs) (fineBound b xs) (bindings b xs) _ (bound-local b xs))
+  bound-local b (andBinding x φ xs) =
+      both (sorts b φ) (fine b φ) (typed b φ) _ _ _ (sorts-local b φ)
+      (after (sortsBound b xs) (fineBound b xs) (bindings b xs) _ (bound-local b xs))

@@ -8,7 +8,8 @@ use Rattle.bundle.specs.Bundle.{Bundle, sortOfVariable}
 use Rattle.bundle.specs.Lists.{sameList, different}
 use Rattle.logic.specs.Terms.{Term, Terms, var, app, letIn}
 use Rattle.logic.specs.Symbols.{truthSort, signatureOf, argumentSorts, resultSort}
-use Rattle.grammar.specs.Grammar.{Formula, called, truth, bracketed, Bracketed, denies, connects, applies, quantifies, lets, Formulas, noFormula, andFormula, Bindings, noBinding, andBinding}
+use Rattle.grammar.specs.Grammar.{Formula, called, truth, bracketed, Bracketed, denies, connects, applies, quantifies, lets, Formulas, noFormula}
+use Rattle.grammar.specs.Grammar.{andFormula, Bindings, noBinding, andBinding}
 use Rattle.reading.specs.Called.{variableCalled, symbolCalled}
 use Rattle.reading.specs.Typing.{Typed, only, connectiveSymbol, sortsDeclared, nested, sorts}
 
@@ -106,7 +107,8 @@ unfoldable mutual
   fineInside b (quantifies q x xs φ) = fine b φ && (sortsDeclared b (x ∷ xs) && eqb (headSort b φ) truthSort)
   fineInside b (lets x φ xs ψ) =
       fine b φ && (fineBound b xs && (fine b ψ
-      && (different (variableCalled b x ∷ boundNames b xs) && sameList (map (sortOfVariable b) (variableCalled b x ∷ boundNames b xs)) (headSort b φ ∷ boundSorts b xs))))
+      && (different (variableCalled b x ∷ boundNames b xs)
+      && sameList (map (sortOfVariable b) (variableCalled b x ∷ boundNames b xs)) (headSort b φ ∷ boundSorts b xs))))
 
   pub fineAll : Bundle → Formulas → Bool
   fineAll b noFormula = true

@@ -10,7 +10,8 @@ use Rattle.bundle.specs.Lists.{sameList, different}
 use Rattle.logic.specs.Terms.{Binder, Term, Terms, var, app, bind, letIn}
 use Rattle.logic.specs.Symbols.{truthSort, itemSort, isSort, signatureOf, argumentSorts, resultSort}
 use Rattle.grammar.specs.Bytes.{SortWord, bool, item, Connective, conjunction, disjunction, implication, equality}
-use Rattle.grammar.specs.Grammar.{SortedVariable, declares, Formula, called, truth, bracketed, Bracketed, denies, connects, applies, quantifies, lets, Formulas, noFormula, andFormula, Bindings, noBinding, andBinding}
+use Rattle.grammar.specs.Grammar.{SortedVariable, declares, Formula, called, truth, bracketed, Bracketed, denies, connects, applies, quantifies, lets}
+use Rattle.grammar.specs.Grammar.{Formulas, noFormula, andFormula, Bindings, noBinding, andBinding}
 use Rattle.grammar.specs.Parser.{andThen}
 use Rattle.reading.specs.Called.{variableCalled, symbolCalled}
 
