@@ -37,6 +37,7 @@ use Rattle.reading.specs.Demands.{DeclarationsFormed, ReadWell, DeepNeve
 use Rattle.reading.proofs.TermSorts.{TermSorted, formula-sorted}
 use Rattle.reading.proofs.Records.{SameDeclared, file-declares, FiledAs, filed, depth-below}
 use Rattle.reading.proofs.SmallRecords.{term-small}
+use Rattle.reading.proofs.Nesting.{nesting-depth}
 use Rattle.reading.proofs.Answers.{names-exactly}
 
 -- ---- declarations
@@ -76,8 +77,8 @@ module _ (f text : List ℕ) (φ : Formula) (d : DeclarationsFormed f) (r : Read
       let old : Checked (bundleOf f) = declared-checked f d in
       filed (bundleOf f) (old .formed .tables) (plain (bundleOf f) φ) (bundleOf f) (longer-refl (bundleOf f)) old term-sorted
 
-  too-deep : FitsLimits (bundleOf f) φ → depth (plain (bundleOf f) φ) ≤ 1024
-  too-deep fit =
+  not-deep : FitsLimits (bundleOf f) φ → depth (plain (bundleOf f) φ) ≤ 1024
+  not-deep fit =
       let p : PlacedTerm = filedFor (bundleOf f) φ in
       let low = depth-below (p .bundle) (job-filed .placed .checked .formed .tables) (p .term) (job-filed .placed .is-term) in
       let same : depth (tree (p .bundle) (p .term)) ≡ depth (plain (bundleOf f) φ) = ap depth (job-filed .placed .stands) in
@@ -168,4 +169,4 @@ module _ (f text : List ℕ) (φ : Formula) (d : DeclarationsFormed f) (r : Read
         }
 
 pub deep-never-fits : DeepNeverFits
-deep-never-fits f text φ d r deep fit = omega (arith, deep, too-deep f text φ d r fit)
+deep-never-fits f text φ d r deep fit = omega (arith, deep, nesting-depth (bundleOf f) φ, not-deep f text φ d r fit)

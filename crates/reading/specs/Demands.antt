@@ -16,7 +16,7 @@ use Rattle.expansion.specs.declared.Answer.the-variants.{Written, Refused}
 use Rattle.expansion.specs.Demands.{Bytes, JobFormed, LongEnough, ZerosLeft}
 use Rattle.grammar.specs.Grammar.{Formula}
 use Rattle.reading.specs.Local.{plain}
-use Rattle.reading.specs.Records.{depth}
+use Rattle.reading.specs.Records.{nesting}
 use Rattle.reading.specs.Reader.{refused}
 use Rattle.reading.specs.Answers.{ReadAs, FitsLimits, Answered}
 use Rattle.reading.specs.Reading.{reading}
@@ -76,8 +76,7 @@ ReadFormed =
 abbrev pub AreasLeft : Type 0
 AreasLeft = (f text : List ℕ) (out words sets : ℕ) → ZerosLeft out words sets (reading f text out words sets)
 
--- Terms nested in one another are all different: a formula whose term is nested deeper than the limit of terms does not fit.
+-- Terms nested in one another are all different: a formula that is nested deeper than the limit of terms does not fit.
 abbrev pub DeepNeverFits : Type 0
 DeepNeverFits =
-    (f text : List ℕ) (φ : Formula) → DeclarationsFormed f → ReadAs (bundleOf f) text φ → limits .terms < depth (plain (bundleOf f) φ)
-    → FitsLimits (bundleOf f) φ → ⊥
+    (f text : List ℕ) (φ : Formula) → DeclarationsFormed f → ReadAs (bundleOf f) text φ → limits .terms < nesting φ → FitsLimits (bundleOf f) φ → ⊥

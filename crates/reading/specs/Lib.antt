@@ -3,7 +3,7 @@
 --     Typing       the term that a formula stands for, where it is well sorted (else 8)
 --     Local        sorts without a stack: the sort by the head, each node tested by itself
 --     WellSorted   which formulas are well sorted, in propositions
---     Records      the records of a term; how deep terms are nested
+--     Records      the records of a term; how deep terms and formulas are nested
 --     Reader       THE READER: declarations and a text to a job, or a refusal
 --     Answers      what each answer to a text means, in propositions
 --     Reading      the answer for all declarations, texts and lengths of the lent areas, and what is left there

@@ -6,6 +6,8 @@ use Rattle.bundle.specs.Bundle.{Bundle}
 use Rattle.logic.specs.Terms.{Term, Terms, var, app, bind, letIn, none, more}
 use Rattle.logic.specs.Lookup.{seek, sameVariable, sameApplication, sameBinder, sameLet}
 use Rattle.logic.specs.Longer.{consecutive}
+use Rattle.grammar.specs.Grammar.{Formula, called, truth, bracketed, Bracketed, denies, connects, applies, quantifies, lets}
+use Rattle.grammar.specs.Grammar.{Formulas, noFormula, andFormula, Bindings, noBinding, andBinding}
 use Rattle.expansion.specs.Placed.{PlacedTerm, placeVariable, placeApplication, placeBinder, placeLet}
 
 -- a bundle, and terms of it
@@ -33,8 +35,9 @@ unfoldable mutual
       let q : PlacedTerms = fileAll ts (p .bundle) in
       record { bundle = q .bundle; terms = p .term ∷ q .terms }
 
--- ---- how deep terms are nested
+-- ---- nesting
 
+-- how deep terms are nested
 unfoldable mutual
   pub depth : Term → ℕ
   depth (var x) = 1
@@ -45,3 +48,25 @@ unfoldable mutual
   pub depthAll : Terms → ℕ
   depthAll none = 0
   depthAll (more t ts) = max (depth t) (depthAll ts)
+
+-- how deep formulas are nested
+unfoldable mutual
+  pub nesting : Formula → ℕ
+  nesting (called w) = 1
+  nesting (truth v) = 1
+  nesting (bracketed φ) = suc (nestingInside φ)
+
+  pub nestingInside : Bracketed → ℕ
+  nestingInside (denies φ) = nesting φ
+  nestingInside (connects c φ ψ) = max (nesting φ) (nesting ψ)
+  nestingInside (applies f φ φs) = max (nesting φ) (nestingAll φs)
+  nestingInside (quantifies q x xs φ) = nesting φ
+  nestingInside (lets x φ xs ψ) = max (max (nesting φ) (nestingBound xs)) (nesting ψ)
+
+  pub nestingAll : Formulas → ℕ
+  nestingAll noFormula = 0
+  nestingAll (andFormula φ φs) = max (nesting φ) (nestingAll φs)
+
+  pub nestingBound : Bindings → ℕ
+  nestingBound noBinding = 0
+  nestingBound (andBinding x φ xs) = max (nesting φ) (nestingBound xs)
