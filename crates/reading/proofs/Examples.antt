@@ -1,5 +1,5 @@
 -- The examples are right, by computation.
-use mathlib.Core.Path.{_≡_, refl}
+use mathlib.Core.Path.{refl}
 use Rattle.reading.specs.Reader.{readText}
 use Rattle.reading.specs.Reading.{reading}
 use Rattle.reading.specs.Examples.{readRows, unreadRows, moreUnreadRows, unknownRows, missortedRows, crowdedRows, calls, ExamplesRight}
