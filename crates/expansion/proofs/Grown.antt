@@ -1,5 +1,5 @@
 -- A visit only appends, whatever it is given.
---     placed-longer, variable-longer, application-longer, binder-longer                placed terms
+--     placed-longer, variable-longer, application-longer, binder-longer, let-longer    placed terms
 --     concluded-longer, replacing-longer, fixing-longer, fresh-longer, open-longer     openers and closers
 --     listed-longer, fixed-longer, renaming-longer                                     the contexts of a quantifier
 --     visit-longer, visitAll-longer                                                    the visits
@@ -7,27 +7,36 @@
 use Prim.Native.Nat.{ℕ, zero, suc}
 use mathlib.Core.List.{List, [], _∷_, _++_}
 use Rattle.bundle.specs.Bundle.{Bundle, TermRecord, sortOfVariable}
-use Rattle.logic.specs.Terms.{Binder, binder, numberOf}
+use Rattle.logic.specs.Terms.{Binder}
 use Rattle.logic.specs.Contexts.{image}
 use Rattle.logic.specs.Longer.{Longer, withVariables, addList, listStart}
 use Rattle.logic.proofs.Longer.{longer-refl, longer-trans, list-longer, terms-longer, variables-longer, contexts-longer, steps-longer}
 use Rattle.expansion.specs.Nodes.{Node, Nodes, leaf, node, scope, block, nil, cons, nodeAt}
-use Rattle.logic.specs.Lookup.{seek, sameVariable, sameApplication, sameBinder}
-use Rattle.expansion.specs.Visit.{placed, placeVariable, placeApplication, placeBinder, Visit, Visits, concluded, OpenedContext, replacing, fixing}
+use Rattle.logic.specs.Lookup.{seek, sameVariable, sameApplication, sameBinder, sameLet}
+use Rattle.expansion.specs.Placed.{placed, placeVariable, placeApplication, placeBinder, placeLet}
+use Rattle.expansion.specs.Visit.{Visit, Visits, concluded, OpenedContext, replacing, fixing}
 use Rattle.expansion.specs.Visit.{imageTerm, newVariable, fresh, renaming, OpenedBinder, openBinder, visit, visitAll, visited, expanded, claiming}
 
-pub placed-longer : (b : Bundle) (vs : List ℕ) (r : ℕ → TermRecord) (n : ℕ) → Longer b (placed b vs r n .bundle)
-placed-longer b vs r zero = longer-trans (list-longer b vs) (terms-longer (addList b vs) (r (listStart b vs) ∷ []))
-placed-longer b vs r (suc n) = longer-refl b
+-- b′ is b with lists appended
+pub placed-longer : (b b′ : Bundle) (r : TermRecord) (n : ℕ) → Longer b b′ → Longer b (placed b b′ r n .bundle)
+placed-longer b b′ r zero lists = longer-trans lists (terms-longer b′ (r ∷ []))
+placed-longer b b′ r (suc n) lists = longer-refl b
 
 pub variable-longer : (b : Bundle) (y : ℕ) → Longer b (placeVariable b y .bundle)
-variable-longer b y = placed-longer b [] (λ s. record { kind = 1; a = y; b = 0; c = 0 }) (seek (sameVariable y) (b .terms))
+variable-longer b y = placed-longer b (addList b []) _ (seek (sameVariable y) (b .terms)) (list-longer b [])
 
 pub application-longer : (b : Bundle) (f : ℕ) (ts : List ℕ) → Longer b (placeApplication b f ts .bundle)
-application-longer b f ts = placed-longer b ts (λ s. record { kind = 2; a = f; b = s; c = 0 }) (seek (sameApplication b f ts) (b .terms))
+application-longer b f ts = placed-longer b (addList b ts) _ (seek (sameApplication b f ts) (b .terms)) (list-longer b ts)
 
 pub binder-longer : (b : Bundle) (q : Binder) (y t : ℕ) → Longer b (placeBinder b q y t .bundle)
-binder-longer b q y t = placed-longer b [] (λ s. record { kind = numberOf (binder q); a = y; b = t; c = 0 }) (seek (sameBinder q y t) (b .terms))
+binder-longer b q y t = placed-longer b (addList b []) _ (seek (sameBinder q y t) (b .terms)) (list-longer b [])
+
+-- the two lists of a let
+pub lists-longer : (b : Bundle) (vs ts : List ℕ) → Longer b (addList (addList b vs) ts)
+lists-longer b vs ts = longer-trans (list-longer b vs) (list-longer (addList b vs) ts)
+
+pub let-longer : (b : Bundle) (vs ts : List ℕ) (t : ℕ) → Longer b (placeLet b vs ts t .bundle)
+let-longer b vs ts t = placed-longer b (addList (addList b vs) ts) _ (seek (sameLet b vs ts t) (b .terms)) (lists-longer b vs ts)
 
 pub concluded-longer : (b : Bundle) (k c l r : ℕ) (ps : List ℕ) → Longer b (concluded b k c l r ps .bundle)
 concluded-longer b k c l r ps =

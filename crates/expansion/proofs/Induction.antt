@@ -34,7 +34,8 @@ use Rattle.logic.proofs.Longer.{longer-refl, longer-trans, sizes, variable-adde
 use Rattle.logic.proofs.Kept.{variable-kept, tree-kept, image-kept}
 use Rattle.logic.proofs.FormedKept.{image-tree-kept}
 use Rattle.expansion.specs.Nodes.{Node, Nodes, leaf, node, scope, block, nil, cons, number}
-use Rattle.expansion.specs.Visit.{PlacedTerm, placeApplication, placeBinder, Visit, Visits, concluded, OpenedContext, replacing, fixing, imageTerm}
+use Rattle.expansion.specs.Placed.{PlacedTerm, placeApplication, placeBinder}
+use Rattle.expansion.specs.Visit.{Visit, Visits, concluded, OpenedContext, replacing, fixing, imageTerm}
 use Rattle.expansion.specs.Visit.{closeApplication, newVariable, fresh, renaming, openBinder, closeBinder, visit, visitAll}
 use Rattle.expansion.proofs.Grown.{variable-longer, application-longer, binder-longer, fresh-longer, fixing-longer, replacing-longer, open-longer}
 use Rattle.expansion.proofs.Grown.{visit-longer, visitAll-longer}

@@ -4,7 +4,7 @@
 --     items-small, image-small         items of lists; images
 --     SmallNode, node-small            the numbers of a node; of the node of a term
 -- Where the last bundle, which is longer than all in between, is within the limits:
---     list-small, placed-small, concluded-small, replacing-small, fixing-small, new-small, fresh-small, open-small     openers and closers
+--     list-small, start-small, placed-small, concluded-small, replacing-small, fixing-small, new-small, fresh-small, open-small     openers and closers
 --     visit-small, visitAll-small      the visits
 --     expanded-small                   THE LAW: the bundle that is written
 use Prim.Native.Nat.{ℕ, zero, suc, _+_, _*_, _-_, _^_, _≤_, _<_}
@@ -32,12 +32,14 @@ use Rattle.logic.proofs.Tables.{table-all}
 use Rattle.logic.proofs.Longer.{longer-refl, longer-trans, sizes, list-longer, terms-longer, contexts-longer, steps-longer, consecutive-length}
 use Rattle.expansion.specs.Nodes.{Node, Nodes, leaf, node, scope, block, nil, cons, Numbered, numbered, gatherNodes, noNode, nodeAs, nodeBy, nodeAt}
 use Rattle.logic.specs.Lookup.{after, seek, sameVariable, sameApplication, sameBinder}
-use Rattle.expansion.specs.Visit.{PlacedTerm, placed, placeApplication, placeBinder, Visit, Visits, concluded, OpenedContext, replacing, fixing}
+use Rattle.expansion.specs.Placed.{PlacedTerm, placed, placeApplication, placeBinder}
+use Rattle.expansion.specs.Visit.{Visit, Visits, concluded, OpenedContext, replacing, fixing}
 use Rattle.expansion.specs.Visit.{imageTerm, newVariable, fresh, renaming, OpenedBinder, openBinder, visit, visitAll, visited, expanded}
 use Rattle.expansion.specs.File.{countsIn, symbolWords, variableWords, termWords, linkWords, contextWords, stepWords}
 use Rattle.expansion.specs.Demands.{Bytes}
 use Rattle.expansion.proofs.SmallNumbers.{Word, SmallBundle, all-append, all-snoc, all-getD, all-at, all-tab}
-use Rattle.expansion.proofs.Grown.{placed-longer, concluded-longer, replacing-longer, fixing-longer, listed-longer, visit-longer, visitAll-longer}
+use Rattle.expansion.proofs.Grown.{variable-longer, application-longer, binder-longer, concluded-longer, replacing-longer, fixing-longer, listed-longer}
+use Rattle.expansion.proofs.Grown.{visit-longer, visitAll-longer}
 
 -- ---- a bundle that is read out of words, and out of bytes
 
@@ -299,7 +301,7 @@ pub record SmallVisits (v : Visits) : Type 0 where
   pub results : All Word (v .results)
   pub steps : All Word (v .steps)
 
-binder-word : (q : Binder) → Word (numberOf (binder q))
+pub binder-word : (q : Binder) → Word (numberOf (binder q))
 binder-word forAll = omega arith
 binder-word exists = omega arith
 
@@ -310,22 +312,23 @@ module _ {end : Bundle} (fit : Within (countsIn end)) where
       let new : List Link = consecutive (suc (length (b .links))) vs in
       omega (arith, fit .links, sizes e .links, length-append (b .links) new, consecutive-length (suc (length (b .links))) vs)
 
-  start-small : (b : Bundle) (vs : List ℕ) → Longer (addList b vs) end → Word (listStart b vs)
+  pub start-small : (b : Bundle) (vs : List ℕ) → Longer (addList b vs) end → Word (listStart b vs)
   start-small b vs e = start-word (suc (length (b .links))) vs (list-room b vs e)
 
   pub list-small : (b : Bundle) (vs : List ℕ) → SmallBundle b → All Word vs → Longer (addList b vs) end → SmallBundle (addList b vs)
   list-small b vs small h e =
       small-links small (consecutive (suc (length (b .links))) vs) (consecutive-small (suc (length (b .links))) vs h (list-room b vs e))
 
-  pub placed-small : (b : Bundle) (vs : List ℕ) (r : ℕ → TermRecord) (n : ℕ) → SmallBundle b → All Word vs
-      → ((s : ℕ) → Word s → All Word (termWords (r s))) → n ≤ length (b .terms) → Longer (placed b vs r n .bundle) end → SmallPlaced (placed b vs r n)
-  placed-small b vs r zero small h made l e =
-      let e₁ : Longer (addList b vs) end = longer-trans (terms-longer (addList b vs) (r (listStart b vs) ∷ [])) e in
+  -- b′ is b with lists appended
+  pub placed-small : (b b′ : Bundle) (r : TermRecord) (n : ℕ) → SmallBundle b → Longer b b′ → (Longer b′ end → SmallBundle b′ × All Word (termWords r))
+      → n ≤ length (b .terms) → Longer (placed b b′ r n .bundle) end → SmallPlaced (placed b b′ r n)
+  placed-small b b′ r zero small lists made l e =
+      let (small′, words) = made (longer-trans (terms-longer b′ (r ∷ [])) e) in
       record {
-        bundle = small-terms (list-small b vs small h e₁) (r (listStart b vs)) (made (listStart b vs) (start-small b vs e₁));
-        term = omega (arith, fit .terms, sizes e .terms, length-append (b .terms) (r (listStart b vs) ∷ []));
+        bundle = small-terms small′ r words;
+        term = omega (arith, fit .terms, sizes e .terms, sizes lists .terms, length-append (b′ .terms) (r ∷ []));
       }
-  placed-small b vs r (suc n) small h made l e = record { bundle = small; term = omega (arith, fit .terms, sizes e .terms) }
+  placed-small b b′ r (suc n) small lists made l e = record { bundle = small; term = omega (arith, fit .terms, sizes e .terms) }
 
   pub concluded-small : (b : Bundle) (k c l r : ℕ) (ps : List ℕ) → SmallBundle b → Word k → Word c → Word l → Word r → All Word ps
       → Longer (concluded b k c l r ps .bundle) end → SmallVisit (concluded b k c l r ps)
@@ -360,7 +363,7 @@ module _ {end : Bundle} (fit : Within (countsIn end)) where
   new-small b x e =
       let v : Bundle = withVariables b (sortOfVariable b x ∷ []) in
       let e₁ : Longer v end =
-      longer-trans (placed-longer v [] (λ s. record { kind = 1; a = newVariable b; b = 0; c = 0 }) (seek (sameVariable (newVariable b)) (v .terms))) e in
+      longer-trans (variable-longer v (newVariable b)) e in
       omega (arith, fit .variables, sizes e₁ .variables, length-append (b .variables) (sortOfVariable b x ∷ []))
 
   pub fresh-small : (b : Bundle) (x : ℕ) → SmallBundle b → Longer (fresh b x .bundle) end → SmallPlaced (fresh b x)
@@ -368,9 +371,10 @@ module _ {end : Bundle} (fit : Within (countsIn end)) where
       let s : ℕ = sortOfVariable b x in
       let y : Word (newVariable b) = new-small b x e in
       let sort : All Word (s ∷ []) = all-at (λ s. All Word (variableWords s)) (b .variables) 0 (small .variables) (omega arith, tt) x in
-      placed-small (withVariables b (s ∷ [])) [] (λ s. record { kind = 1; a = newVariable b; b = 0; c = 0 })
-      (seek (sameVariable (newVariable b)) (b .terms)) (small-variables small s (sort .0)) tt
-      (λ s w. (omega arith, (y, (omega arith, (omega arith, tt))))) (seek-le (sameVariable (newVariable b)) (b .terms)) e
+      let v : Bundle = withVariables b (s ∷ []) in
+      let sv : SmallBundle v = small-variables small s (sort .0) in
+      placed-small v (addList v []) _ (seek (sameVariable (newVariable b)) (b .terms)) sv (list-longer v [])
+      (λ l. (list-small v [] sv tt l, (omega arith, (y, (omega arith, (omega arith, tt)))))) (seek-le (sameVariable (newVariable b)) (b .terms)) e
 
   pub open-small : (b : Bundle) (x c : ℕ) → SmallBundle b → Word x → Word c → Longer (openBinder b x c .bundle) end → SmallBinder (openBinder b x c)
   open-small b x c small hx hc e =
@@ -398,12 +402,13 @@ module _ {end : Bundle} (fit : Within (countsIn end)) where
         let v : Visits = visitAll ns c b in
         let p : PlacedTerm = placeApplication (v .bundle) f (v .results) in
         let n : ℕ = seek (sameApplication (v .bundle) f (v .results)) (v .bundle .terms) in
-        let made : ℕ → TermRecord = λ s. record { kind = 2; a = f; b = s; c = 0 } in
         let e₂ : Longer (p .bundle) end = longer-trans (concluded-longer (p .bundle) 2 c t (p .term) (v .steps)) e in
-        let e₁ : Longer (v .bundle) end = longer-trans (placed-longer (v .bundle) (v .results) made n) e₂ in
+        let e₁ : Longer (v .bundle) end = longer-trans (application-longer (v .bundle) f (v .results)) e₂ in
         let sv : SmallVisits v = visitAll-small ns c b (h .2) hc small e₁ in
         let sp : SmallPlaced p =
-        placed-small (v .bundle) (v .results) made n (sv .bundle) (sv .results) (λ s w. (omega arith, (h .1, (w, (omega arith, tt)))))
+        placed-small (v .bundle) (addList (v .bundle) (v .results)) _ n (sv .bundle) (list-longer (v .bundle) (v .results))
+        (λ l.
+        (list-small (v .bundle) (v .results) (sv .bundle) (sv .results) l, (omega arith, (h .1, (start-small (v .bundle) (v .results) l, (omega arith, tt))))))
         (seek-le (sameApplication (v .bundle) f (v .results)) (v .bundle .terms)) e₂ in
         concluded-small (p .bundle) 2 c t (p .term) (v .steps) (sp .bundle) (omega arith) hc (h .0) (sp .term) (sv .steps) e
     visit-small (scope t q x u) c b h hc small e =
@@ -412,14 +417,14 @@ module _ {end : Bundle} (fit : Within (countsIn end)) where
         let v : Visit = visit u (o .context) (o .bundle) in
         let p : PlacedTerm = placeBinder (v .bundle) q y (v .result) in
         let n : ℕ = seek (sameBinder q y (v .result)) (v .bundle .terms) in
-        let made : ℕ → TermRecord = λ s. record { kind = numberOf (binder q); a = y; b = v .result; c = 0 } in
         let e₃ : Longer (p .bundle) end = longer-trans (concluded-longer (p .bundle) 4 c t (p .term) (v .step ∷ [])) e in
-        let e₂ : Longer (v .bundle) end = longer-trans (placed-longer (v .bundle) [] made n) e₃ in
+        let e₂ : Longer (v .bundle) end = longer-trans (binder-longer (v .bundle) q y (v .result)) e₃ in
         let e₁ : Longer (o .bundle) end = longer-trans (visit-longer u (o .context) (o .bundle)) e₂ in
         let so : SmallBinder o = open-small b x c small (h .1) hc e₁ in
         let sv : SmallVisit v = visit-small u (o .context) (o .bundle) (h .2) (so .context) (so .bundle) e₂ in
         let sp : SmallPlaced p =
-        placed-small (v .bundle) [] made n (sv .bundle) tt (λ s w. (binder-word q, (so .variable, (sv .result, (omega arith, tt)))))
+        placed-small (v .bundle) (addList (v .bundle) []) _ n (sv .bundle) (list-longer (v .bundle) [])
+        (λ l. (list-small (v .bundle) [] (sv .bundle) tt l, (binder-word q, (so .variable, (sv .result, (omega arith, tt))))))
         (seek-le (sameBinder q y (v .result)) (v .bundle .terms)) e₃ in
         concluded-small (p .bundle) 4 c t (p .term) (v .step ∷ []) (sp .bundle) (omega arith) hc (h .0) (sp .term) (sv .step, tt) e
     visit-small (block t s vs ns u) c b h hc small e =

@@ -70,21 +70,24 @@ pub record Outcome : Type 0 where
   pub words : List ℕ
   pub sets : List ℕ
 
--- Written: the file, and zeros after it; its length is the answer. Refused: zeros. The scratch ends zero either way.
+-- Written: the file of the bundle B, and zeros after it; its length is the answer. The scratch ends zero.
+abbrev pub writes : Bundle → ℕ → ℕ → ℕ → Outcome
+writes B out words sets = record {
+  answer = Written (length (fileOf B));
+  out = fileOf B ++ replicate (out - length (fileOf B)) 0;
+  words = replicate words 0;
+  sets = replicate sets 0;
+}
+
+-- Refused with number n and record i: zeros.
+abbrev pub refuses : ℕ → ℕ → ℕ → ℕ → ℕ → Outcome
+refuses n i out words sets = record { answer = Refused n i; out = replicate out 0; words = replicate words 0; sets = replicate sets 0 }
+
+-- by the fault's number
 unfoldable pub outcomeOf : Bundle → Fault → ℕ → ℕ → ℕ → ℕ → Outcome
 unfolding fileOf expanded
-outcomeOf b r zero out words sets = record {
-  answer = Written (length (fileOf (expanded b)));
-  out = fileOf (expanded b) ++ replicate (out - length (fileOf (expanded b))) 0;
-  words = replicate words 0;
-  sets = replicate sets 0;
-}
-outcomeOf b r (suc n) out words sets = record {
-  answer = Refused (suc n) (r .«record»);
-  out = replicate out 0;
-  words = replicate words 0;
-  sets = replicate sets 0;
-}
+outcomeOf b r zero out words sets = writes (expanded b) out words sets
+outcomeOf b r (suc n) out words sets = refuses (suc n) (r .«record») out words sets
 
 -- THE EXPANSION of the job f, where the lent areas have these lengths
 unfoldable pub expansion : List ℕ → ℕ → ℕ → ℕ → Outcome

@@ -1,5 +1,6 @@
 -- The writer: the paper's let expansion (source document 003, section 3), as document 01 lays it out. Each file stands on those above it.
 --     Nodes          term numbers with what they stand for
+--     Placed         terms looked up before they are appended: variables, applications, binders, lets
 --     Visit          THE VISITS, without limits: what each appends, in order
 --     File           the file of a bundle
 --     Expansion      the answer for every job and all lengths of the lent areas, and what is left there
@@ -9,6 +10,7 @@
 --     Examples       THE TWELVE EXAMPLES of document 01: one table, and the statement that every row is right
 --     Demands        THE DEMANDS on the writer, as types: proofs/ has each under the same name
 pub mod Nodes
+pub mod Placed
 pub mod Visit
 pub mod File
 pub mod Expansion

@@ -1,37 +1,16 @@
 -- THE VISITS, without limits. Old records stay, new ones are appended: every append in document 01's order.
-use Prim.Native.Nat.{ℕ, zero, suc}
+use Prim.Native.Nat.{ℕ, suc}
 use mathlib.Core.List.{List, [], _∷_, _++_}
 use lib.ListN.{length}
-use Rattle.bundle.specs.Bundle.{Bundle, TermRecord, sortOfVariable}
+use Rattle.bundle.specs.Bundle.{Bundle, sortOfVariable}
 use Rattle.logic.specs.declared.Image.{Image}
 use Rattle.logic.specs.declared.Image.the-variants.{Own, Gives}
-use Rattle.logic.specs.Terms.{Binder, binder, numberOf}
+use Rattle.logic.specs.Terms.{Binder}
 use Rattle.logic.specs.Contexts.{image}
 use Rattle.logic.specs.Lookup.{seek, sameVariable, sameApplication, sameBinder}
-use Rattle.logic.specs.Longer.{withVariables, withTerms, withContexts, withSteps, addList, listStart, consecutive}
+use Rattle.logic.specs.Longer.{withVariables, withContexts, withSteps, addList, listStart, consecutive}
 use Rattle.expansion.specs.Nodes.{Node, Nodes, leaf, node, scope, block, nil, cons, nodeAt}
-
--- ---- Results are looked up before they are appended.
-
--- a bundle, and a term of it
-pub record PlacedTerm : Type 0 where
-  pub bundle : Bundle
-  pub term : ℕ
-
--- The term that the lookup found, n; or, where it found none, a new one: its list of arguments just before it, then its record, made of the
--- list's first link.
-abbrev pub placed : Bundle → List ℕ → (ℕ → TermRecord) → ℕ → PlacedTerm
-placed b vs r zero = record { bundle = withTerms (addList b vs) (r (listStart b vs) ∷ []); term = suc (length (b .terms)) }
-placed b vs r (suc n) = record { bundle = b; term = suc n }
-
-abbrev pub placeVariable : Bundle → ℕ → PlacedTerm
-placeVariable b y = placed b [] (λ s. record { kind = 1; a = y; b = 0; c = 0 }) (seek (sameVariable y) (b .terms))
-
-abbrev pub placeApplication : Bundle → ℕ → List ℕ → PlacedTerm
-placeApplication b f ts = placed b ts (λ s. record { kind = 2; a = f; b = s; c = 0 }) (seek (sameApplication b f ts) (b .terms))
-
-abbrev pub placeBinder : Bundle → Binder → ℕ → ℕ → PlacedTerm
-placeBinder b q y t = placed b [] (λ s. record { kind = numberOf (binder q); a = y; b = t; c = 0 }) (seek (sameBinder q y t) (b .terms))
+use Rattle.expansion.specs.Placed.{PlacedTerm, placeVariable, placeApplication, placeBinder}
 
 -- ---- What a visit leaves: the bundle, the result's term, and the step that carries the visited term to it.
 

@@ -33,7 +33,8 @@ use Rattle.placing.specs.declared.Visited.{Visited}
 use Rattle.placing.specs.declared.Recorded.{Recorded}
 use Rattle.placing.specs.declared.Opened.{Opened}
 use Rattle.expansion.specs.Nodes.{leaf}
-use Rattle.expansion.specs.Visit.{Visit, placed, placeVariable, placeApplication, placeBinder, concluded, replacing, fixing, newVariable, fresh, renaming}
+use Rattle.expansion.specs.Placed.{PlacedTerm, placed, placeVariable, placeApplication, placeBinder}
+use Rattle.expansion.specs.Visit.{Visit, concluded, replacing, fixing, newVariable, fresh, renaming}
 use Rattle.expansion.specs.Visit.{openBinder, visit}
 use Rattle.expansion.specs.Visit as unlimited
 use Rattle.placing.specs.Outcomes.{TooMuch, VisitOutcome, OpenOutcome, BinderOutcome, PlaceOutcome, AddOutcome}
@@ -53,7 +54,7 @@ stepped b k x l r p = record {
 abbrev pub opened : Bundle → Context → unlimited.OpenedContext
 opened b r = record { bundle = withContexts b (r ∷ []); context = suc (length (b .contexts)) }
 
-abbrev pub termed : Bundle → TermRecord → unlimited.PlacedTerm
+abbrev pub termed : Bundle → TermRecord → PlacedTerm
 termed b r = record { bundle = withTerms b (r ∷ []); term = suc (length (b .terms)) }
 
 -- ---- after a list of values
@@ -78,10 +79,10 @@ module _ {b : Bundle} {vs w : List ℕ} {a : Recorded} {c : Counts} {s : ℕ} (o
 
     -- m is what the lookup found: 0
     pub term-on : {r : Recorded} (f : ℕ → TermRecord) (n m : ℕ) → m ≡ n → m ≡ 0 → PlaceOutcome (termed (bundleIn w c) (f s)) w′ r
-        → PlaceOutcome (placed b vs f n) w′ r
+        → PlaceOutcome (placed b (addList b vs) (f (listStart b vs)) n) w′ r
     term-on {r} f n m d z h =
         let k = add-done o e in
-        subst (λ (i : ℕ). PlaceOutcome (placed b vs f i) w′ r) (sym z ∙ d)
+        subst (λ (i : ℕ). PlaceOutcome (placed b (addList b vs) (f (listStart b vs)) i) w′ r) (sym z ∙ d)
         (subst (λ (i : ℕ). PlaceOutcome (termed (addList b vs) (f i)) w′ r) (k .1)
         (subst (λ (B : Bundle). PlaceOutcome (termed B (f s)) w′ r) (k .0 .bundle) h))
 
@@ -92,9 +93,9 @@ module _ {b : Bundle} {vs w : List ℕ} {a : Recorded} (o : AddOutcome b vs w a)
   pub context-full : (x p : ℕ) → OpenOutcome (replacing b x p vs) w′ Recorded.Full
   context-full x p = OpenOutcome.full (longer-over (contexts-longer (addList b vs) _) (add-full o e)) refl
 
-  pub term-full : (f : ℕ → TermRecord) (n m : ℕ) → m ≡ n → m ≡ 0 → PlaceOutcome (placed b vs f n) w′ Recorded.Full
+  pub term-full : (f : ℕ → TermRecord) (n m : ℕ) → m ≡ n → m ≡ 0 → PlaceOutcome (placed b (addList b vs) (f (listStart b vs)) n) w′ Recorded.Full
   term-full f n m d z =
-      subst (λ (i : ℕ). PlaceOutcome (placed b vs f i) w′ Recorded.Full) (sym z ∙ d)
+      subst (λ (i : ℕ). PlaceOutcome (placed b (addList b vs) (f (listStart b vs)) i) w′ Recorded.Full) (sym z ∙ d)
       (PlaceOutcome.full (longer-over (terms-longer (addList b vs) _) (add-full o e)) refl)
 
 -- ---- no list, no new term
@@ -104,13 +105,13 @@ no-list {w} {c} r = add-is w c (r .room) (r .version) (bundleIn w c) [] 0 (sym (
 
 -- m is what the lookup found, a term
 pub found-is : {w : List ℕ} {c : Counts} → Ready w c → (vs : List ℕ) (f : ℕ → TermRecord) (n m : ℕ) → m ≡ n → (m ≡ 0 → ⊥)
-    → PlaceOutcome (placed (bundleIn w c) vs f n) w (Recorded.Done c m)
+    → PlaceOutcome (placed (bundleIn w c) (addList (bundleIn w c) vs) (f (listStart (bundleIn w c) vs)) n) w (Recorded.Done c m)
 found-is r vs f zero m e h = absurd (h e)
-found-is {w} {c} r vs f (suc n) m e h = place-is w c (r .room) (r .version) (placed (bundleIn w c) vs f (suc n)) m refl e
+found-is {w} {c} r vs f (suc n) m e h = place-is w c (r .room) (r .version) (record { bundle = bundleIn w c; term = suc n }) m refl e
 
 -- ---- after a term
 
-module _ {p : unlimited.PlacedTerm} {w : List ℕ} {a : Recorded} {c : Counts} {t : ℕ} (o : PlaceOutcome p w a) (e : a ≡ Recorded.Done c t) {w′ : List ℕ} where
+module _ {p : PlacedTerm} {w : List ℕ} {a : Recorded} {c : Counts} {t : ℕ} (o : PlaceOutcome p w a) (e : a ≡ Recorded.Done c t) {w′ : List ℕ} where
   pub concluded-on : {r : Visited} (u x l : ℕ) (vs : List ℕ) → VisitOutcome (concluded (bundleIn w c) u x l t vs) w′ r
       → VisitOutcome (concluded (p .bundle) u x l (p .term) vs) w′ r
   concluded-on {r} u x l vs h =
@@ -118,7 +119,7 @@ module _ {p : unlimited.PlacedTerm} {w : List ℕ} {a : Recorded} {c : Counts} {
       subst (λ (n : ℕ). VisitOutcome (concluded (p .bundle) u x l n vs) w′ r) (k .1)
       (subst (λ (B : Bundle). VisitOutcome (concluded B u x l t vs) w′ r) (k .0 .bundle) h)
 
-module _ {p : unlimited.PlacedTerm} {w : List ℕ} {a : Recorded} (o : PlaceOutcome p w a) (e : a ≡ Recorded.Full) {w′ : List ℕ} where
+module _ {p : PlacedTerm} {w : List ℕ} {a : Recorded} (o : PlaceOutcome p w a) (e : a ≡ Recorded.Full) {w′ : List ℕ} where
   pub concluded-full : (u x l t : ℕ) (vs : List ℕ) → VisitOutcome (concluded (p .bundle) u x l t vs) w′ Visited.Full
   concluded-full u x l t vs = VisitOutcome.full (longer-over (concluded-longer (p .bundle) u x l t vs) (place-full o e)) refl
 

@@ -26,7 +26,8 @@ use Rattle.scratch.proofs.ScratchFields.{sized-in, sized-as}
 use Rattle.placing.specs.declared.Visited.{Visited}
 use Rattle.placing.specs.declared.Recorded.{Recorded}
 use Rattle.expansion.specs.File.{countsIn}
-use Rattle.expansion.specs.Visit.{Visit, placed, imageTerm}
+use Rattle.expansion.specs.Placed.{PlacedTerm, placed}
+use Rattle.expansion.specs.Visit.{Visit, imageTerm}
 use Rattle.expansion.specs.Visit as unlimited
 use Rattle.placing.specs.Outcomes.{StandsFor, TooMuch, VisitOutcome, OpenOutcome, PlaceOutcome, AddOutcome}
 use Rattle.expansion.proofs.SmallNumbers.{Word}
@@ -70,7 +71,7 @@ module _ (w : List ℕ) (c : Counts) (r : Roomy w c) (v : c .version ≡ 1) wher
   pub add-is : (b : Bundle) (vs : List ℕ) (n : ℕ) → bundleIn w c ≡ addList b vs → n ≡ listStart b vs → AddOutcome b vs w (Recorded.Done c n)
   add-is b vs n e k = AddOutcome.done (holds w c r v e) (ap₂ Recorded.Done (counts-are w c e) k)
 
-  pub place-is : (p : unlimited.PlacedTerm) (n : ℕ) → bundleIn w c ≡ p .bundle → n ≡ p .term → PlaceOutcome p w (Recorded.Done c n)
+  pub place-is : (p : PlacedTerm) (n : ℕ) → bundleIn w c ≡ p .bundle → n ≡ p .term → PlaceOutcome p w (Recorded.Done c n)
   place-is p n e k = PlaceOutcome.done (holds w c r v e) (ap₂ Recorded.Done (counts-are w c e) k)
 
   pub open-is : (o : unlimited.OpenedContext) (n : ℕ) → bundleIn w c ≡ o .bundle → n ≡ o .context → OpenOutcome o w (Recorded.Done c n)
@@ -86,7 +87,7 @@ module _ {w : List ℕ} {c : Counts} {n : ℕ} where
   add-done (AddOutcome.done h e) k = (known-of w c _ h (cc), cc)
   add-done (AddOutcome.full h e) k = let z : _≡_ {A = ℕ} 0 1 = cc in absurd (omega arith)
 
-  pub place-done : {p : unlimited.PlacedTerm} {r : Recorded} → PlaceOutcome p w r → r ≡ Recorded.Done c n → Known w c (p .bundle) × (n ≡ p .term)
+  pub place-done : {p : PlacedTerm} {r : Recorded} → PlaceOutcome p w r → r ≡ Recorded.Done c n → Known w c (p .bundle) × (n ≡ p .term)
   place-done (PlaceOutcome.done h e) k = (known-of w c _ h (cc), cc)
   place-done (PlaceOutcome.full h e) k = let z : _≡_ {A = ℕ} 0 1 = cc in absurd (omega arith)
 
@@ -99,7 +100,7 @@ module _ {w : List ℕ} where
   add-full (AddOutcome.done h e) k = let z : _≡_ {A = ℕ} 0 1 = cc in absurd (omega arith)
   add-full (AddOutcome.full h e) k = h
 
-  pub place-full : {p : unlimited.PlacedTerm} {r : Recorded} → PlaceOutcome p w r → r ≡ Recorded.Full → TooMuch (p .bundle)
+  pub place-full : {p : PlacedTerm} {r : Recorded} → PlaceOutcome p w r → r ≡ Recorded.Full → TooMuch (p .bundle)
   place-full (PlaceOutcome.done h e) k = let z : _≡_ {A = ℕ} 0 1 = cc in absurd (omega arith)
   place-full (PlaceOutcome.full h e) k = h
 
@@ -150,7 +151,7 @@ start-word w c b (v ∷ vs) k = omega (arith, k .ready .room .within .links, siz
 
 -- n is what the lookup found
 pub placed-word : (w : List ℕ) (c : Counts) (b : Bundle) (vs : List ℕ) (r : ℕ → TermRecord) (n : ℕ) → n ≤ length (b .terms)
-    → Known w c (placed b vs r n .bundle) → placed b vs r n .term ≤ 4294967295
+    → Known w c (placed b (addList b vs) (r (listStart b vs)) n .bundle) → placed b (addList b vs) (r (listStart b vs)) n .term ≤ 4294967295
 placed-word w c b vs r zero l k =
     omega (arith, k .ready .room .within .terms, sized-as w c (k .bundle) .terms, length-append (b .terms) (r (listStart b vs) ∷ []))
 placed-word w c b vs r (suc n) l k = omega (arith, k .ready .room .within .terms, sized-as w c (k .bundle) .terms)

@@ -21,6 +21,7 @@ use Rattle.placing.specs.declared.Recorded.{Recorded}
 use Rattle.placing.specs.declared.Opened.{Opened}
 use Rattle.expansion.specs.Nodes.{Node, Nodes, leaf, node, scope, block, nil, cons}
 use Rattle.expansion.specs.Visit.{Visit, Visits, visit, visitAll}
+use Rattle.expansion.specs.Placed.{PlacedTerm}
 use Rattle.expansion.specs.Visit as unlimited
 use Rattle.expansion.specs.File.{countsIn}
 
@@ -47,7 +48,7 @@ pub data BinderOutcome (o : unlimited.OpenedBinder) (w : List ℕ) (r : Opened) 
   done : StandsFor w (o .bundle) → r ≡ Opened.Done (countsIn (o .bundle)) (o .context) (o .variable) → BinderOutcome o w r
   full : TooMuch (o .bundle) → r ≡ Opened.Full → BinderOutcome o w r
 
-pub data PlaceOutcome (p : unlimited.PlacedTerm) (w : List ℕ) (r : Recorded) : Type 0 where
+pub data PlaceOutcome (p : PlacedTerm) (w : List ℕ) (r : Recorded) : Type 0 where
   done : StandsFor w (p .bundle) → r ≡ Recorded.Done (countsIn (p .bundle)) (p .term) → PlaceOutcome p w r
   full : TooMuch (p .bundle) → r ≡ Recorded.Full → PlaceOutcome p w r
 
