@@ -121,7 +121,8 @@ same-length c = search needs
 
 returns-4 : tie.Need-returns-4
 returns-4 c =
-    let a = c .before .before .before .before .before .before .before .before .before .before .before .before .before .before .before .before .before .before .before .before .args in
+    let a = c .before .before .before .before .before .before .before .before .before .before .before .before .before .before .before .before .before .before
+    .before .before .args in
     let r = c .before .before .before .before .before .before .before .before .before .before .before .before .before .before .before .before .first-link in
     let s = c .before .before .before .before .before .before .before .before .before .before .before .before .before .before .before .first-link2 in
     let t = c .before .before .before .before .before .before .before .before .before .before .before .before .before .before .first-link3 in
@@ -133,12 +134,17 @@ returns-4 c =
         walk-start (a .file .now) (a .b) (a .rights) (s .result) (s .ensures),
         walk-start (a .file .now) (a .b) (a .premises) (t .result) (t .ensures),
         prove-on (a .file .now) (a .b) (stepIn (bundleAt (a .file .now) (a .b)) (a .bed .now)) false (a .context)
-            (c .before .before .before .before .before .before .before .before .before .before .before .before .before .if1 .left) (walk-start-le (a .file .now) (a .b) (a .lefts) (r .result) (r .ensures))
+            (c .before .before .before .before .before .before .before .before .before .before .before .before .before .if1 .left) (walk-start-le (a .file
+            .now) (a .b) (a .lefts) (r .result) (r .ensures))
             (walk-start-le (a .file .now) (a .b) (a .rights) (s .result) (s .ensures))
-            (walk-start-le (a .file .now) (a .b) (a .premises) (t .result) (t .ensures)) (c .before .before .before .before .before .before .before .before .before .before .before .before .if2 .left)
-            (c .before .before .before .before .before .before .before .before .before .before .before .link-field .ensures) (c .before .before .before .before .before .before .before .before .before .before .link-field2 .ensures)
-            (c .before .before .before .before .before .before .before .before .before .link-field3 .ensures) (c .before .before .before .before .before .before .before .before .step-carries .ensures),
-        not-false (c .before .before .before .before .before .before .before .before .step-carries .result) (c .before .before .before .before .before .before .before .if3 .left),
+            (walk-start-le (a .file .now) (a .b) (a .premises) (t .result) (t .ensures)) (c .before .before .before .before .before .before .before .before
+            .before .before .before .before .if2 .left)
+            (c .before .before .before .before .before .before .before .before .before .before .before .link-field .ensures) (c .before .before .before
+            .before .before .before .before .before .before .before .link-field2 .ensures)
+            (c .before .before .before .before .before .before .before .before .before .link-field3 .ensures) (c .before .before .before .before .before
+            .before .before .before .step-carries .ensures),
+        not-false (c .before .before .before .before .before .before .before .before .step-carries .result) (c .before .before .before .before .before
+            .before .before .if3 .left),
         ← u .ensures,
         ← v .ensures,
         ← z .ensures,

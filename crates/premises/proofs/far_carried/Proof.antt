@@ -160,7 +160,8 @@ loop-again c =
     let a = c .before .before .before .before .before .before .before .before .before .before .before .before .before .before .before .before .before .args in
     let l = c .before .before .before .before .before .before .before .before .before .before .before .before .before .loop in
     let b = bundleAt (a .file .now) (a .b) in
-    let w = c .before .before .before .before .before .before .before .before .before .before .before .before .before .before .before .before .before .pre .0 .within .links in
+    let w = c .before .before .before .before .before .before .before .before .before .before .before .before .before .before .before .before .before .pre .0
+    .within .links in
     let k-some : l .k ≡ 0 → ⊥ =
     eqb-false (l .k) 0
     (or-none (eqb (l .j) 0) (eqb (l .k) 0) (c .before .before .before .before .before .before .before .before .before .before .before .if1 .left) .1) in

@@ -50,7 +50,8 @@ step-fault-requires c κs =
     let l = c .before .before .before .before .loop in (
       p .0,
       lent-right (a .file .now) (a .b) (a .area .now) (a .n) (p .1)
-          (λ j. omega (arith, c .before .before .before .before .before .before .before .before .before .shared-slice-known2 .given j)) (a .moved .now) (a .images .now) (p .2)
+          (λ j. omega (arith, c .before .before .before .before .before .before .before .before .before .shared-slice-known2 .given j)) (a .moved .now) (a
+          .images .now) (p .2)
           (p .3),
       l .inv .3,
       l .inv .4,
@@ -69,7 +70,11 @@ returns c =
     let p = c .before .before .before .before .before .before .before .before .before .before .before .before .before .before .before .before .before .pre in
     let l = c .before .before .before .before .before .before .before .before .before .before .loop in
     let right = c .before .before .before .before .before .step-fault .ensures .0 ∙ fault-right (a .file .now) (a .b) (a .area .now) (a .n) (p .1)
-    (λ j. omega (arith, c .before .before .before .before .before .before .before .before .before .before .before .before .before .before .before .shared-slice-known2 .given j)) (a .moved .now)
+    (λ j. omega (
+      arith,
+      c .before .before .before .before .before .before .before .before .before .before .before .before .before .before .before
+          .shared-slice-known2 .given j,
+    )) (a .moved .now)
     (a .images .now) (p .2) (p .3) _ (omega arith) (l .k) in
     sym (l .inv .2 ∙ rest-here _ _ _ right (c .before .before .before .before .before .before .before .before .before .loop-test .taken) (c .if1 .taken))
 
@@ -86,7 +91,11 @@ loop-again c =
     let l = c .before .before .before .before .before .before .before .before .before .before .loop in
     let s = c .before .before .before .before .before .step-fault in
     let right = s .ensures .0 ∙ fault-right (a .file .now) (a .b) (a .area .now) (a .n) (p .1)
-    (λ j. omega (arith, c .before .before .before .before .before .before .before .before .before .before .before .before .before .before .before .shared-slice-known2 .given j)) (a .moved .now)
+    (λ j. omega (
+      arith,
+      c .before .before .before .before .before .before .before .before .before .before .before .before .before .before .before
+          .shared-slice-known2 .given j,
+    )) (a .moved .now)
     (a .images .now) (p .2) (p .3) _ (omega arith) (l .k) in (
       omega arith,
       omega arith,
