@@ -89,7 +89,8 @@ fn same_field(file: &[u8], b: Bundle, list: bool, x: usize, y: usize) -> bool
 // Whether terms i and j have the same record, lists compared item by item.
 pub fn same_term(file: &[u8], b: Bundle, i: usize, j: usize) -> bool
     requires { ⌜ Whole (now file) b ⌝ }
-    ensures { λ r. ⌜ r ≡ sameTerm (bundleAt (now (file .entry)) b) (termOf (bundleAt (now (file .entry)) b) i) (termOf (bundleAt (now (file .entry)) b) j) ⌝ }
+    ensures { λ r. ⌜ (let bundle = bundleAt (now (file .entry)) b in
+        r ≡ sameTerm bundle (termOf bundle i) (termOf bundle j)) ⌝ }
 {
     let kind = term_field(file, b, i, 0);
     if kind != term_field(file, b, j, 0) {
@@ -121,8 +122,8 @@ pub fn is_new(
     i: usize,
     d: usize,
 ) -> bool
-    requires { ⌜ Whole (now file) b × FiledBelow (bundleAt (now file) b) (now heads) (now next) i × (i < length (now next)) × (d < digests)
-        × (d ≡ termDigest (bundleAt (now file) b) (termOf (bundleAt (now file) b) i)) ⌝ }
+    requires { ⌜ (let bundle = bundleAt (now file) b in
+        Whole (now file) b × FiledBelow bundle (now heads) (now next) i × (i < length (now next)) × (d < digests) × (d ≡ termDigest bundle (termOf bundle i))) ⌝ }
     ensures { λ r. ⌜ r ≡ isNew (bundleAt (now (file .entry)) b) i ⌝ }
 {
     let mut j = wide(heads[d]);

@@ -76,8 +76,8 @@ pub fn all_prove(
     premises: usize,
 ) -> bool
     requires { ⌜ Whole (now file) b ⌝ }
-    ensures { λ x. ⌜ x ≡ allProveBy (stepIn (bundleAt (now (file .entry)) b) (now (bed .entry))) body context (items (bundleAt (now (file .entry)) b) lefts)
-        (items (bundleAt (now (file .entry)) b) rights) (items (bundleAt (now (file .entry)) b) premises) ⌝ }
+    ensures { λ x. ⌜ (let bundle = bundleAt (now (file .entry)) b in
+        x ≡ allProveBy (stepIn bundle (now (bed .entry))) body context (items bundle lefts) (items bundle rights) (items bundle premises)) ⌝ }
 {
     let mut i = first_link(b, lefts);
     let mut j = first_link(b, rights);
@@ -124,8 +124,8 @@ fn far_carried(
 ) -> bool
     requires { ⌜ Whole (now file) b × Carried (now file) b (now bed) (now carried) × (context ≤ limits .contexts) × (lefts ≤ b .links)
         × (rights ≤ b .links) × (premises ≤ b .links) ⌝ }
-    ensures { λ x. ⌜ x ≡ allProveBy (stepIn (bundleAt (now (file .entry)) b) (now (bed .entry))) false context (items (bundleAt (now (file .entry)) b) lefts)
-        (items (bundleAt (now (file .entry)) b) rights) (items (bundleAt (now (file .entry)) b) premises) ⌝ }
+    ensures { λ x. ⌜ (let bundle = bundleAt (now (file .entry)) b in
+        x ≡ allProveBy (stepIn bundle (now (bed .entry))) false context (items bundle lefts) (items bundle rights) (items bundle premises)) ⌝ }
     ensures { λ x. ⌜ (x ≡ true → Carried (now (file .entry)) b (now (bed .entry)) (now (carried .exit))) ⌝ }
 {
     let mut i = lefts;
@@ -165,8 +165,8 @@ pub fn all_carried(
     premises: usize,
 ) -> bool
     requires { ⌜ Whole (now file) b × Carried (now file) b (now bed) (now carried) × (context ≤ limits .contexts) ⌝ }
-    ensures { λ x. ⌜ x ≡ allProveBy (stepIn (bundleAt (now (file .entry)) b) (now (bed .entry))) false context (items (bundleAt (now (file .entry)) b) lefts)
-        (items (bundleAt (now (file .entry)) b) rights) (items (bundleAt (now (file .entry)) b) premises) ⌝ }
+    ensures { λ x. ⌜ (let bundle = bundleAt (now (file .entry)) b in
+        x ≡ allProveBy (stepIn bundle (now (bed .entry))) false context (items bundle lefts) (items bundle rights) (items bundle premises)) ⌝ }
     ensures { λ x. ⌜ (x ≡ true → Carried (now (file .entry)) b (now (bed .entry)) (now (carried .exit))) ⌝ }
 {
     let i = first_link(b, lefts);

@@ -98,7 +98,8 @@ pub fn cong_holds(file: &[u8], b: Bundle, s: StepWords, proved: bool) -> bool
 
 pub fn trans_holds(file: &[u8], b: Bundle, bed: &[u32], s: StepWords) -> bool
     requires { ⌜ Whole (now file) b ⌝ }
-    ensures { λ r. ⌜ r ≡ passed (transTestsBy (stepIn (bundleAt (now (file .entry)) b) (now (bed .entry))) (bundleAt (now (file .entry)) b) (asStep s)) ⌝ }
+    ensures { λ r. ⌜ (let bundle = bundleAt (now (file .entry)) b in
+        r ≡ passed (transTestsBy (stepIn bundle (now (bed .entry))) bundle (asStep s))) ⌝ }
 {
     let context = s.context;
     let left = s.left;
@@ -122,8 +123,8 @@ pub fn trans_side(
     s: StepWords,
 ) -> bool
     requires { ⌜ Whole (now file) b × (n * b .terms ≤ length (now area)) × (n * (b .contexts + 1) ≤ length (now moved)) × (s .context ≤ b .contexts) ⌝ }
-    ensures { λ r. ⌜ r ≡ transSideBy (allSettledIn b (now (area .entry)) (now (moved .entry)) n) (stepIn (bundleAt (now (file .entry)) b) (now (bed .entry)))
-        (bundleAt (now (file .entry)) b) (asStep s) ⌝ }
+    ensures { λ r. ⌜ (let bundle = bundleAt (now (file .entry)) b in
+        r ≡ transSideBy (allSettledIn b (now (area .entry)) (now (moved .entry)) n) (stepIn bundle (now (bed .entry))) bundle (asStep s)) ⌝ }
 {
     let context = s.context;
     let premises = s.premises;
@@ -137,7 +138,8 @@ pub fn trans_side(
 // The terms: quantifiers of one kind, and a premise that carries the one body to the other.
 pub fn bind_terms(file: &[u8], b: Bundle, bed: &[u32], s: StepWords) -> bool
     requires { ⌜ Whole (now file) b ⌝ }
-    ensures { λ r. ⌜ r ≡ passed (bindTermsBy (stepIn (bundleAt (now (file .entry)) b) (now (bed .entry))) (bundleAt (now (file .entry)) b) (asStep s)) ⌝ }
+    ensures { λ r. ⌜ (let bundle = bundleAt (now (file .entry)) b in
+        r ≡ passed (bindTermsBy (stepIn bundle (now (bed .entry))) bundle (asStep s))) ⌝ }
 {
     let left = s.left;
     let right = s.right;
@@ -158,7 +160,8 @@ pub fn bind_terms(file: &[u8], b: Bundle, bed: &[u32], s: StepWords) -> bool
 // The contexts: the premise's replaces x alone by y, its parent fixes y, whose parent is the step's.
 pub fn bind_contexts(file: &[u8], b: Bundle, bed: &[u32], s: StepWords) -> bool
     requires { ⌜ Whole (now file) b ⌝ }
-    ensures { λ r. ⌜ r ≡ passed (bindContextsBy (stepIn (bundleAt (now (file .entry)) b) (now (bed .entry))) (bundleAt (now (file .entry)) b) (asStep s)) ⌝ }
+    ensures { λ r. ⌜ (let bundle = bundleAt (now (file .entry)) b in
+        r ≡ passed (bindContextsBy (stepIn bundle (now (bed .entry))) bundle (asStep s))) ⌝ }
 {
     let context = s.context;
     let left = s.left;
@@ -239,7 +242,8 @@ pub fn bind_sides(
 
 pub fn let_holds(file: &[u8], b: Bundle, bed: &[u32], s: StepWords) -> bool
     requires { ⌜ Whole (now file) b ⌝ }
-    ensures { λ r. ⌜ r ≡ passed (letTestsBy (stepIn (bundleAt (now (file .entry)) b) (now (bed .entry))) (bundleAt (now (file .entry)) b) (asStep s)) ⌝ }
+    ensures { λ r. ⌜ (let bundle = bundleAt (now (file .entry)) b in
+        r ≡ passed (letTestsBy (stepIn bundle (now (bed .entry))) bundle (asStep s))) ⌝ }
 {
     let context = s.context;
     let left = s.left;

@@ -112,7 +112,8 @@ fn all_of_sort(
     terms: usize,
 ) -> bool
     requires { ⌜ Whole (now file) b × Sorted (now file) b (now sorts) ⌝ }
-    ensures { λ r. ⌜ r ≡ sameList (replicate count sort) (map (sortAt (bundleAt (now (file .entry)) b)) (items (bundleAt (now (file .entry)) b) terms)) ⌝ }
+    ensures { λ r. ⌜ (let bundle = bundleAt (now (file .entry)) b in
+        r ≡ sameList (replicate count sort) (map (sortAt bundle) (items bundle terms))) ⌝ }
 {
     let mut left = count;
     let mut i = first_link(b, terms);
@@ -142,10 +143,8 @@ fn far_sorts(
     terms: usize,
 ) -> bool
     requires { ⌜ Whole (now file) b × Sorted (now file) b (now sorts) × Fitting (now file) b (now fitting) × (list ≤ b .links) × (terms ≤ b .links) ⌝ }
-    ensures { λ r. ⌜
-        (r ≡ sameList (items (bundleAt (now (file .entry)) b) list)
-        (map (sortAt (bundleAt (now (file .entry)) b)) (items (bundleAt (now (file .entry)) b) terms)))
-        × (r ≡ true → Fitting (now (file .entry)) b (now (fitting .exit))) ⌝ }
+    ensures { λ r. ⌜ (let bundle = bundleAt (now (file .entry)) b in
+        (r ≡ sameList (items bundle list) (map (sortAt bundle) (items bundle terms))) × (r ≡ true → Fitting (now (file .entry)) b (now (fitting .exit)))) ⌝ }
 {
     let mut i = list;
     let mut j = terms;
@@ -179,10 +178,8 @@ fn same_sorts(
     terms: usize,
 ) -> bool
     requires { ⌜ Whole (now file) b × Sorted (now file) b (now sorts) × Fitting (now file) b (now fitting) ⌝ }
-    ensures { λ r. ⌜
-        (r ≡ sameList (items (bundleAt (now (file .entry)) b) list)
-        (map (sortAt (bundleAt (now (file .entry)) b)) (items (bundleAt (now (file .entry)) b) terms)))
-        × (r ≡ true → Fitting (now (file .entry)) b (now (fitting .exit))) ⌝ }
+    ensures { λ r. ⌜ (let bundle = bundleAt (now (file .entry)) b in
+        (r ≡ sameList (items bundle list) (map (sortAt bundle) (items bundle terms))) × (r ≡ true → Fitting (now (file .entry)) b (now (fitting .exit)))) ⌝ }
 {
     let mut i = first_link(b, list);
     let mut j = first_link(b, terms);
@@ -217,10 +214,8 @@ pub fn arguments_fit(
     terms: usize,
 ) -> bool
     requires { ⌜ Whole (now file) b × Sorted (now file) b (now sorts) × Fitting (now file) b (now fitting) ⌝ }
-    ensures { λ r. ⌜
-        (r ≡ sameList (argumentSorts (bundleAt (now (file .entry)) b) s)
-        (map (sortAt (bundleAt (now (file .entry)) b)) (items (bundleAt (now (file .entry)) b) terms)))
-        × (r ≡ true → Fitting (now (file .entry)) b (now (fitting .exit))) ⌝ }
+    ensures { λ r. ⌜ (let bundle = bundleAt (now (file .entry)) b in
+        (r ≡ sameList (argumentSorts bundle s) (map (sortAt bundle) (items bundle terms))) × (r ≡ true → Fitting (now (file .entry)) b (now (fitting .exit)))) ⌝ }
 {
     match s {
         Signature::BuiltIn {
@@ -245,8 +240,8 @@ pub fn variables_fit(
     terms: usize,
 ) -> bool
     requires { ⌜ Whole (now file) b × Sorted (now file) b (now sorts) ⌝ }
-    ensures { λ r. ⌜ r ≡ sameList (map (sortOfVariable (bundleAt (now (file .entry)) b)) (items (bundleAt (now (file .entry)) b) variables))
-        (map (sortAt (bundleAt (now (file .entry)) b)) (items (bundleAt (now (file .entry)) b) terms)) ⌝ }
+    ensures { λ r. ⌜ (let bundle = bundleAt (now (file .entry)) b in
+        r ≡ sameList (map (sortOfVariable bundle) (items bundle variables)) (map (sortAt bundle) (items bundle terms))) ⌝ }
 {
     let mut i = first_link(b, variables);
     let mut j = first_link(b, terms);
@@ -273,7 +268,8 @@ pub fn variables_fit(
 // Whether there is at least one variable, and all are different.
 pub fn some_different(file: &[u8], b: Bundle, variables: usize) -> bool
     requires { ⌜ Whole (now file) b ⌝ }
-    ensures { λ r. ⌜ r ≡ (notEmpty (items (bundleAt (now (file .entry)) b) variables) && different (items (bundleAt (now (file .entry)) b) variables)) ⌝ }
+    ensures { λ r. ⌜ (let bundle = bundleAt (now (file .entry)) b in
+        r ≡ (notEmpty (items bundle variables) && different (items bundle variables))) ⌝ }
 {
     let some = first_link(b, variables) != 0;
     let different = all_different(file, b, variables);

@@ -129,8 +129,9 @@ fn term_fault(
     d: usize,
 ) -> usize
     requires { ⌜ Whole (now file) b × Sorted (now file) b (now sorts) × LowerNoted (now file) b (i - 1) (now lower) × Fitting (now file) b (now fitting) ⌝ }
-    requires { ⌜ FiledBelow (bundleAt (now file) b) (now heads) (now next) i × (1 ≤ i) × (i < length (now next)) × (d < digests)
-        × (d ≡ termDigest (bundleAt (now file) b) (termOf (bundleAt (now file) b) i)) × (asTerm w ≡ termOf (bundleAt (now file) b) i) ⌝ }
+    requires { ⌜ (let bundle = bundleAt (now file) b in
+        FiledBelow bundle (now heads) (now next) i × (1 ≤ i) × (i < length (now next)) × (d < digests) × (d ≡ termDigest bundle (termOf bundle i)) × (asTerm w
+        ≡ termOf bundle i)) ⌝ }
     ensures { λ r. ⌜ (r ≡ termFault (bundleAt (now (file .entry)) b) i)
         × (r ≡ 0 → LowerNoted (now (file .entry)) b (i - 1) (now (lower .exit)) × Fitting (now (file .entry)) b (now (fitting .exit))) ⌝ }
 {
