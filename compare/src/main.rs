@@ -286,6 +286,14 @@ fn run_bench(arguments: &Arguments) -> Result<ExitCode, String> {
                 bench::time_writer(size, proved, &exact_expand, budget)
             })
             .collect(),
+        readers: bench::texts()
+            .iter()
+            .filter(|typed| typed.name.contains(only))
+            .map(|typed| {
+                let proved = proved.and_then(|library| library.read);
+                bench::time_reader(typed, proved, &exact_read, budget)
+            })
+            .collect(),
     };
     print!("{}", results.text());
     if let Some(folder) = arguments.text("write") {
