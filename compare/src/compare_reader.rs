@@ -19,7 +19,8 @@ use std::{fmt, fs, io};
 /// A reader as the proved library offers it, of declarations and a text: the job's
 /// length where it is written, else number * 2^32 + record; the output and both scratch
 /// areas are written.
-pub type Reader<'a> = &'a dyn Fn(&[u8], &[u8], &mut [u8], &mut [u32], &mut [u64]) -> u64;
+pub type Reading<'a> = dyn Fn(&[u8], &[u8], &mut [u8], &mut [u32], &mut [u64]) -> u64 + 'a;
+pub type Reader<'a> = &'a Reading<'a>;
 
 /// The answer, and the areas after the call; they held junk before.
 pub fn call(

@@ -1,5 +1,5 @@
-//! A checker of rewriting derivations and a writer of let expansions, both
-//! independent of the proved library, and the means to compare them with it.
+//! A checker of rewriting derivations, a writer of let expansions and a reader of
+//! formulas, independent of the proved library, and the means to compare them with it.
 
 pub mod answer;
 pub mod bench;

@@ -4,7 +4,7 @@
 use crate::answer::packed;
 use crate::check::check_with;
 use crate::compare::{Checker, areas, call};
-use crate::compare_reader::{self, Reader};
+use crate::compare_reader::{self, Reader, Reading};
 use crate::compare_writer::{self, Writer, lengths};
 use crate::expand::expand_with;
 use crate::fault::{Broken, Fault};
@@ -25,13 +25,11 @@ pub fn broken_writer(fault: Fault) -> impl Fn(&[u8], &mut [u8], &mut [u32], &mut
 }
 
 /// The reader with one fault.
-pub fn broken_reader(
-    fault: Fault,
-) -> impl Fn(&[u8], &[u8], &mut [u8], &mut [u32], &mut [u64]) -> u64 {
-    move |declarations, text, out, words, sets| {
+pub fn broken_reader(fault: Fault) -> Box<Reading<'static>> {
+    Box::new(move |declarations, text, out, words, sets| {
         let rules = Broken(fault);
         compare_reader::packed(read_with(rules, declarations, text, out, words, sets))
-    }
+    })
 }
 
 /// How a broken copy fared.

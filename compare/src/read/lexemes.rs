@@ -132,15 +132,14 @@ impl<'a, R: Rules> Cursor<'a, R> {
     }
 
     fn class(&self) -> Option<Class> {
-        let class = CLASSES[*self.text.get(self.place)? as usize];
-        let byte = self.text[self.place];
+        let &byte = self.text.get(self.place)?;
         if self.rules.has(Fault::FormFeedIsWhite) && byte == 12 {
             return Some(Class::White);
         }
         if self.rules.has(Fault::SlashIsNoSymbolCharacter) && byte == b'/' {
             return Some(Class::Other);
         }
-        Some(class)
+        Some(CLASSES[byte as usize])
     }
 
     /// The class of the next byte after white space and comments.

@@ -5,8 +5,9 @@ use nezkaldo_compare::answer::{Packed, Reason, Refusal};
 use nezkaldo_compare::bundle::{
     LEFT, MAX_BYTES, MAX_WORDS, RIGHT, Section, counts_of, to_bytes, to_words,
 };
-use nezkaldo_compare::compare_reader::call;
+use nezkaldo_compare::compare_reader::{Reader, call};
 use nezkaldo_compare::expand::SETS;
+use nezkaldo_compare::ffi;
 use nezkaldo_compare::read::{job, read};
 use nezkaldo_compare::vectors::{self, Party};
 use std::collections::BTreeMap;
@@ -293,20 +294,27 @@ fn every_short_text() {
     }
 }
 
-/// Both readers are held to the vectors of Req 01; the texts there have every number.
+/// Both readers, and the library's where it is there, are held to the vectors of Req 01;
+/// the texts there have every number.
 #[test]
 fn vectors_of_the_request() {
     let text = include_str!("../../vectors/req01.txt");
-    let exact = Party {
-        name: "Rust",
+    let party = |name, read, longest_text| Party {
+        name,
         check: None,
         expand: None,
-        read: Some(&exact_read),
-        longest_text: usize::MAX,
+        read: Some(read),
+        longest_text,
     };
-    let plain =
-        Party { name: "the plain reading", read: Some(&plain_read), longest_text: 2_000, ..exact };
-    let report = vectors::run(text, &BTreeMap::new(), &[exact, plain]);
+    let mut parties = vec![
+        party("Rust", &exact_read as Reader, usize::MAX),
+        party("the plain reading", &plain_read, 2_000),
+    ];
+    match ffi::library().and_then(|library| library.read) {
+        Some(read) => parties.push(party("the library", read, usize::MAX)),
+        None => eprintln!("no proved reader in this build: not held to the vectors"),
+    }
+    let report = vectors::run(text, &BTreeMap::new(), &parties);
     assert!(report.agrees(), "{report}");
     assert_eq!(report.cases, 311);
     assert_eq!(vectors::refusals(text), [1, 2, 3, 4, 5, 6, 8, 16, 18, 19, 20]);
