@@ -36,12 +36,15 @@ pub struct Areas {
 /// the job's index.
 pub fn lengths(index: u64) -> [[usize; 3]; 2] {
     let (out, words, sets) = (MAX_BYTES, MAX_WORDS, SETS);
-    let other = match index % 6 {
+    let mut rng = Rng::new(index);
+    let mut any = |enough: usize| rng.below(3 * enough as u32) as usize;
+    let other = match index % 7 {
         0 => [out + 7, words + 3, sets + 5],
         1 => [out - 1, words, sets],
         2 => [out, words - 1, sets],
         3 => [out, words, sets - 1],
         4 => [0, 0, 0],
+        5 => [any(out), any(words), any(sets)],
         _ => [out + 1, words, sets],
     };
     [[out, words, sets], other]
