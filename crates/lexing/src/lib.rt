@@ -1,0 +1,2 @@
+// The lexemes of a text: runs of symbol characters, names, the next lexeme.
+pub mod runs; // runs.rt: classes of bytes, runs compared with words
