@@ -32,7 +32,8 @@ common-nil (x ∷ u) = refl
 pub shared-on : (u v : List ℕ) (j : ℕ) → Shared u v j → j < length u → j < length v → getD u j 0 ≡ getD v j 0 → Shared u v (j + 1)
 unfolding common
 shared-on u v j h l k e =
-    let one : common (drop j u) (drop j v) ≡ suc (common (drop (suc j) u) (drop (suc j) v)) = rw (drop-cons u j 0 l, drop-cons v j 0 k, eq-eqb (getD u j 0) (getD v j 0) e) in
+    let one : common (drop j u) (drop j v) ≡ suc (common (drop (suc j) u) (drop (suc j) v)) = rw
+    (drop-cons u j 0 l, drop-cons v j 0 k, eq-eqb (getD u j 0) (getD v j 0) e) in
     rw (add-one j) (record { in-run = l; in-other = k; rest = omega (arith, h .rest) })
 
 pub shared-differ : (u v : List ℕ) (j : ℕ) → Shared u v j → j < length u → j < length v → (getD u j 0 ≡ getD v j 0 → ⊥) → j ≡ common u v

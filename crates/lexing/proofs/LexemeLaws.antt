@@ -95,7 +95,7 @@ module _ (text : List ℕ) (i s : ℕ) (h : Skipped text i s) where
         off : c ≡ 10 → ⊥
         off z = omega arith
 
-    pub lexes-bracket : k < 5 → Lexes text i (lexed (k - 3) s (s + 1))
+    pub lexes-bracket : k ≤ 4 → Lexes text i (lexed (k - 3) s (s + 1))
     unfolding classCode lexemeCode lexemeOf ends onwards bracket outside
     lexes-bracket low = go (classOf (getD text s 0)) refl (h .starts l) isClass
       where
