@@ -1,5 +1,4 @@
 -- `runs::in_common` meets its contract. The invariant: the bytes so far are in common.
-use borrow.Author.Needs.{needs}
 use native.Mathlib.Omega.{arith}
 use Prim.Native.Nat.{_-_}
 use lib.ListN.{length}
