@@ -3,10 +3,12 @@
 use borrow.Author.Needs.{needs}
 use mathlib.Core.Logic.{⊎-elim}
 use native.Mathlib.Omega.{arith}
-use Prim.Native.Nat.{_+_, _≤_}
+use Prim.Native.Nat.{ℕ, _+_, _≤_}
 use mathlib.Core.Path.{_≡_, sym, _∙_}
 use lib.ListN.{getD}
-use mathlib.Core.Bool.{true, false}
+use mathlib.Core.Bool.{Bool, true, false}
+use mathlib.Core.List.{List}
+use Rattle.bundle.specs.Bundle.{Bundle, TermRecord, termOf}
 use Rattle.scratch.specs.Stack.{halves}
 use Rattle.logic.specs.Lookup.{sameLet}
 use Rattle.bundle.proofs.Filed.{sought-start, sought-less, sought-hit, sought-miss}
@@ -16,9 +18,13 @@ use Rattle.filing.proofs.Filed.{let-digest, held-own, SoughtTerm, sough
 use Rattle.filing.proofs.lookups.find_let.Statement.{statement}
 use Rattle.filing.proofs.lookups.find_let.Tie as tie
 
+-- the let that is looked for
+abbrev same : Bundle → ℕ → List ℕ → ℕ → ℕ → TermRecord → Bool
+same b body stack from to = sameLet b (halves false stack from to) (halves true stack from to) body
+
 abbrev Inv-loop : tie.InvT-loop
 Inv-loop words c index d body stack from to found₀ t₀ found t =
-    (t ≤ c .terms) × SoughtTerm (bundleIn words c) index (sameLet (bundleIn words c) (halves false stack from to) (halves true stack from to) body) t found
+    (t ≤ c .terms) × SoughtTerm (bundleIn words c) index (same (bundleIn words c) body stack from to) t found
 
 abbrev μ-loop : tie.MeasureT-loop
 μ-loop words c index d body stack from to found₀ t₀ found t = t
@@ -67,14 +73,17 @@ loop-less c =
 loop-again : tie.Need-loop-again Inv-loop μ-loop
 loop-again c =
     let k = c .before .before .before .before .before .before .before .before .before .before in
+    let a = k .args in
     let filed = held-own (k .pre .1) in
     let l = c .before .before .before .before .before .loop in
     let some = c .before .before .before .before .loop-test .taken in
-    let e : c .wide2 .result ≡ getD (k .args .index .now) (2048 + l .t) 0 = c .wide2 .ensures in (
+    let e : c .wide2 .result ≡ getD (a .index .now) (2048 + l .t) 0 = c .wide2 .ensures in (
       omega (arith, l .inv .0, sought-less filed some e),
       ⊎-elim
-          (λ w. sought-hit filed (l .inv .1) some e (c .before .before .before .is-let .ensures) (w .0 .taken) (w .1))
-          (λ w. sought-miss filed (l .inv .1) some e (c .before .before .before .is-let .ensures) (w .0 .left) (w .1))
+          (λ w. sought-hit filed
+          {p = λ j. same (bundleIn (a .words .now) (a .c)) (a .body) (a .stack .now) (a .from) (a .to) (termOf (bundleIn (a .words .now) (a .c)) j)} (l .inv .1) some e (c .before .before .before .is-let .ensures) (w .0 .taken) (w .1))
+          (λ w. sought-miss filed
+          {p = λ j. same (bundleIn (a .words .now) (a .c)) (a .body) (a .stack .now) (a .from) (a .to) (termOf (bundleIn (a .words .now) (a .c)) j)} (l .inv .1) some e (c .before .before .before .is-let .ensures) (w .0 .left) (w .1))
           (c .before .before .if1 .came),
     )
 
@@ -82,9 +91,7 @@ returns : tie.Need-returns Inv-loop μ-loop
 returns c =
     let a = c .before .before .before .before .before .before .args in
     let l = c .before .loop in
-    sought-end (bundleIn (a .words .now) (a .c))
-    (sameLet (bundleIn (a .words .now) (a .c)) (halves false (a .stack .now) (a .from) (a .to)) (halves true (a .stack .now) (a .from) (a .to)) (a .body))
-    (a .index .now) (l .inv .1) (c .loop-test .left)
+    sought-end (bundleIn (a .words .now) (a .c)) (same (bundleIn (a .words .now) (a .c)) (a .body) (a .stack .now) (a .from) (a .to)) (a .index .now) (l .inv .1) (c .loop-test .left)
 
 pub find-let-spec : {M : Type 1} → statement M
 find-let-spec =
