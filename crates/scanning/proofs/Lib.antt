@@ -1,0 +1,15 @@
+-- Laws that the functions' proofs share. Each file stands on those above it.
+--     SpotLaws      the table does what the grammar does
+--     ByteLaws      the verdict byte by byte
+--     Resolutions   the verdict is that of 19 and 20 together
+--     RunLaws       blanks and runs by their lengths
+--     LexemeLaws    the verdict lexeme by lexeme
+--     TableFacts    what the table keeps, by computation
+--     TraceLaws     where a scan can stand
+pub mod SpotLaws
+pub mod ByteLaws
+pub mod Resolutions
+pub mod RunLaws
+pub mod LexemeLaws
+pub mod TableFacts
+pub mod TraceLaws
