@@ -11,6 +11,7 @@ use Rattle.scanning.specs.Runs.{codeOf, lexemeFrom, runEnd, part}
 use Rattle.scanning.specs.Judgement.{codeOfRun, isUnknown, judgeFrom, standing, verdict}
 use Rattle.scanning.specs.declared.Place.{Place}
 use Rattle.scanning.specs.declared.Turn.{Turn}
+use Rattle.scanning.specs.declared.Guess.{Guess}
 
 -- at the first byte of a lexeme, or at the text's end
 pub record Stand : Type 0 where
@@ -99,6 +100,21 @@ unfoldable pub guessStored : List ℕ → ℕ → ℕ → ℕ → ℕ → List �
 unfolding ifBetween
 guessStored a low top depth g = ifBetween low top depth (set a (depth - low) (cell g 10)) a
 
+-- one lexeme of the second scan: on the way of a scan, it is taken for what it was
+pub record GuessTurned (text a b : List ℕ) (low top : ℕ) (g : Guess) (i : ℕ) (r : Guess) : Type 0 where
+  pub later : i < r .next
+  pub inside : r .next ≤ length text
+  pub shallow : r .depth ≤ r .next
+  pub guessed : (known : Name → Bool) → Lettered known → (s : ℕ) (held : List ℕ) (y : Stand) → Sound text (stand i s held)
+      → Next known text (stand i s held) y → Guessed a low top (g .depth) (g .spot) (stand i s held)
+      → (y .byte ≡ r .next) × Guessed b low top (r .depth) (r .spot) y
+
+-- the levels of a scan that stands at a byte are found
+abbrev pub LevelsFound : List ℕ → List ℕ → ℕ → ℕ → ℕ → Type 0
+LevelsFound text a low top stop =
+    (known : Name → Bool) → Lettered known → (s : ℕ) (held : List ℕ) → Reached known text (stand stop s held) (origin text) → length held ≡ top
+    → (j : ℕ) → low ≤ j → j < top → alike (level held j) (getD a (j - low) 0) ≡ true
+
 -- ---- the area after an opening bracket: where it is full, the spots held so far are left
 
 abbrev pub place : ℕ → ℕ → ℕ → Place
@@ -114,6 +130,11 @@ storedAt n h = cond (ltb h n) h 0
 abbrev pub levelsFound : ℕ
 levelsFound = 32768
 
+-- behind a closing bracket: the spot that was held, and the area holds those under it
+abbrev pub Popped : List ℕ → List ℕ → List ℕ → Place → ℕ → Place → Type 0
+Popped text a b p i r =
+    (known : Name → Bool) → Lettered known → (u : ℕ) (held : List ℕ) → Stands known text a p i (u ∷ held) → (r .spot ≡ u) × Window b (r .height) (r .base) held
+
 -- ---- one lexeme of the scan
 
 pub data Turned (known : Name → Bool) (text : List ℕ) (i s : ℕ) (held a : List ℕ) (r : Turn) : Type 0 where
@@ -127,3 +148,6 @@ pub data Turned (known : Name → Bool) (text : List ℕ) (i s : ℕ) (held a : 
 pub record Scanning (known : Name → Bool) (text a : List ℕ) (p : Place) (i : ℕ) : Type 0 where
   pub held : List ℕ
   pub stands : Stands known text a p i held
+
+abbrev pub TurnedFrom : (Name → Bool) → List ℕ → List ℕ → List ℕ → Place → ℕ → Turn → Type 0
+TurnedFrom known text a b p i r = (held : List ℕ) → Stands known text a p i held → Turned known text i (p .spot) held b r

@@ -1,13 +1,13 @@
 // The spots held for open brackets: the last ones in the lent area, those of the levels below it found again by a second scan.
 ghost use mathlib.Core.Path.{_≡_};
-ghost use mathlib.Core.List.{_∷_};
-ghost use Prim.Native.Nat.{ℕ, _+_, _*_, _≤_, _<_};
-ghost use mathlib.Core.List.{List};
+ghost use Prim.Native.Nat.{_+_, _-_, _*_, _≤_, _<_};
 ghost use lib.ListN.{length, set, getD};
 ghost use Rattle.scanning.specs.Spots.{table};
-ghost use Rattle.scanning.specs.Traces.{pushed, storedAt};
+ghost use Rattle.scanning.specs.Traces.{pushed, storedAt, Popped};
 use crate::Place;
+use crate::guesses::find_levels;
 use crate::tables::cell;
+use lexing::runs::wide;
 
 // An opening bracket: its spot is held, and the scan goes inside. A full area is begun anew.
 pub fn push(area: &mut [u8], p: Place, inside: usize) -> Place
@@ -31,5 +31,56 @@ pub fn push(area: &mut [u8], p: Place, inside: usize) -> Place
         spot: inside,
         height: 1,
         base: base + height,
+    }
+}
+
+// The lowest of the levels that are found again where `base` brackets are open.
+fn lowest(base: usize) -> usize
+    ensures { λ r. ⌜ r ≡ base - 32768 ⌝ }
+{
+    if base > 32768 {
+        return base - 32768;
+    }
+    0
+}
+
+// A closing bracket: the scan goes on where the table has it, or at the spot held, which is found again where the area does not hold it.
+pub fn pop(text: &[u8], area: &mut [u8], p: Place, back: usize, i: usize) -> Place
+    requires { ⌜ (p .spot < 20) × (p .height ≤ length (now area)) × (32768 ≤ length (now area)) × (i ≤ length (now text)) × (0 < p .base + p .height) × (back ≡ getD table (p .spot * 14 + 1) 0) × (back < 99) ⌝ }
+    ensures { λ r. ⌜ Popped (now (text .entry)) (now (area .entry)) (now (area .exit)) p i r ⌝ }
+{
+    let height = p.height;
+    let base = p.base;
+    if height == 0 {
+        if back < 20 {
+            return Place {
+                spot: back,
+                height: 0,
+                base: base - 1,
+            };
+        }
+        let low = lowest(base);
+        find_levels(text, area, i, low, base);
+        let below = base - low - 1;
+        let held = wide(area[below]);
+        return Place {
+            spot: held,
+            height: below,
+            base: low,
+        };
+    }
+    let below = height - 1;
+    if back < 20 {
+        return Place {
+            spot: back,
+            height: below,
+            base,
+        };
+    }
+    let held = wide(area[below]);
+    Place {
+        spot: held,
+        height: below,
+        base,
     }
 }

@@ -2,6 +2,7 @@
 pub mod tables; // tables.rt: what may follow where
 pub mod runs; // runs.rt: blanks and runs of symbol characters
 pub mod words; // words.rt: one word
+pub mod guesses; // guesses.rt: the second scan
 pub mod levels; // levels.rt: the spots held for open brackets
 pub mod scan; // scan.rt: one lexeme, and the scan
 
@@ -31,4 +32,11 @@ pub struct Turn {
     pub byte: usize,
     pub next: usize,
     pub place: Place,
+}
+
+// Where the second scan stands: the first byte of the next lexeme, how many brackets are open, and what it takes the spot for.
+pub struct Guess {
+    pub next: usize,
+    pub depth: usize,
+    pub spot: u8,
 }

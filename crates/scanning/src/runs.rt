@@ -16,14 +16,10 @@ pub fn lexeme_from(text: &[u8], from: usize) -> usize
     let mut comment = false;
     while j < text.len() {
         let class = class_code(text[j]);
-        if comment {
-            comment = class != 1;
-        } else {
-            if class > 2 {
-                return j;
-            }
-            comment = class == 2;
+        if !(comment | (class < 3)) {
+            return j;
         }
+        comment = (comment & (class != 1)) | (class == 2);
         j += 1;
     }
     j

@@ -1,4 +1,9 @@
--- `runs::run_end` meets its contract.
+-- `runs::run_end` meets its contract. The invariant: so far all are symbol characters.
+use borrow.Author.Needs.{needs}
+use native.Mathlib.Omega.{arith}
+use Prim.Native.Nat.{_-_}
+use lib.ListN.{length}
+use Rattle.scanning.proofs.RunLaws.{Running, running-start, running-end, running-found, running-on}
 use Rattle.scanning.proofs.runs.run_end.Statement.{statement}
 use Rattle.scanning.proofs.runs.run_end.Tie as tie
 use Rattle.scanning.proofs.runs.run_end.Reads as reads
@@ -6,42 +11,38 @@ use Rattle.scanning.proofs.runs.run_end.Lts as lts
 use Rattle.lexing.proofs.runs.class_code.Reads as class-code-reads
 
 abbrev Inv-loop : tie.InvT-loop
-Inv-loop text from j₀ j = ?
+Inv-loop text from j₀ j = Running text from j
 
 abbrev μ-loop : tie.MeasureT-loop
-μ-loop text from j₀ j = ?
+μ-loop text from j₀ j = length text - j
 
--- src/runs.rt:38:5
 loop-holds : tie.Need-loop-holds Inv-loop μ-loop
-loop-holds c = ?
+loop-holds c = running-start _ _ (c .before .pre)
 
--- src/runs.rt:39:32
 shared-slice-read-class-code : tie.Need-shared-slice-read-class-code Inv-loop μ-loop
-shared-slice-read-class-code c = ?
+shared-slice-read-class-code c = search needs
 
--- src/runs.rt:39:13
 class-code-requires : tie.Need-class-code-requires Inv-loop μ-loop
-class-code-requires c κs = ?
+class-code-requires c κs = search needs
 
--- src/runs.rt:41:13
 add-j : tie.Need-add-j Inv-loop μ-loop
-add-j c = ?
+add-j c = omega arith
 
--- src/runs.rt:38:5
 loop-less : tie.Need-loop-less Inv-loop μ-loop
-loop-less c = ?
+loop-less c = omega arith
 
--- src/runs.rt:38:5
 loop-again : tie.Need-loop-again Inv-loop μ-loop
-loop-again c = ?
+loop-again c =
+    let l = c .before .before .before .before in
+    running-on _ _ (l .loop .j) (l .loop .inv) (c .before .before .before .loop-test .taken) _ (c .before .class-code .ensures) (c .if1 .taken)
 
--- src/runs.rt:43:13
 returns : tie.Need-returns Inv-loop μ-loop
-returns c = ?
+returns c =
+    let l = c .before .before .before .before in
+    running-found _ _ (l .loop .j) (l .loop .inv) (c .before .before .before .loop-test .taken) _ (c .before .class-code .ensures) (c .if1 .left)
 
--- src/runs.rt:33:1
 returns-2 : tie.Need-returns-2 Inv-loop μ-loop
-returns-2 c = ?
+returns-2 c = running-end _ _ (c .before .loop .j) (c .before .loop .inv) (c .loop-test .left)
 
 pub run-end-spec : {M : Type 1} → statement M
 run-end-spec =

@@ -1,5 +1,6 @@
 -- `runs::sort_start` meets its contract.
 use borrow.Author.Needs.{needs}
+use Rattle.scanning.proofs.RunLaws.{sort-none, sort-bool, sort-item}
 use Rattle.scanning.proofs.runs.sort_start.Statement.{statement}
 use Rattle.scanning.proofs.runs.sort_start.Tie as tie
 use Rattle.scanning.proofs.runs.sort_start.Reads as reads
@@ -8,7 +9,7 @@ use Rattle.lexing.proofs.runs.in_common.Reads as in-common-reads
 
 -- src/runs.rt:54:9
 returns : tie.Need-returns
-returns c = ?
+returns c = sort-none _ (c .if1 .taken)
 
 -- src/runs.rt:56:8
 shared-slice-read-if2 : tie.Need-shared-slice-read-if2
@@ -24,7 +25,7 @@ in-common-requires c κs = search needs
 
 -- src/runs.rt:57:9
 returns-2 : tie.Need-returns-2
-returns-2 c = ?
+returns-2 c = sort-bool _ _ (c .before .before .before .before .if1 .left) (c .before .before .if2 .taken) (c .in-common .ensures)
 
 -- src/runs.rt:59:20
 slice-aggregate-in-common-2 : tie.Need-slice-aggregate-in-common-2
@@ -36,7 +37,7 @@ in-common-requires-2 c κs = search needs
 
 -- src/runs.rt:50:1
 returns-3 : tie.Need-returns-3
-returns-3 c = ?
+returns-3 c = sort-item _ _ (c .before .before .before .before .if1 .left) (c .before .before .if2 .left) (c .in-common2 .ensures)
 
 pub sort-start-spec : {M : Type 1} → statement M
 sort-start-spec =

@@ -1,5 +1,7 @@
 -- `words::viable_bytes` meets its contract.
 use borrow.Author.Needs.{needs}
+use mathlib.Core.Path.{_∙_}
+use Rattle.scanning.proofs.WordLaws.{viable-none, viable-any, viable-sort}
 use Rattle.scanning.proofs.words.viable_bytes.Statement.{statement}
 use Rattle.scanning.proofs.words.viable_bytes.Tie as tie
 use Rattle.scanning.proofs.words.viable_bytes.Reads as reads
@@ -26,7 +28,9 @@ wide-requires c κs = search needs
 
 -- src/words.rt:21:9
 returns : tie.Need-returns
-returns c = ?
+returns c =
+    let s = c .before .before .before .before in
+    viable-none _ _ _ _ (s .pre .1) (s .pre .2) _ (c .before .wide .ensures ∙ c .before .before .cell .ensures) (c .if1 .taken)
 
 -- src/words.rt:24:16
 sub-result : tie.Need-sub-result
@@ -34,7 +38,9 @@ sub-result c = search needs
 
 -- src/words.rt:24:9
 returns-2 : tie.Need-returns-2
-returns-2 c = ?
+returns-2 c =
+    let s = c .before .before .before .before .before in
+    viable-any _ _ _ _ (s .pre .1) (s .pre .2) _ (c .before .before .wide .ensures ∙ c .before .before .before .cell .ensures) (c .before .if1 .left) (c .if2 .taken)
 
 -- src/words.rt:26:16
 sub-sort-start : tie.Need-sub-sort-start
@@ -54,7 +60,9 @@ sort-start-requires c κs = search needs
 
 -- src/words.rt:15:1
 returns-3 : tie.Need-returns-3
-returns-3 c = ?
+returns-3 c =
+    let s = c .before .before .before .before .before .before .before in
+    viable-sort _ _ _ _ (s .pre .1) (s .pre .2) _ (c .before .before .before .before .wide .ensures ∙ c .before .before .before .before .before .cell .ensures) (c .before .before .before .if1 .left) (c .before .before .if2 .left) _ (c .sort-start .ensures)
 
 pub viable-bytes-spec : {M : Type 1} → statement M
 viable-bytes-spec =
