@@ -44,7 +44,6 @@ cut (x ∷ u) v c (y ∷ t) p q = go (eqb x y) p q (cut u v c t)
     go true p q h = (h p q .0, ap suc (h p q .1))
     go false p q h = absurd (false≢true p)
 
-
 -- the run xs starts with, and what follows it
 abbrev pub runOf : List ℕ → List ℕ
 runOf xs = take (runLength xs) xs
@@ -116,9 +115,9 @@ module _ (known : Name → Bool) (σ : List Due) where
     where
       go : (b : Bool) → ltb 2 (codeOf c) ≡ b
           → judgeFrom known (suc n) cs (state (inside (eqb (codeOf c) 2)) σ)
-            ≡ judgeFrom known (suc n + blanks (eqb (codeOf c) 2) cs) (drop (blanks (eqb (codeOf c) 2) cs) cs) (state between σ)
+          ≡ judgeFrom known (suc n + blanks (eqb (codeOf c) 2) cs) (drop (blanks (eqb (codeOf c) 2) cs) cs) (state between σ)
           → judgeFrom known n (c ∷ cs) (state between σ)
-            ≡ judgeFrom known (n + cond b 0 (suc (blanks (eqb (codeOf c) 2) cs))) (drop (cond b 0 (suc (blanks (eqb (codeOf c) 2) cs))) (c ∷ cs)) (state between σ)
+          ≡ judgeFrom known (n + cond b 0 (suc (blanks (eqb (codeOf c) 2) cs))) (drop (cond b 0 (suc (blanks (eqb (codeOf c) 2) cs))) (c ∷ cs)) (state between σ)
       go true e h = none-on n (c ∷ cs)
       go false e h =
           by-class between n c cs ∙ blank n c (classOf c) (judgeFrom known (suc n) cs) e ∙ h ∙ one-on n (blanks (eqb (codeOf c) 2) cs) cs c
@@ -196,9 +195,9 @@ module _ (known : Name → Bool) (σ : List Due) where
     where
       go : (b : Bool) → (eqb (codeOf c) 5 || eqb (codeOf c) 6) ≡ b
           → judgeFrom known (suc n) xs (state (within (u ++ (c ∷ []))) σ)
-            ≡ judgeFrom known (suc n + runLength xs) (pastRun xs) (state (within ((u ++ (c ∷ [])) ++ runOf xs)) σ)
+          ≡ judgeFrom known (suc n + runLength xs) (pastRun xs) (state (within ((u ++ (c ∷ [])) ++ runOf xs)) σ)
           → judgeFrom known n (c ∷ xs) (state (within u) σ)
-            ≡ judgeFrom known (n + cond b (suc (runLength xs)) 0) (drop (cond b (suc (runLength xs)) 0) (c ∷ xs)) (state (within (u ++ take (cond b (suc (runLength xs)) 0) (c ∷ xs))) σ)
+          ≡ judgeFrom known (n + cond b (suc (runLength xs)) 0) (drop (cond b (suc (runLength xs)) 0) (c ∷ xs)) (state (within (u ++ take (cond b (suc (runLength xs)) 0) (c ∷ xs))) σ)
       go true e h =
           grows-run n c xs u e ∙ rw (g (u ++ (c ∷ [])))
           (h ∙ within-same (suc n + runLength xs) (n + suc (runLength xs)) (pastRun xs) ((u ++ (c ∷ [])) ++ runOf xs) (u ++ (c ∷ runOf xs)) (omega arith) (append-assoc u (c ∷ []) (runOf xs)))
@@ -242,7 +241,7 @@ module _ (known : Name → Bool) (σ : List Due) where
         where
           go : (b : Bool) → (eqb (codeOf c) 5 || eqb (codeOf c) 6) ≡ b → (starts (c₀ ∷ (u ++ (c ∷ []))) t ≡ true → Sorted xs (u ++ (c ∷ [])) (suc n))
               → judgeFrom known n (c ∷ xs) (state (within (c₀ ∷ u)) σ)
-                ≡ SortRun i (c₀ ∷ (u ++ take (cond b (suc (runLength xs)) 0) (c ∷ xs))) (n + cond b (suc (runLength xs)) 0) (drop (cond b (suc (runLength xs)) 0) (c ∷ xs))
+              ≡ SortRun i (c₀ ∷ (u ++ take (cond b (suc (runLength xs)) 0) (c ∷ xs))) (n + cond b (suc (runLength xs)) 0) (drop (cond b (suc (runLength xs)) 0) (c ∷ xs))
           go true e h = sort-grow c xs u n e p s (starts (c₀ ∷ (u ++ (c ∷ []))) t) refl h
           go false e h = sort-so-far i (c₀ ∷ u) n (c ∷ xs) s
 
@@ -250,8 +249,8 @@ module _ (known : Name → Bool) (σ : List Due) where
 
   ends-run-by : (w : List ℕ) (n c : ℕ) (k : Class) (f : State (Unit {0}) → Verdict) → inRun k ≡ false
       → ByClass (within w) n c k f
-        ≡ unknownOr (firstUnknown known (locate (n - length w) (metAt σ (wordOf w))))
-          (goOn n (andThen (andThen (takes σ (λ f. tt) (word (wordOf w))) (feed (bracket k))) (enter (outside c k))) f)
+      ≡ unknownOr (firstUnknown known (locate (n - length w) (metAt σ (wordOf w))))
+      (goOn n (andThen (andThen (takes σ (λ f. tt) (word (wordOf w))) (feed (bracket k))) (enter (outside c k))) f)
   unfolding endedBy endsAt ends onwards feed inRun
   ends-run-by w n c space f e = refl
   ends-run-by w n c lineEnd f e = refl
@@ -268,7 +267,7 @@ module _ (known : Name → Bool) (σ : List Due) where
 
   between-by : (n c : ℕ) (k : Class) (τ : List Due) (f : State (Unit {0}) → Verdict)
       → unknownOr (firstUnknown known (endedBy k n between τ)) (goOn n (andThen (feed (ends between k) (stackOf τ)) (enter (onwards between c k))) f)
-        ≡ goOn n (andThen (feed (bracket k) (stackOf τ)) (enter (outside c k))) f
+      ≡ goOn n (andThen (feed (bracket k) (stackOf τ)) (enter (outside c k))) f
   unfolding endedBy endsAt ends onwards firstUnknown unknownOr
   between-by n c space τ f = refl
   between-by n c lineEnd τ f = refl

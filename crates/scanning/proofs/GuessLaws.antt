@@ -239,10 +239,12 @@ module _ (text a : List ℕ) (low top : ℕ) (g : Guess) (i : ℕ) (l : i < leng
           → Guessed a low top (g .depth) (g .spot) (stand i t held) → (y .byte ≡ n) × Guessed a low top (g .depth) s y
       go known letters t held y snd (words _ c u) h =
           let same : lexemeFrom text (runEnd text (i + 1)) ≡ n = sym (q ∙ ap (lexemeFrom text) p) in
-          let z : s ≡ ifBetween low top (g .depth) (cell (g .spot) (guessColumn (runAt text i))) (g .spot) = f ∙ ap (λ j. ifBetween low top (g .depth) (cell (g .spot) (guessColumn (part text i j))) (g .spot)) p in
-          (same, rw z
-          (guessed-word a low top (g .depth) (g .spot) (stand i t held) h (cell t (codeOfRun (runAt text i))) (lexemeFrom text (runEnd text (i + 1))) (cell (g .spot) (guessColumn (runAt text i)))
-          (λ o. guessed-run known letters t (g .spot) (runAt text i) (snd .low) o c u)))
+          let z : s ≡ ifBetween low top (g .depth) (cell (g .spot) (guessColumn (runAt text i))) (g .spot) = f ∙ ap (λ j. ifBetween low top (g .depth) (cell (g .spot) (guessColumn (part text i j))) (g .spot)) p in (
+            same,
+            rw z
+                (guessed-word a low top (g .depth) (g .spot) (stand i t held) h (cell t (codeOfRun (runAt text i))) (lexemeFrom text (runEnd text (i + 1))) (cell (g .spot) (guessColumn (runAt text i)))
+                (λ o. guessed-run known letters t (g .spot) (runAt text i) (snd .low) o c u)),
+          )
       go known letters t held y snd (opens b c) h = absurd (off (sym k ∙ b))
         where
           off : _≡_ {A = ℕ} 6 3 → ⊥

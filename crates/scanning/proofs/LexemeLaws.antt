@@ -43,11 +43,34 @@ use Rattle.scanning.proofs.RunLaws.{run-parts, run-past, run-ending, ru
 name-of : (w : List ℕ) → codeOfRun w ≡ 9 → wordOf w ≡ name w
 unfolding wordOf wordCode twelve
 name-of w =
-    among (λ x. wordCode x ≡ 9 → x ≡ name w) w (λ e. refl) twelve
-    (λ h e. absurd (off 3 e (omega arith)), (λ h e. absurd (off 3 e (omega arith)), (λ h e. absurd (off 4 e (omega arith)), 
-    (λ h e. absurd (off 5 e (omega arith)), (λ h e. absurd (off 5 e (omega arith)), (λ h e. absurd (off 5 e (omega arith)), 
-    (λ h e. absurd (off 5 e (omega arith)), (λ h e. absurd (off 6 e (omega arith)), (λ h e. absurd (off 6 e (omega arith)), 
-    (λ h e. absurd (off 7 e (omega arith)), (λ h e. absurd (off 8 e (omega arith)), (λ h e. absurd (off 8 e (omega arith)), tt))))))))))))
+    among (λ x. wordCode x ≡ 9 → x ≡ name w) w (λ e. refl) twelve (
+      λ h e. absurd (off 3 e (omega arith)),
+      (
+        λ h e. absurd (off 3 e (omega arith)),
+        (
+          λ h e. absurd (off 4 e (omega arith)),
+          (
+            λ h e. absurd (off 5 e (omega arith)),
+            (
+              λ h e. absurd (off 5 e (omega arith)),
+              (
+                λ h e. absurd (off 5 e (omega arith)),
+                (
+                  λ h e. absurd (off 5 e (omega arith)),
+                  (
+                    λ h e. absurd (off 6 e (omega arith)),
+                    (
+                      λ h e. absurd (off 6 e (omega arith)),
+                      (λ h e. absurd (off 7 e (omega arith)), (λ h e. absurd (off 8 e (omega arith)), (λ h e. absurd (off 8 e (omega arith)), tt))),
+                    ),
+                  ),
+                ),
+              ),
+            ),
+          ),
+        ),
+      ),
+    )
   where
     off : (k : ℕ) → k ≡ 9 → k < 9 → ⊥
     off k e l = omega arith
@@ -263,7 +286,7 @@ module _ (known : Name → Bool) (text : List ℕ) where
 
         go : (a b : Bool) → eqb (cell s 11) 0 ≡ a → eqb (cell s 11) 1 ≡ b
             → cond (mayGrow (c ∷ []) σ) (judgeFrom known (suc i) xs (state (within (c ∷ [])) σ)) (verdict 19 i)
-              ≡ verdict 19 (i + cond a 0 (cond b (length w) (common w (sortMeant w))))
+            ≡ verdict 19 (i + cond a 0 (cond b (length w) (common w (sortMeant w))))
         go true b x y = rw (not-any x (c ∷ [])) at-once
         go false true x y = absurd (true≢false (sym (any x y w) ∙ m))
         go false false x y = rw (one-sort x y []) (by-sort (one-sort x y) (starts (c ∷ []) t) refl)

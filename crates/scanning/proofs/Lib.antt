@@ -9,6 +9,8 @@
 --     TraceLaws     where a scan can stand
 --     Windows       what the area holds of the open brackets
 --     GuessLaws     the second scan
+--     PopLaws       a closing bracket
+--     ScanLaws      one lexeme of the scan, and its loop
 pub mod SpotLaws
 pub mod ByteLaws
 pub mod Resolutions
@@ -19,3 +21,5 @@ pub mod TableFacts
 pub mod TraceLaws
 pub mod Windows
 pub mod GuessLaws
+pub mod PopLaws
+pub mod ScanLaws

@@ -32,7 +32,7 @@ module _ (known : Name → Bool) where
   step-agrees : (n : ℕ) (cs : List ℕ) → ((st : State Formula) → Agrees (suc n) cs st)
       → (xs : List Located) (o : Option (State Formula)) (o′ : Option (State (Unit {0}))) → o′ ≡ mapped erased o
       → verdictOf (orUnknown (firstUnknown known (xs ++ whileSteps o (metFrom (suc n) cs))) (otherwise (onStep n o (parseFrom (suc n) cs))))
-        ≡ unknownOr (firstUnknown known xs) (goOn n o′ (judgeFrom known (suc n) cs))
+      ≡ unknownOr (firstUnknown known xs) (goOn n o′ (judgeFrom known (suc n) cs))
   unfolding verdictOf orUnknown otherwise onStep unknownOr goOn mapped firstUnknown whileSteps
   step-agrees n cs h [] none o′ e = rw e
   step-agrees n cs h [] (some st) o′ e = rw e (h st)
@@ -40,9 +40,9 @@ module _ (known : Name → Bool) where
     where
       by : (b : Bool)
           → verdictOf (orUnknown (firstUnknown known (ls ++ whileSteps o (metFrom (suc n) cs))) (otherwise (onStep n o (parseFrom (suc n) cs))))
-            ≡ unknownOr (firstUnknown known ls) (goOn n o′ (judgeFrom known (suc n) cs))
+          ≡ unknownOr (firstUnknown known ls) (goOn n o′ (judgeFrom known (suc n) cs))
           → verdictOf (orUnknown (cond b (firstUnknown known (ls ++ whileSteps o (metFrom (suc n) cs))) (some (l .first))) (otherwise (onStep n o (parseFrom (suc n) cs))))
-            ≡ unknownOr (cond b (firstUnknown known ls) (some (l .first))) (goOn n o′ (judgeFrom known (suc n) cs))
+          ≡ unknownOr (cond b (firstUnknown known ls) (some (l .first))) (goOn n o′ (judgeFrom known (suc n) cs))
       by true p = p
       by false p = refl
 

@@ -48,6 +48,10 @@ pub end-within : (text : List ℕ) (i : ℕ) → i ≤ length text → (i ≤ ru
 unfolding runEnd
 end-within text i l = let h = run-within (drop i text) in let d = length-drop i text in (omega arith, omega (arith, h, d))
 
+-- the end of a run that is not empty
+pub run-fits : (text : List ℕ) (i e : ℕ) → i < length text → e ≡ runEnd text (i + 1) → (i ≤ e) × (e ≤ length text)
+run-fits text i e l q = let w = end-within text (i + 1) (omega arith) in (omega (arith, w .0, q), omega (arith, w .1, q))
+
 -- a byte that comes after blanks is none
 first-past : (m : Bool) (cs : List ℕ) → blanks m cs < length cs → ltb 2 (codeOf (getD cs (blanks m cs) 0)) ≡ true
 unfolding blanks

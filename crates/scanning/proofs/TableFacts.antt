@@ -72,9 +72,11 @@ opens-keeps s held l c h =
     let q = sameList (behind (cell s 10)) (behind s) in
     let r = implies (ltb s 2) (ltb (cell s 10) 2) in
     let all = implied (ltb (cell s 0) 20) _ (each-spot 20 opensFact opens-facts s l) (lt-ltb (cell s 0) 20 c) in
-    let two = and-right p (q && r) all in
-    (and-left p (q && r) all, nested-as s (cell s 10) held (same-list (behind (cell s 10)) (behind s) (and-left q r two))
-    (λ z. ltb-true (cell s 10) 2 (implied (ltb s 2) (ltb (cell s 10) 2) (and-right q r two) (lt-ltb s 2 z))) h)
+    let two = and-right p (q && r) all in (
+      and-left p (q && r) all,
+      nested-as s (cell s 10) held (same-list (behind (cell s 10)) (behind s) (and-left q r two))
+          (λ z. ltb-true (cell s 10) 2 (implied (ltb s 2) (ltb (cell s 10) 2) (and-right q r two) (lt-ltb s 2 z))) h,
+    )
 
 behindFact : ℕ → Bool
 behindFact s = each (λ u. ltb u 20) (behind s)
@@ -135,6 +137,17 @@ module _ (s : ℕ) (l : s < 20) (c : cell s 1 ≡ 99 → ⊥) where
       implied (not (ltb (cell s 1) 20)) (each plain (behind s))
       (and-right (implies (ltb (cell s 1) 20) (sameList (behind s) (cell s 1 ∷ []))) (implies (not (ltb (cell s 1) 20)) (each plain (behind s))) rest-of)
       (rw (le-ltb (cell s 1) 20 k))
+
+mostFact : ℕ → Bool
+mostFact s = implies (ltb 98 (cell s 1)) (eqb (cell s 1) 99)
+
+most-facts : upTo 20 (λ s. mostFact (s - 1)) ≡ true
+unfolding upTo mostFact implies
+most-facts = refl
+
+pub closes-most : (s : ℕ) → s < 20 → 99 ≤ cell s 1 → cell s 1 ≡ 99
+unfolding mostFact
+closes-most s l h = eqb-true (cell s 1) 99 (implied (ltb 98 (cell s 1)) (eqb (cell s 1) 99) (each-spot 20 mostFact most-facts s l) (lt-ltb 98 (cell s 1) h))
 
 -- ---- plain spots: all that is held under one is plain, and a second scan takes each for itself
 

@@ -40,36 +40,42 @@ module _ (known : Name → Bool) (text : List ℕ) where
       let i = x .byte in
       let r = word-range (wordOf (runAt text i)) in
       let a = end-within text (i + 1) (omega arith) in
-      let b = lexeme-within text (runEnd text (i + 1)) (a .1) in
-      (record {
-        low = c;
-        nested = word-keeps (x .spot) (codeOfRun (runAt text i)) (x .held) (h .low) (r .0) (r .1) c (h .nested);
-        depth = omega (arith, h .depth, a .0, b .0);
-        inside = b .1;
-        first = lexeme-first text (runEnd text (i + 1)) (a .1);
-      }, omega (arith, a .0, b .0))
+      let b = lexeme-within text (runEnd text (i + 1)) (a .1) in (
+        record {
+          low = c;
+          nested = word-keeps (x .spot) (codeOfRun (runAt text i)) (x .held) (h .low) (r .0) (r .1) c (h .nested);
+          depth = omega (arith, h .depth, a .0, b .0);
+          inside = b .1;
+          first = lexeme-first text (runEnd text (i + 1)) (a .1);
+        },
+        omega (arith, a .0, b .0),
+      )
   sound-next x y h l (opens e c) =
       let i = x .byte in
-      let b = lexeme-within text (i + 1) (omega arith) in
-      (record {
-        low = c;
-        nested = opens-keeps (x .spot) (x .held) (h .low) c (h .nested);
-        depth = omega (arith, h .depth, b .0);
-        inside = b .1;
-        first = lexeme-first text (i + 1) (omega arith);
-      }, omega (arith, b .0))
+      let b = lexeme-within text (i + 1) (omega arith) in (
+        record {
+          low = c;
+          nested = opens-keeps (x .spot) (x .held) (h .low) c (h .nested);
+          depth = omega (arith, h .depth, b .0);
+          inside = b .1;
+          first = lexeme-first text (i + 1) (omega arith);
+        },
+        omega (arith, b .0),
+      )
   sound-next x y h l (closes e c u rest q) =
       let i = x .byte in
       let b = lexeme-within text (i + 1) (omega arith) in
       let n : Nested (x .spot) (u ∷ rest) = rw q at (h .nested) in
-      let d : length (x .held) ≡ suc (length rest) = ap length q in
-      (record {
-        low = behind-low (x .spot) u (h .low) (n .0);
-        nested = n .1;
-        depth = omega (arith, h .depth, d, b .0);
-        inside = b .1;
-        first = lexeme-first text (i + 1) (omega arith);
-      }, omega (arith, b .0))
+      let d : length (x .held) ≡ suc (length rest) = ap length q in (
+        record {
+          low = behind-low (x .spot) u (h .low) (n .0);
+          nested = n .1;
+          depth = omega (arith, h .depth, d, b .0);
+          inside = b .1;
+          first = lexeme-first text (i + 1) (omega arith);
+        },
+        omega (arith, b .0),
+      )
 
   pub sound-reached : (z x : Stand) → Sound text x → Reached known text z x → Sound text z
   sound-reached z x h here = h

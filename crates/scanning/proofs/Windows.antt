@@ -66,7 +66,7 @@ window-pushed a p held s v w k = go (ltb (p .height) (length a)) refl
   where
     go : (t : Bool) → ltb (p .height) (length a) ≡ t
         → Window (set a (cond t (p .height) 0) v) (cond t (place s (p .height + 1) (p .base)) (place s 1 (p .base + p .height)) .height)
-          (cond t (place s (p .height + 1) (p .base)) (place s 1 (p .base + p .height)) .base) (v ∷ held)
+        (cond t (place s (p .height + 1) (p .base)) (place s 1 (p .base + p .height)) .base) (v ∷ held)
     go true e = window-push a (p .height) (p .base) held w v (borrow.Author.Tests.ltb-true (p .height) (length a) e)
     go false e = window-again a (p .height) (p .base) held w v (borrow.Author.Tests.ltb-false (p .height) (length a) e) k
 

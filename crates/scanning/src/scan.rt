@@ -19,14 +19,7 @@ use lexing::runs::class_code;
 use lexing::runs::wide;
 
 // One lexeme.
-fn turn(
-    text: &[u8],
-    symbols: usize,
-    variables: usize,
-    area: &mut [u8],
-    p: Place,
-    i: usize,
-) -> Turn
+fn turn(text: &[u8], symbols: usize, variables: usize, area: &mut [u8], p: Place, i: usize) -> Turn
     requires { ⌜ (i < length (now text)) × (32768 ≤ length (now area)) × (symbols ≤ 4294967295) × (variables ≤ 4294967295) × Scanning (declaredBy symbols variables) (now text) (now area) p i ⌝ }
     ensures { λ r. ⌜ TurnedFrom (declaredBy symbols variables) (now (text .entry)) (now (area .entry)) (now (area .exit)) p i r ⌝ }
 {

@@ -1,5 +1,8 @@
 -- `guesses::guess_turn` meets its contract.
 use borrow.Author.Needs.{needs}
+use mathlib.Core.Path.{sym, _∙_}
+use Rattle.scanning.proofs.RunLaws.{run-fits}
+use Rattle.scanning.proofs.GuessLaws.{turned-word, turned-open, turned-empty, turned-close}
 use Rattle.scanning.proofs.guesses.guess_turn.Statement.{statement}
 use Rattle.scanning.proofs.guesses.guess_turn.Tie as tie
 use Rattle.scanning.proofs.guesses.guess_turn.Reads as reads
@@ -29,15 +32,18 @@ run-end-requires c κs = search needs
 
 -- src/guesses.rt:115:13
 guess-word-requires : tie.Need-guess-word-requires
-guess-word-requires c κs = ?
+guess-word-requires c κs = run-fits _ _ _ (c .before .before .before .before .before .before .pre .0) (c .run-end .ensures)
 
 -- src/guesses.rt:116:13
 lexeme-from-requires : tie.Need-lexeme-from-requires
-lexeme-from-requires c κs = ?
+lexeme-from-requires c κs = run-fits _ _ _ (c .before .before .before .before .before .before .before .pre .0) (c .before .run-end .ensures) .1
 
 -- src/guesses.rt:117:9
 returns : tie.Need-returns
-returns c = ?
+returns c =
+    let s = c .before .before .before .before .before .before .before .before in
+    turned-word _ _ _ _ (s .args .g) _ (s .pre .0) _ (s .pre .2) (sym (c .before .before .before .before .class-code .ensures) ∙ c .before .before .before .if1 .taken) _ (c .before .before .run-end .ensures) (c .lexeme-from .ensures) _
+    (c .before .guess-word .ensures)
 
 -- src/guesses.rt:123:34
 add-lexeme-from : tie.Need-add-lexeme-from
@@ -61,11 +67,19 @@ same-length c = search needs
 
 -- src/guesses.rt:126:9
 returns-2 : tie.Need-returns-2
-returns-2 c = ?
+returns-2 c =
+    let s = c .before .before .before .before .before .before .before .before .before .before .before in
+    let l = c .before .before .before .before .before in
+    turned-open _ _ _ _ (s .args .g) _ (s .pre .0) _ (l .lexeme-from2 .ensures) (s .pre .2) (sym (l .before .before .class-code .ensures) ∙ c .before .before .before .before .if2 .taken) (s .pre .1) _
+    (c .before .before .guess-inside .ensures .1) _ (c .before .before .guess-inside .ensures .0)
 
 -- src/guesses.rt:133:9
 returns-3 : tie.Need-returns-3
-returns-3 c = ?
+returns-3 c =
+    let s = c .before .before .before .before .before .before .before .before in
+    let l = c .before .before in
+    turned-empty _ _ _ _ (s .args .g) _ (s .pre .0) _ (l .lexeme-from2 .ensures) (λ e. l .before .if1 .left (l .before .before .class-code .ensures ∙ e))
+    (λ e. c .before .if2 .left (l .before .before .class-code .ensures ∙ e)) (c .if3 .taken)
 
 -- src/guesses.rt:135:43
 sub-guess-behind : tie.Need-sub-guess-behind
@@ -85,7 +99,11 @@ same-length-2 c = search needs
 
 -- src/guesses.rt:106:1
 returns-4 : tie.Need-returns-4
-returns-4 c = ?
+returns-4 c =
+    let s = c .before .before .before .before .before .before .before .before .before .before in
+    let l = c .before .before .before .before in
+    turned-close _ _ _ _ (s .args .g) _ (s .pre .0) _ (l .lexeme-from2 .ensures) (λ e. l .before .if1 .left (l .before .before .class-code .ensures ∙ e))
+    (λ e. c .before .before .before .if2 .left (l .before .before .class-code .ensures ∙ e)) (s .pre .2) _ (c .guess-behind .ensures)
 
 pub guess-turn-spec : {M : Type 1} → statement M
 guess-turn-spec =
