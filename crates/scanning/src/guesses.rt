@@ -2,16 +2,16 @@
 ghost use mathlib.Core.Path.{_≡_};
 ghost use Prim.Native.Nat.{_+_, _-_, _*_, _≤_, _<_};
 ghost use lib.ListN.{length, getD};
-ghost use Rattle.scanning.specs.Spots.{table, cell};
-ghost use Rattle.scanning.specs.Runs.{part};
-ghost use Rattle.scanning.specs.Traces.{guessColumn, ifBetween, guessInside, guessStored, GuessTurned, LevelsFound};
-use crate::Guess;
+ghost use Rattle.spots.specs.Spots.{table, cell};
+ghost use Rattle.spots.specs.Runs.{part};
+ghost use Rattle.spots.specs.Guesses.{guessColumn, ifBetween, guessInside, guessStored, GuessTurned, LevelsFound};
 use crate::runs::lexeme_from;
 use crate::runs::run_end;
 use crate::tables::cell;
 use lexing::runs::class_code;
 use lexing::runs::wide;
 use lexing::runs::word_code;
+use spots::Guess;
 
 // A cell of the table, for what may be no spot.
 fn guess_cell(spot: u8, column: usize) -> u8

@@ -1,19 +1,20 @@
 // The spots held for open brackets: the last ones in the lent area, those of the levels below it found again by a second scan.
 ghost use mathlib.Core.Path.{_≡_};
-ghost use Prim.Native.Nat.{_+_, _-_, _*_, _≤_, _<_};
-ghost use lib.ListN.{length, set, getD};
-ghost use Rattle.scanning.specs.Spots.{table};
-ghost use Rattle.scanning.specs.Traces.{pushed, storedAt, Popped};
-use crate::Place;
+ghost use Prim.Native.Nat.{_+_, _-_, _≤_, _<_};
+ghost use lib.ListN.{length, set};
+ghost use Rattle.spots.specs.Spots.{cell};
+ghost use Rattle.spots.specs.Levels.{pushed, storedAt};
+ghost use Rattle.spots.specs.Turns.{Closing, Popped};
 use crate::guesses::find_levels;
 use crate::tables::cell;
 use lexing::runs::wide;
+use spots::Place;
 
 // An opening bracket: its spot is held, and the scan goes inside. A full area is begun anew.
 pub fn push(area: &mut [u8], p: Place, inside: usize) -> Place
     requires { ⌜ (p .spot < 20) × (p .height ≤ length (now area)) × (0 < length (now area)) × (p .base + p .height ≤ 18446744073709551614) ⌝ }
     ensures placed { λ r. ⌜ r ≡ pushed (length (now (area .entry))) p inside ⌝ }
-    ensures stored { λ r. ⌜ now (area .exit) ≡ set (now (area .entry)) (storedAt (length (now (area .entry))) (p .height)) (getD table (p .spot * 14 + 10) 0) ⌝ }
+    ensures stored { λ r. ⌜ now (area .exit) ≡ set (now (area .entry)) (storedAt (length (now (area .entry))) (p .height)) (cell (p .spot) 10) ⌝ }
 {
     let height = p.height;
     let base = p.base;
@@ -46,7 +47,7 @@ fn lowest(base: usize) -> usize
 
 // A closing bracket: the scan goes on where the table has it, or at the spot held, which is found again where the area does not hold it.
 pub fn pop(text: &[u8], area: &mut [u8], p: Place, back: usize, i: usize) -> Place
-    requires { ⌜ (p .spot < 20) × (p .height ≤ length (now area)) × (32768 ≤ length (now area)) × (i ≤ length (now text)) × (0 < p .base + p .height) × (back ≡ getD table (p .spot * 14 + 1) 0) × (back < 99) ⌝ }
+    requires { ⌜ Closing (now text) (now area) p back i ⌝ }
     ensures { λ r. ⌜ Popped (now (text .entry)) (now (area .entry)) (now (area .exit)) p i r ⌝ }
 {
     let height = p.height;

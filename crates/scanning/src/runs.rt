@@ -3,7 +3,7 @@ ghost use mathlib.Core.Path.{_≡_};
 ghost use Prim.Native.Nat.{_≤_};
 ghost use lib.ListN.{length};
 ghost use Rattle.lexing.specs.Common.{common};
-ghost use Rattle.scanning.specs.Runs.{lexemeFrom, runEnd, sortStart};
+ghost use Rattle.spots.specs.Runs.{lexemeFrom, runEnd, sortStart};
 use lexing::runs::class_code;
 use lexing::runs::in_common;
 

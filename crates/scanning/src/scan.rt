@@ -1,14 +1,10 @@
 // One lexeme, and the scan.
 ghost use mathlib.Core.Path.{_≡_};
-ghost use mathlib.Core.List.{List};
-ghost use Prim.Native.Nat.{ℕ, _≤_, _<_};
+ghost use Prim.Native.Nat.{_≤_};
 ghost use lib.ListN.{length};
 ghost use Rattle.grammar.specs.Names.{resolve};
-ghost use Rattle.scanning.specs.Judgement.{declaredBy, verdictOf};
-ghost use Rattle.scanning.specs.Traces.{Scanning, TurnedFrom};
-use crate::Place;
-use crate::Turn;
-use crate::Verdict;
+ghost use Rattle.spots.specs.Judgement.{declaredBy, verdictOf};
+ghost use Rattle.spots.specs.Turns.{Turning, TurnedFrom};
 use crate::levels::pop;
 use crate::levels::push;
 use crate::runs::lexeme_from;
@@ -17,10 +13,13 @@ use crate::tables::cell;
 use crate::words::word;
 use lexing::runs::class_code;
 use lexing::runs::wide;
+use spots::Place;
+use spots::Turn;
+use spots::Verdict;
 
 // One lexeme.
 fn turn(text: &[u8], symbols: usize, variables: usize, area: &mut [u8], p: Place, i: usize) -> Turn
-    requires { ⌜ (i < length (now text)) × (32768 ≤ length (now area)) × (symbols ≤ 4294967295) × (variables ≤ 4294967295) × Scanning (declaredBy symbols variables) (now text) (now area) p i ⌝ }
+    requires { ⌜ Turning symbols variables (now text) (now area) p i ⌝ }
     ensures { λ r. ⌜ TurnedFrom (declaredBy symbols variables) (now (text .entry)) (now (area .entry)) (now (area .exit)) p i r ⌝ }
 {
     let spot = p.spot;

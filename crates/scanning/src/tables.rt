@@ -2,7 +2,7 @@
 ghost use mathlib.Core.Path.{_≡_};
 ghost use Prim.Native.Nat.{_<_};
 ghost use lib.ListN.{getD};
-ghost use Rattle.scanning.specs.Spots.{table};
+ghost use Rattle.spots.specs.Spots.{table};
 
 // A cell of the table, fourteen a spot.
 pub fn cell(at: usize) -> u8

@@ -2,14 +2,14 @@
 ghost use mathlib.Core.Path.{_≡_};
 ghost use Prim.Native.Nat.{_+_, _≤_, _<_};
 ghost use lib.ListN.{length};
-ghost use Rattle.scanning.specs.Runs.{part};
-ghost use Rattle.scanning.specs.Judgement.{declaredBy, viableBytes, wordMet};
-use crate::Met;
+ghost use Rattle.spots.specs.Runs.{part};
+ghost use Rattle.spots.specs.Judgement.{declaredBy, viableBytes, wordMet};
 use crate::runs::sort_start;
 use crate::tables::cell;
 use lexing::names::known_as;
 use lexing::runs::wide;
 use lexing::runs::word_code;
+use spots::Met;
 
 // How many bytes of a run could still become a word that is due at a spot.
 fn viable_bytes(text: &[u8], spot: usize, start: usize, end: usize) -> usize

@@ -4,7 +4,7 @@ use native.Mathlib.Omega.{arith}
 use Prim.Native.Nat.{_-_}
 use mathlib.Core.Path.{_≡_, refl}
 use lib.ListN.{length}
-use Rattle.scanning.proofs.GuessLaws.{Seeking, seeking-start, seeking-on, seeking-end}
+use Rattle.spots.proofs.GuessLaws.{Seeking, seeking-start, seeking-on, seeking-end}
 use Rattle.scanning.proofs.guesses.find_levels.Statement.{statement}
 use Rattle.scanning.proofs.guesses.find_levels.Tie as tie
 use Rattle.scanning.proofs.guesses.find_levels.Reads as reads
@@ -40,8 +40,11 @@ loop-less c = let t = c .before .before .guess-turn .ensures in omega (arith, t 
 -- src/guesses.rt:154:5
 loop-again : tie.Need-loop-again Inv-loop μ-loop
 loop-again c =
-    let l = c .before .before .before .before .before in
-    (seeking-on _ _ _ _ _ _ _ _ (l .loop .inv .0) (c .before .before .before .before .loop-test .taken) _ (l .loop .g) _ refl refl (c .before .before .guess-turn .ensures), search needs)
+    let l = c .before .before .before .before .before in (
+      seeking-on _ _ _ _ _ _ _ _ (l .loop .inv .0) (c .before .before .before .before .loop-test .taken) _ (l .loop .g) _ refl refl
+          (c .before .before .guess-turn .ensures),
+      search needs,
+    )
 
 -- src/guesses.rt:144:1
 same-length : tie.Need-same-length Inv-loop μ-loop

@@ -1,6 +1,6 @@
 -- `guesses::guess_behind` meets its contract.
 use borrow.Author.Needs.{needs}
-use Rattle.scanning.proofs.GuessLaws.{if-below, if-inside, if-above}
+use Rattle.spots.proofs.GuessLaws.{if-below, if-inside, if-above}
 use Rattle.scanning.proofs.guesses.guess_behind.Statement.{statement}
 use Rattle.scanning.proofs.guesses.guess_behind.Tie as tie
 use Rattle.scanning.proofs.guesses.guess_behind.Reads as reads

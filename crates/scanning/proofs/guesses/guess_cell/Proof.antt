@@ -1,6 +1,6 @@
 -- `guesses::guess_cell` meets its contract.
 use borrow.Author.Needs.{needs}
-use Rattle.scanning.proofs.GuessLaws.{guess-in, guess-out}
+use Rattle.spots.proofs.GuessLaws.{guess-in, guess-out}
 use Rattle.scanning.proofs.guesses.guess_cell.Statement.{statement}
 use Rattle.scanning.proofs.guesses.guess_cell.Tie as tie
 use Rattle.scanning.proofs.guesses.guess_cell.Reads as reads

@@ -1,6 +1,6 @@
 -- `guesses::guess_column` meets its contract.
 use borrow.Author.Needs.{needs}
-use Rattle.scanning.proofs.GuessLaws.{column-sort, column-symbol, column-variable, column-empty, column-word}
+use Rattle.spots.proofs.GuessLaws.{column-sort, column-symbol, column-variable, column-empty, column-word}
 use Rattle.scanning.proofs.guesses.guess_column.Statement.{statement}
 use Rattle.scanning.proofs.guesses.guess_column.Tie as tie
 use Rattle.scanning.proofs.guesses.guess_column.Reads as reads

@@ -1,6 +1,6 @@
 -- `guesses::guess_inside` meets its contract.
 use borrow.Author.Needs.{needs}
-use Rattle.scanning.proofs.GuessLaws.{inside-enter, inside-below, inside-held, inside-above}
+use Rattle.spots.proofs.GuessLaws.{inside-enter, inside-below, inside-held, inside-above}
 use Rattle.scanning.proofs.guesses.guess_inside.Statement.{statement}
 use Rattle.scanning.proofs.guesses.guess_inside.Tie as tie
 use Rattle.scanning.proofs.guesses.guess_inside.Reads as reads
@@ -37,7 +37,8 @@ same-length c = search needs
 
 -- src/guesses.rt:89:9
 returns-3 : tie.Need-returns-3
-returns-3 c = inside-held _ _ _ _ _ (c .before .before .before .if1 .left) (c .before .before .if3 .taken) _ _ (c .before .guess-cell .ensures) (c .guess-cell2 .ensures)
+returns-3 c =
+    inside-held _ _ _ _ _ (c .before .before .before .if1 .left) (c .before .before .if3 .taken) _ _ (c .before .guess-cell .ensures) (c .guess-cell2 .ensures)
 
 -- src/guesses.rt:75:1
 returns-4 : tie.Need-returns-4

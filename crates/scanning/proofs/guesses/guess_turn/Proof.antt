@@ -1,8 +1,8 @@
 -- `guesses::guess_turn` meets its contract.
 use borrow.Author.Needs.{needs}
 use mathlib.Core.Path.{sym, _∙_}
-use Rattle.scanning.proofs.RunLaws.{run-fits}
-use Rattle.scanning.proofs.GuessLaws.{turned-word, turned-open, turned-empty, turned-close}
+use Rattle.spots.proofs.RunLaws.{run-fits}
+use Rattle.spots.proofs.GuessLaws.{turned-word, turned-open, turned-empty, turned-close}
 use Rattle.scanning.proofs.guesses.guess_turn.Statement.{statement}
 use Rattle.scanning.proofs.guesses.guess_turn.Tie as tie
 use Rattle.scanning.proofs.guesses.guess_turn.Reads as reads
@@ -42,7 +42,8 @@ lexeme-from-requires c κs = run-fits _ _ _ (c .before .before .before .before .
 returns : tie.Need-returns
 returns c =
     let s = c .before .before .before .before .before .before .before .before in
-    turned-word _ _ _ _ (s .args .g) _ (s .pre .0) _ (s .pre .2) (sym (c .before .before .before .before .class-code .ensures) ∙ c .before .before .before .if1 .taken) _ (c .before .before .run-end .ensures) (c .lexeme-from .ensures) _
+    turned-word _ _ _ _ (s .args .g) _ (s .pre .0) _ (s .pre .2) (sym (c .before .before .before .before .class-code .ensures)
+    ∙ c .before .before .before .if1 .taken) _ (c .before .before .run-end .ensures) (c .lexeme-from .ensures) _
     (c .before .guess-word .ensures)
 
 -- src/guesses.rt:123:34
@@ -70,7 +71,8 @@ returns-2 : tie.Need-returns-2
 returns-2 c =
     let s = c .before .before .before .before .before .before .before .before .before .before .before in
     let l = c .before .before .before .before .before in
-    turned-open _ _ _ _ (s .args .g) _ (s .pre .0) _ (l .lexeme-from2 .ensures) (s .pre .2) (sym (l .before .before .class-code .ensures) ∙ c .before .before .before .before .if2 .taken) (s .pre .1) _
+    turned-open _ _ _ _ (s .args .g) _ (s .pre .0) _ (l .lexeme-from2 .ensures) (s .pre .2)
+    (sym (l .before .before .class-code .ensures) ∙ c .before .before .before .before .if2 .taken) (s .pre .1) _
     (c .before .before .guess-inside .ensures .1) _ (c .before .before .guess-inside .ensures .0)
 
 -- src/guesses.rt:133:9

@@ -2,8 +2,8 @@
 use borrow.Author.Needs.{needs}
 use Prim.Native.Nat.{_+_, _*_}
 use mathlib.Core.Path.{ap, _∙_}
-use Rattle.scanning.specs.Spots.{cell}
-use Rattle.scanning.proofs.GuessLaws.{if-below, if-inside, if-above}
+use Rattle.spots.specs.Spots.{cell}
+use Rattle.spots.proofs.GuessLaws.{if-below, if-inside, if-above}
 use Rattle.scanning.proofs.guesses.guess_word.Statement.{statement}
 use Rattle.scanning.proofs.guesses.guess_word.Tie as tie
 use Rattle.scanning.proofs.guesses.guess_word.Reads as reads
@@ -40,7 +40,8 @@ returns-2 : tie.Need-returns-2
 returns-2 c =
     let s = c .before .before .before .before .before .before in
     c .guess-cell .ensures ∙ ap (cell (s .args .spot)) (c .before .guess-column .ensures .0)
-    ∙ if-inside (s .args .low) (s .args .top) (s .args .depth) _ (s .args .spot) (c .before .before .before .before .if1 .left) (c .before .before .before .if2 .taken)
+    ∙ if-inside (s .args .low) (s .args .top) (s .args .depth) _ (s .args .spot) (c .before .before .before .before .if1 .left)
+    (c .before .before .before .if2 .taken)
 
 -- src/guesses.rt:52:1
 returns-3 : tie.Need-returns-3

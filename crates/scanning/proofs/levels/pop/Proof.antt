@@ -1,7 +1,7 @@
 -- `levels::pop` meets its contract.
 use borrow.Author.Needs.{needs}
 use native.Mathlib.Omega.{arith}
-use Rattle.scanning.proofs.PopLaws.{popped-below, popped-known, popped-held, popped-found}
+use Rattle.spots.proofs.PopLaws.{popped-below, popped-known, popped-held, popped-found}
 use Rattle.scanning.proofs.levels.pop.Statement.{statement}
 use Rattle.scanning.proofs.levels.pop.Tie as tie
 use Rattle.scanning.proofs.levels.pop.Reads as reads
@@ -18,7 +18,7 @@ sub-t15 c = search needs
 returns : tie.Need-returns
 returns c =
     let s = c .before .before .before .before in
-    popped-below _ _ (s .args .p) _ _ (s .pre .0) (s .pre .5) (s .pre .6) (c .before .if1 .taken) (c .if2 .taken)
+    popped-below _ _ (s .args .p) _ _ (s .pre .spot) (s .pre .behind) (s .pre .taken) (c .before .if1 .taken) (c .if2 .taken)
 
 -- src/levels.rt:62:13
 lowest-requires : tie.Need-lowest-requires
@@ -53,7 +53,10 @@ returns-2 : tie.Need-returns-2
 returns-2 c =
     let s = c .before .before .before .before .before .before .before .before .before .before .before in
     let f = c .before .before .before .before in
-    popped-found _ _ (s .args .p) _ _ (s .pre .0) (s .pre .5) (s .pre .6) (c .before .before .before .before .before .before .before .before .if1 .taken) (c .before .before .before .before .before .before .before .if2 .left) (f .find-levels .last .1 .0) (omega (arith, s .pre .2, f .find-levels .kept .1 .0))
+    popped-found _ _ (s .args .p) _ _ (s .pre .spot) (s .pre .behind) (s .pre .taken)
+    (c .before .before .before .before .before .before .before .before .if1 .taken)
+    (c .before .before .before .before .before .before .before .if2 .left) (f .find-levels .last .1 .0)
+    (omega (arith, s .pre .room, f .find-levels .kept .1 .0))
     _ (c .before .before .before .before .before .before .lowest .ensures) (f .find-levels .ensures) _ (c .wide .ensures)
 
 -- src/levels.rt:72:17
@@ -64,7 +67,7 @@ sub-below-3 c = search needs
 returns-3 : tie.Need-returns-3
 returns-3 c =
     let s = c .before .before .before .before in
-    popped-known _ _ (s .args .p) _ _ (s .pre .0) (s .pre .5) (s .pre .6) (c .before .if1 .left) (c .if3 .taken)
+    popped-known _ _ (s .args .p) _ _ (s .pre .spot) (s .pre .behind) (s .pre .taken) (c .before .if1 .left) (c .if3 .taken)
 
 -- src/levels.rt:80:21
 slice-read-wide-2 : tie.Need-slice-read-wide-2
@@ -78,7 +81,7 @@ wide-requires-2 c κs = search needs
 returns-4 : tie.Need-returns-4
 returns-4 c =
     let s = c .before .before .before .before .before .before in
-    popped-held _ _ (s .args .p) _ _ (s .pre .0) (s .pre .5) (s .pre .6) (c .before .before .before .if1 .left) _ (c .wide2 .ensures)
+    popped-held _ _ (s .args .p) _ _ (s .pre .spot) (s .pre .behind) (s .pre .taken) (c .before .before .before .if1 .left) _ (c .wide2 .ensures)
 
 pub pop-spec : {M : Type 1} → statement M
 pop-spec =

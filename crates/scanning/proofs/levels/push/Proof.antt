@@ -1,6 +1,6 @@
 -- `levels::push` meets its contract.
 use borrow.Author.Needs.{needs}
-use Rattle.scanning.proofs.Windows.{pushes-in, pushes-again}
+use Rattle.spots.proofs.Windows.{pushes-in, pushes-again}
 use Rattle.scanning.proofs.levels.push.Statement.{statement}
 use Rattle.scanning.proofs.levels.push.Tie as tie
 use Rattle.scanning.proofs.levels.push.Reads as reads
@@ -33,7 +33,8 @@ same-length c = search needs
 
 -- src/levels.rt:23:9
 returns : tie.Need-returns
-returns c = pushes-in (c .before .before .before .before .args .area .now) (c .before .before .before .before .args .p) _ _ _ (c .before .cell .ensures) (c .if1 .taken)
+returns c =
+    pushes-in (c .before .before .before .before .args .area .now) (c .before .before .before .before .args .p) _ _ _ (c .before .cell .ensures) (c .if1 .taken)
 
 -- src/levels.rt:29:5
 slice-write-area-2 : tie.Need-slice-write-area-2
@@ -49,7 +50,9 @@ same-length-2 c = search needs
 
 -- src/levels.rt:13:1
 returns-2 : tie.Need-returns-2
-returns-2 c = pushes-again (c .before .before .before .before .args .area .now) (c .before .before .before .before .args .p) _ _ _ (c .before .cell .ensures) (c .if1 .left)
+returns-2 c =
+    pushes-again (c .before .before .before .before .args .area .now) (c .before .before .before .before .args .p) _ _ _ (c .before .cell .ensures)
+    (c .if1 .left)
 
 pub push-spec : {M : Type 1} → statement M
 push-spec =

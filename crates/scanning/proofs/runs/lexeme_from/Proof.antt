@@ -4,7 +4,7 @@ use native.Mathlib.Omega.{arith}
 use Prim.Native.Nat.{_-_}
 use lib.ListN.{length}
 use borrow.Author.Tests.{not-true, not-false}
-use Rattle.scanning.proofs.RunLaws.{Skipping, skipping-start, skipping-end, skipping-found, skipping-on}
+use Rattle.spots.proofs.RunLaws.{Skipping, skipping-start, skipping-end, skipping-found, skipping-on}
 use Rattle.scanning.proofs.runs.lexeme_from.Statement.{statement}
 use Rattle.scanning.proofs.runs.lexeme_from.Tie as tie
 use Rattle.scanning.proofs.runs.lexeme_from.Reads as reads
@@ -33,7 +33,8 @@ class-code-requires c κs = search needs
 returns : tie.Need-returns Inv-loop μ-loop
 returns c =
     let l = c .before .before .before .before in
-    skipping-found _ _ (l .loop .j) _ (l .loop .inv) (c .before .before .before .loop-test .taken) _ (c .before .class-code .ensures) (not-true _ (c .if1 .taken))
+    skipping-found _ _ (l .loop .j) _ (l .loop .inv) (c .before .before .before .loop-test .taken) _ (c .before .class-code .ensures)
+    (not-true _ (c .if1 .taken))
 
 -- src/runs.rt:23:9
 add-j : tie.Need-add-j Inv-loop μ-loop

@@ -3,7 +3,7 @@ use borrow.Author.Needs.{needs}
 use native.Mathlib.Omega.{arith}
 use Prim.Native.Nat.{_-_}
 use lib.ListN.{length}
-use Rattle.scanning.proofs.RunLaws.{Running, running-start, running-end, running-found, running-on}
+use Rattle.spots.proofs.RunLaws.{Running, running-start, running-end, running-found, running-on}
 use Rattle.scanning.proofs.runs.run_end.Statement.{statement}
 use Rattle.scanning.proofs.runs.run_end.Tie as tie
 use Rattle.scanning.proofs.runs.run_end.Reads as reads

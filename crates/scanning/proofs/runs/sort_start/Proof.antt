@@ -1,6 +1,6 @@
 -- `runs::sort_start` meets its contract.
 use borrow.Author.Needs.{needs}
-use Rattle.scanning.proofs.RunLaws.{sort-none, sort-bool, sort-item}
+use Rattle.spots.proofs.RunLaws.{sort-none, sort-bool, sort-item}
 use Rattle.scanning.proofs.runs.sort_start.Statement.{statement}
 use Rattle.scanning.proofs.runs.sort_start.Tie as tie
 use Rattle.scanning.proofs.runs.sort_start.Reads as reads

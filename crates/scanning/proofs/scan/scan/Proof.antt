@@ -4,8 +4,8 @@ use native.Mathlib.Omega.{arith}
 use Prim.Native.Nat.{_-_}
 use mathlib.Core.Path.{_≡_, refl}
 use lib.ListN.{length}
-use Rattle.scanning.specs.Judgement.{declaredBy}
-use Rattle.scanning.proofs.ScanLaws.{Passing, passing-start, passing-inside, passing-stop, passing-on, passing-read, passing-short}
+use Rattle.spots.specs.Judgement.{declaredBy}
+use Rattle.spots.proofs.ScanLaws.{Passing, passing-start, passing-inside, passing-stop, passing-on, passing-read, passing-short}
 use Rattle.scanning.proofs.scan.scan.Statement.{statement}
 use Rattle.scanning.proofs.scan.scan.Tie as tie
 use Rattle.scanning.proofs.scan.scan.Reads as reads
@@ -32,7 +32,13 @@ turn-requires : tie.Need-turn-requires Inv-loop μ-loop
 turn-requires c κs =
     let s = c .before .before .before .before .before .before in
     let l = c .before .before in
-    (c .before .loop-test .taken, omega (arith, s .pre .0, l .loop .inv .1), s .pre .1, s .pre .2, l .loop .inv .0 .scanning)
+    record {
+      inside = c .before .loop-test .taken;
+      room = omega (arith, s .pre .0, l .loop .inv .1);
+      symbols = s .pre .1;
+      variables = s .pre .2;
+      scanning = l .loop .inv .0 .scanning;
+    }
 
 -- src/scan.rt:114:13
 same-length : tie.Need-same-length Inv-loop μ-loop
@@ -43,7 +49,8 @@ returns : tie.Need-returns Inv-loop μ-loop
 returns c =
     let s = c .before .before .before .before .before .before .before .before .before .before in
     let l = c .before .before .before .before .before .before in
-    passing-stop (declaredBy (s .args .symbols) (s .args .variables)) _ _ (l .loop .p) _ (l .loop .inv .0) (c .before .before .before .before .before .loop-test .taken) _ _ (c .before .before .before .turn .ensures) (c .if1 .taken)
+    passing-stop (declaredBy (s .args .symbols) (s .args .variables)) _ _ (l .loop .p) _ (l .loop .inv .0)
+    (c .before .before .before .before .before .loop-test .taken) _ _ (c .before .before .before .turn .ensures) (c .if1 .taken)
 
 -- src/scan.rt:109:5
 loop-less : tie.Need-loop-less Inv-loop μ-loop
@@ -51,15 +58,20 @@ loop-less c =
     let s = c .before .before .before .before .before .before .before .before .before .before .before in
     let l = c .before .before .before .before .before .before .before in
     let k = c .before .before .before .before .before .before .loop-test .taken in
-    let n = passing-on (declaredBy (s .args .symbols) (s .args .variables)) _ _ (l .loop .p) _ (l .loop .inv .0) k _ _ (c .before .before .before .before .turn .ensures) (c .before .if1 .left) .1 in
+    let n = passing-on (declaredBy (s .args .symbols) (s .args .variables)) _ _ (l .loop .p) _ (l .loop .inv .0) k _ _
+    (c .before .before .before .before .turn .ensures) (c .before .if1 .left) .1 in
     omega (arith, n, k)
 
 -- src/scan.rt:109:5
 loop-again : tie.Need-loop-again Inv-loop μ-loop
 loop-again c =
     let s = c .before .before .before .before .before .before .before .before .before .before .before in
-    let l = c .before .before .before .before .before .before .before in
-    (passing-on (declaredBy (s .args .symbols) (s .args .variables)) _ _ (l .loop .p) _ (l .loop .inv .0) (c .before .before .before .before .before .before .loop-test .taken) _ _ (c .before .before .before .before .turn .ensures) (c .before .if1 .left) .0, search needs)
+    let l = c .before .before .before .before .before .before .before in (
+      passing-on (declaredBy (s .args .symbols) (s .args .variables)) _ _ (l .loop .p) _ (l .loop .inv .0)
+          (c .before .before .before .before .before .before .loop-test .taken) _ _ (c .before .before .before .before .turn .ensures)
+          (c .before .if1 .left) .0,
+      search needs,
+    )
 
 -- src/scan.rt:121:9
 same-length-2 : tie.Need-same-length-2 Inv-loop μ-loop

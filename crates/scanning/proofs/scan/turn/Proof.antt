@@ -2,10 +2,10 @@
 use borrow.Author.Needs.{needs}
 use native.Mathlib.Omega.{arith}
 use mathlib.Core.Path.{sym, _∙_}
-use Rattle.scanning.specs.Judgement.{declaredBy}
-use Rattle.scanning.proofs.RunLaws.{run-fits}
-use Rattle.scanning.proofs.ScanLaws.{lettered, turned-run, turned-inside, turned-closed, turned-not-inside, turned-not-closed, turned-stray}
-use Rattle.scanning.proofs.ScanLaws.{first-cell, scanning-low, scanning-fits, scanning-some}
+use Rattle.spots.specs.Judgement.{declaredBy}
+use Rattle.spots.proofs.RunLaws.{run-fits}
+use Rattle.spots.proofs.ScanLaws.{lettered, turned-run, turned-inside, turned-closed, turned-not-inside, turned-not-closed, turned-stray}
+use Rattle.spots.proofs.ScanLaws.{first-cell, scanning-low, scanning-fits, scanning-some}
 use Rattle.scanning.proofs.scan.turn.Statement.{statement}
 use Rattle.scanning.proofs.scan.turn.Tie as tie
 use Rattle.scanning.proofs.scan.turn.Reads as reads
@@ -39,31 +39,33 @@ run-end-requires c κs = search needs
 word-requires : tie.Need-word-requires
 word-requires c κs =
     let s = c .before .before .before .before .before .before in
-    let f = run-fits _ _ _ (s .pre .0) (c .run-end .ensures) in
-    (scanning-low (declaredBy (s .args .symbols) (s .args .variables)) _ _ (s .args .p) _ (s .pre .4), f .0, f .1, s .pre .2, s .pre .3)
+    let f = run-fits _ _ _ (s .pre .inside) (c .run-end .ensures) in
+    (scanning-low (declaredBy (s .args .symbols) (s .args .variables)) _ _ (s .args .p) _ (s .pre .scanning), f .0, f .1, s .pre .symbols, s .pre .variables)
 
 -- src/scan.rt:40:13
 lexeme-from-requires : tie.Need-lexeme-from-requires
-lexeme-from-requires c κs = run-fits _ _ _ (c .before .before .before .before .before .before .before .pre .0) (c .before .run-end .ensures) .1
+lexeme-from-requires c κs = run-fits _ _ _ (c .before .before .before .before .before .before .before .pre .inside) (c .before .run-end .ensures) .1
 
 -- src/scan.rt:41:9
 returns : tie.Need-returns
 returns c = λ held st.
     let s = c .before .before .before .before .before .before .before .before in
-    turned-run (declaredBy (s .args .symbols) (s .args .variables)) _ _ (s .args .p) _ (s .pre .0) held st (sym (c .before .before .before .before .class-code .ensures) ∙ c .before .before .before .if1 .taken) _ (c .before .before .run-end .ensures) _ (c .lexeme-from .ensures) _ (c .before .word .ensures)
+    turned-run (declaredBy (s .args .symbols) (s .args .variables)) _ _ (s .args .p) _ (s .pre .inside) held st
+    (sym (c .before .before .before .before .class-code .ensures) ∙ c .before .before .before .if1 .taken) _ (c .before .before .run-end .ensures) _
+    (c .lexeme-from .ensures) _ (c .before .word .ensures)
 
 -- src/scan.rt:53:32
 mul-cell : tie.Need-mul-cell
 mul-cell c =
     let s = c .before .before .before .before .before .before in
-    let l = scanning-low (declaredBy (s .args .symbols) (s .args .variables)) _ _ (s .args .p) _ (s .pre .4) in
+    let l = scanning-low (declaredBy (s .args .symbols) (s .args .variables)) _ _ (s .args .p) _ (s .pre .scanning) in
     omega (arith, l)
 
 -- src/scan.rt:53:27
 cell-requires : tie.Need-cell-requires
 cell-requires c κs =
     let s = c .before .before .before .before .before .before in
-    let l = scanning-low (declaredBy (s .args .symbols) (s .args .variables)) _ _ (s .args .p) _ (s .pre .4) in
+    let l = scanning-low (declaredBy (s .args .symbols) (s .args .variables)) _ _ (s .args .p) _ (s .pre .scanning) in
     omega (arith, l)
 
 -- src/scan.rt:53:13
@@ -82,8 +84,13 @@ lexeme-from-requires-2 c κs = search needs
 push-requires : tie.Need-push-requires
 push-requires c κs =
     let s = c .before .before .before .before .before .before .before .before .before .before .before in
-    let f = scanning-fits (declaredBy (s .args .symbols) (s .args .variables)) _ _ (s .args .p) _ (s .pre .4) in
-    (scanning-low (declaredBy (s .args .symbols) (s .args .variables)) _ _ (s .args .p) _ (s .pre .4), f .0, omega (arith, s .pre .1), omega (arith, f .1, s .pre .0))
+    let f = scanning-fits (declaredBy (s .args .symbols) (s .args .variables)) _ _ (s .args .p) _ (s .pre .scanning) in (
+      scanning-low (declaredBy (s .args .symbols) (s .args .variables)) _ _ (s .args .p) _ (s .pre .scanning),
+      f .0,
+      omega (arith, s .pre .room),
+      omega
+          (arith, f .1, s .pre .inside),
+    )
 
 -- src/scan.rt:57:13
 same-length : tie.Need-same-length
@@ -93,34 +100,41 @@ same-length c = search needs
 returns-2 : tie.Need-returns-2
 returns-2 c = λ held st.
     let s = c .before .before .before .before .before .before .before .before .before .before .before .before .before .before in
-    turned-inside (declaredBy (s .args .symbols) (s .args .variables)) _ _ (s .args .p) _ (s .pre .0) held st (sym (c .before .before .before .before .before .before .before .before .before .before .class-code .ensures) ∙ c .before .before .before .before .before .before .before .before .if2 .taken) _ (first-cell (s .args .p .spot) _ (c .before .before .before .before .before .before .wide .ensures ∙ c .before .before .before .before .before .before .before .cell .ensures)) (c .before .before .before .before .before .if3 .taken) (omega (arith, s .pre .1)) _
+    turned-inside (declaredBy (s .args .symbols) (s .args .variables)) _ _ (s .args .p) _ (s .pre .inside) held st
+    (sym (c .before .before .before .before .before .before .before .before .before .before .class-code .ensures)
+    ∙ c .before .before .before .before .before .before .before .before .if2 .taken) _
+    (first-cell (s .args .p .spot) _ (c .before .before .before .before .before .before .wide .ensures
+    ∙ c .before .before .before .before .before .before .before .cell .ensures)) (c .before .before .before .before .before .if3 .taken)
+    (omega (arith, s .pre .room)) _
     (c .before .before .before .before .lexeme-from2 .ensures) _ (c .before .before .push .ensures .0) _ (c .before .before .push .ensures .1)
 
 -- src/scan.rt:64:9
 returns-3 : tie.Need-returns-3
 returns-3 c = λ held st.
     let s = c .before .before .before .before .before .before .before .before .before in
-    turned-not-inside (declaredBy (s .args .symbols) (s .args .variables)) _ _ (s .args .p) _ (s .pre .0) held st (sym (c .before .before .before .before .before .class-code .ensures) ∙ c .before .before .before .if2 .taken) _ (first-cell (s .args .p .spot) _ (c .before .wide .ensures ∙ c .before .before .cell .ensures)) (c .if3 .left)
+    turned-not-inside (declaredBy (s .args .symbols) (s .args .variables)) _ _ (s .args .p) _ (s .pre .inside) held st
+    (sym (c .before .before .before .before .before .class-code .ensures) ∙ c .before .before .before .if2 .taken) _
+    (first-cell (s .args .p .spot) _ (c .before .wide .ensures ∙ c .before .before .cell .ensures)) (c .if3 .left)
 
 -- src/scan.rt:72:30
 mul-cell-2 : tie.Need-mul-cell-2
 mul-cell-2 c =
     let s = c .before .before .before .before .before .before .before in
-    let l = scanning-low (declaredBy (s .args .symbols) (s .args .variables)) _ _ (s .args .p) _ (s .pre .4) in
+    let l = scanning-low (declaredBy (s .args .symbols) (s .args .variables)) _ _ (s .args .p) _ (s .pre .scanning) in
     omega (arith, l)
 
 -- src/scan.rt:72:30
 add-cell : tie.Need-add-cell
 add-cell c =
     let s = c .before .before .before .before .before .before .before in
-    let l = scanning-low (declaredBy (s .args .symbols) (s .args .variables)) _ _ (s .args .p) _ (s .pre .4) in
+    let l = scanning-low (declaredBy (s .args .symbols) (s .args .variables)) _ _ (s .args .p) _ (s .pre .scanning) in
     omega (arith, l)
 
 -- src/scan.rt:72:25
 cell-requires-2 : tie.Need-cell-requires-2
 cell-requires-2 c κs =
     let s = c .before .before .before .before .before .before .before in
-    let l = scanning-low (declaredBy (s .args .symbols) (s .args .variables)) _ _ (s .args .p) _ (s .pre .4) in
+    let l = scanning-low (declaredBy (s .args .symbols) (s .args .variables)) _ _ (s .args .p) _ (s .pre .scanning) in
     omega (arith, l)
 
 -- src/scan.rt:72:13
@@ -139,9 +153,17 @@ lexeme-from-requires-3 c κs = search needs
 pop-requires : tie.Need-pop-requires
 pop-requires c κs =
     let s = c .before .before .before .before .before .before .before .before .before .before .before .before in
-    let f = scanning-fits (declaredBy (s .args .symbols) (s .args .variables)) _ _ (s .args .p) _ (s .pre .4) in
+    let f = scanning-fits (declaredBy (s .args .symbols) (s .args .variables)) _ _ (s .args .p) _ (s .pre .scanning) in
     let b = c .before .before .before .wide2 .ensures ∙ c .before .before .before .before .cell2 .ensures in
-    (scanning-low (declaredBy (s .args .symbols) (s .args .variables)) _ _ (s .args .p) _ (s .pre .4), f .0, s .pre .1, omega (arith, s .pre .0), scanning-some (declaredBy (s .args .symbols) (s .args .variables)) _ _ (s .args .p) _ (s .pre .4) _ b (c .before .before .if5 .taken), b, c .before .before .if5 .taken)
+    record {
+      spot = scanning-low (declaredBy (s .args .symbols) (s .args .variables)) _ _ (s .args .p) _ (s .pre .scanning);
+      fits = f .0;
+      room = s .pre .room;
+      inside = omega (arith, s .pre .inside);
+      some = scanning-some (declaredBy (s .args .symbols) (s .args .variables)) _ _ (s .args .p) _ (s .pre .scanning) _ b (c .before .before .if5 .taken);
+      behind = b;
+      taken = c .before .before .if5 .taken;
+    }
 
 -- src/scan.rt:76:13
 same-length-2 : tie.Need-same-length-2
@@ -151,21 +173,28 @@ same-length-2 c = search needs
 returns-4 : tie.Need-returns-4
 returns-4 c = λ held st.
     let s = c .before .before .before .before .before .before .before .before .before .before .before .before .before .before .before in
-    turned-closed (declaredBy (s .args .symbols) (s .args .variables)) _ _ (s .args .p) _ (s .pre .0) held st (sym (c .before .before .before .before .before .before .before .before .before .before .before .class-code .ensures) ∙ c .before .before .before .before .before .before .before .before .if4 .taken) (lettered (s .args .symbols) (s .args .variables)) _ (c .before .before .before .before .before .before .wide2 .ensures ∙ c .before .before .before .before .before .before .before .cell2 .ensures) (c .before .before .before .before .before .if5 .taken) _
+    turned-closed (declaredBy (s .args .symbols) (s .args .variables)) _ _ (s .args .p) _ (s .pre .inside) held st
+    (sym (c .before .before .before .before .before .before .before .before .before .before .before .class-code .ensures)
+    ∙ c .before .before .before .before .before .before .before .before .if4 .taken) (lettered (s .args .symbols) (s .args .variables)) _
+    (c .before .before .before .before .before .before .wide2 .ensures ∙ c .before .before .before .before .before .before .before .cell2 .ensures)
+    (c .before .before .before .before .before .if5 .taken) _
     (c .before .before .before .before .lexeme-from3 .ensures) _ _ (c .before .before .pop .ensures)
 
 -- src/scan.rt:83:9
 returns-5 : tie.Need-returns-5
 returns-5 c = λ held st.
     let s = c .before .before .before .before .before .before .before .before .before .before in
-    turned-not-closed (declaredBy (s .args .symbols) (s .args .variables)) _ _ (s .args .p) _ (s .pre .0) held st (sym (c .before .before .before .before .before .before .class-code .ensures) ∙ c .before .before .before .if4 .taken) _ (c .before .wide2 .ensures ∙ c .before .before .cell2 .ensures) (c .if5 .left)
+    turned-not-closed (declaredBy (s .args .symbols) (s .args .variables)) _ _ (s .args .p) _ (s .pre .inside) held st
+    (sym (c .before .before .before .before .before .before .class-code .ensures) ∙ c .before .before .before .if4 .taken) _
+    (c .before .wide2 .ensures ∙ c .before .before .cell2 .ensures) (c .if5 .left)
 
 -- src/scan.rt:22:1
 returns-6 : tie.Need-returns-6
 returns-6 c = λ held st.
     let s = c .before .before .before .before .before .before .before in
     let k = c .before .before .before .class-code .ensures in
-    turned-stray (declaredBy (s .args .symbols) (s .args .variables)) _ _ (s .args .p) _ (s .pre .0) held st (λ e. c .before .before .if1 .left (k ∙ e)) (λ e. c .before .if2 .left (k ∙ e)) (λ e. c .if4 .left (k ∙ e))
+    turned-stray (declaredBy (s .args .symbols) (s .args .variables)) _ _ (s .args .p) _ (s .pre .inside) held st (λ e. c .before .before .if1 .left (k ∙ e))
+    (λ e. c .before .if2 .left (k ∙ e)) (λ e. c .if4 .left (k ∙ e))
 
 pub turn-spec : {M : Type 1} → statement M
 turn-spec =

@@ -1,7 +1,7 @@
 -- `words::viable_bytes` meets its contract.
 use borrow.Author.Needs.{needs}
 use mathlib.Core.Path.{_∙_}
-use Rattle.scanning.proofs.WordLaws.{viable-none, viable-any, viable-sort}
+use Rattle.spots.proofs.WordLaws.{viable-none, viable-any, viable-sort}
 use Rattle.scanning.proofs.words.viable_bytes.Statement.{statement}
 use Rattle.scanning.proofs.words.viable_bytes.Tie as tie
 use Rattle.scanning.proofs.words.viable_bytes.Reads as reads
@@ -40,7 +40,8 @@ sub-result c = search needs
 returns-2 : tie.Need-returns-2
 returns-2 c =
     let s = c .before .before .before .before .before in
-    viable-any _ _ _ _ (s .pre .1) (s .pre .2) _ (c .before .before .wide .ensures ∙ c .before .before .before .cell .ensures) (c .before .if1 .left) (c .if2 .taken)
+    viable-any _ _ _ _ (s .pre .1) (s .pre .2) _ (c .before .before .wide .ensures ∙ c .before .before .before .cell .ensures) (c .before .if1 .left)
+    (c .if2 .taken)
 
 -- src/words.rt:26:16
 sub-sort-start : tie.Need-sub-sort-start
@@ -62,7 +63,9 @@ sort-start-requires c κs = search needs
 returns-3 : tie.Need-returns-3
 returns-3 c =
     let s = c .before .before .before .before .before .before .before in
-    viable-sort _ _ _ _ (s .pre .1) (s .pre .2) _ (c .before .before .before .before .wide .ensures ∙ c .before .before .before .before .before .cell .ensures) (c .before .before .before .if1 .left) (c .before .before .if2 .left) _ (c .sort-start .ensures)
+    viable-sort _ _ _ _ (s .pre .1) (s .pre .2) _ (c .before .before .before .before .wide .ensures
+    ∙ c .before .before .before .before .before .cell .ensures) (c .before .before .before .if1 .left) (c .before .before .if2 .left) _
+    (c .sort-start .ensures)
 
 pub viable-bytes-spec : {M : Type 1} → statement M
 viable-bytes-spec =

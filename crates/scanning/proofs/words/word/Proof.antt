@@ -3,9 +3,9 @@ use borrow.Author.Needs.{needs}
 use native.Mathlib.Omega.{arith}
 use mathlib.Core.Path.{_∙_}
 use Rattle.grammar.specs.Bytes.{wordOf}
-use Rattle.scanning.specs.Runs.{part}
-use Rattle.scanning.proofs.WordLaws.{met-word, met-name, met-unknown, met-refused}
-use Rattle.scanning.proofs.TraceLaws.{word-range}
+use Rattle.spots.specs.Runs.{part}
+use Rattle.spots.proofs.WordLaws.{met-word, met-name, met-unknown, met-refused}
+use Rattle.spots.proofs.TraceLaws.{word-range}
 use Rattle.scanning.proofs.words.word.Statement.{statement}
 use Rattle.scanning.proofs.words.word.Tie as tie
 use Rattle.scanning.proofs.words.word.Reads as reads
@@ -87,20 +87,23 @@ returns : tie.Need-returns
 returns c =
     let w = c .before .before .before .before .before .before .before in
     met-name _ _ _ _ _ (w .before .before .word-code .result) (w .before .before .word-code .ensures) _ (w .wide .ensures ∙ w .before .cell .ensures) _
-    (c .before .before .before .wide2 .ensures ∙ c .before .before .before .before .cell2 .ensures) _ (c .before .known-as .ensures) (c .before .before .before .before .before .before .if1 .taken) (c .before .before .before .before .before .if2 .taken) (c .if3 .taken)
+    (c .before .before .before .wide2 .ensures ∙ c .before .before .before .before .cell2 .ensures) _ (c .before .known-as .ensures)
+    (c .before .before .before .before .before .before .if1 .taken) (c .before .before .before .before .before .if2 .taken) (c .if3 .taken)
 
 -- src/words.rt:54:13
 returns-2 : tie.Need-returns-2
 returns-2 c =
     let w = c .before .before .before .before .before .before .before in
     met-unknown _ _ _ _ _ (w .before .before .word-code .result) (w .before .before .word-code .ensures) _ (w .wide .ensures ∙ w .before .cell .ensures) _
-    (c .before .before .before .wide2 .ensures ∙ c .before .before .before .before .cell2 .ensures) _ (c .before .known-as .ensures) (c .before .before .before .before .before .before .if1 .taken) (c .before .before .before .before .before .if2 .taken) (c .if3 .left)
+    (c .before .before .before .wide2 .ensures ∙ c .before .before .before .before .cell2 .ensures) _ (c .before .known-as .ensures)
+    (c .before .before .before .before .before .before .if1 .taken) (c .before .before .before .before .before .if2 .taken) (c .if3 .left)
 
 -- src/words.rt:60:9
 returns-3 : tie.Need-returns-3
 returns-3 c =
     let w = c .before .before in
-    met-word _ _ _ _ _ (w .before .before .word-code .result) (w .before .before .word-code .ensures) _ (w .wide .ensures ∙ w .before .cell .ensures) (c .before .if1 .taken) (c .if2 .left)
+    met-word _ _ _ _ _ (w .before .before .word-code .result) (w .before .before .word-code .ensures) _ (w .wide .ensures ∙ w .before .cell .ensures)
+    (c .before .if1 .taken) (c .if2 .left)
 
 -- src/words.rt:66:9
 viable-bytes-requires : tie.Need-viable-bytes-requires
@@ -114,7 +117,8 @@ add-t13 c = search needs
 returns-4 : tie.Need-returns-4
 returns-4 c =
     let w = c .before .before in
-    met-refused _ _ _ _ _ (w .before .before .word-code .result) (w .before .before .word-code .ensures) _ (w .wide .ensures ∙ w .before .cell .ensures) (c .before .if1 .left) _ (c .viable-bytes .ensures .0)
+    met-refused _ _ _ _ _ (w .before .before .word-code .result) (w .before .before .word-code .ensures) _ (w .wide .ensures ∙ w .before .cell .ensures)
+    (c .before .if1 .left) _ (c .viable-bytes .ensures .0)
 
 pub word-spec : {M : Type 1} → statement M
 word-spec =

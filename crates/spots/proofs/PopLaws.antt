@@ -7,14 +7,18 @@ use mathlib.Core.List.{List, _∷_}
 use lib.ListN.{length, getD}
 use Rattle.bundle.specs.Lists.{has}
 use Rattle.grammar.specs.Names.{Name}
-use Rattle.scanning.specs.Spots.{cell, behind, Nested}
-use Rattle.scanning.specs.Traces.{stand, origin, Sound, Window, Stands, Lettered, LevelsFound, Popped, place}
-use Rattle.scanning.specs.declared.Place.{Place}
-use Rattle.scanning.proofs.TableFacts.{closes-to, closes-plain}
-use Rattle.scanning.proofs.TraceLaws.{sound-origin, sound-reached}
-use Rattle.scanning.proofs.Windows.{window-pop, window-below, window-found}
+use Rattle.spots.specs.Spots.{cell, behind, Nested}
+use Rattle.spots.specs.Traces.{stand, origin, Sound}
+use Rattle.spots.specs.Levels.{Window, Stands, place}
+use Rattle.spots.specs.Guesses.{Lettered, LevelsFound}
+use Rattle.spots.specs.Turns.{Popped}
+use Rattle.spots.specs.declared.Place.{Place}
+use Rattle.spots.proofs.TableFacts.{closes-to, closes-plain}
+use Rattle.spots.proofs.TraceLaws.{sound-origin, sound-reached}
+use Rattle.spots.proofs.Windows.{window-pop, window-below, window-found}
 
-pub stands-sound : (known : Name → Bool) (text a : List ℕ) (p : Place) (i : ℕ) (held : List ℕ) → Stands known text a p i held → Sound text (stand i (p .spot) held)
+pub stands-sound : (known : Name → Bool) (text a : List ℕ) (p : Place) (i : ℕ) (held : List ℕ) → Stands known text a p i held
+    → Sound text (stand i (p .spot) held)
 stands-sound known text a p i held s = sound-reached known text (stand i (p .spot) held) (origin text) (sound-origin text) (s .trace)
 
 module _ (text a : List ℕ) (p : Place) (i back : ℕ) (low : p .spot < 20) (is : back ≡ cell (p .spot) 1) (ok : back < 99) where
@@ -41,7 +45,8 @@ module _ (text a : List ℕ) (p : Place) (i back : ℕ) (low : p .spot < 20) (is
   popped-found z l b f m e found v q known letters u held s =
       let n = stands-sound known text a p i (u ∷ held) s .nested in
       let d : suc (length held) ≡ p .base = omega (arith, s .window .depth, z) in
-      let w = window-found b m (p .base) (p .spot) (u ∷ held) n (closes-plain (p .spot) low some-back (omega (arith, is, l))) d (omega (arith, e)) (omega (arith, e, f))
+      let w = window-found b m (p .base) (p .spot) (u ∷ held) n (closes-plain (p .spot) low some-back (omega (arith, is, l))) d (omega (arith, e))
+      (omega (arith, e, f))
       (λ j x y. found known letters (p .spot) (u ∷ held) (s .trace) d j x y) in
       let t = window-pop b (p .base - m) m u held w (λ o. off e d o) in
       (q ∙ t .0, t .1)

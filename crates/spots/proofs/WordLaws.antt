@@ -10,11 +10,11 @@ use lib.Dec.{eqb, ltb}
 use borrow.Author.Tests.{lt-ltb, le-ltb, eq-eqb, ne-eqb}
 use Rattle.grammar.specs.Names.{Name}
 use Rattle.lexing.specs.Counted.{placeOf, knownAmong}
-use Rattle.scanning.specs.Spots.{cell}
-use Rattle.scanning.specs.Runs.{part, sortStart}
-use Rattle.scanning.specs.Judgement.{declaredBy, met, codeOfRun, isUnknown, viableBytes, wordMet}
-use Rattle.scanning.specs.declared.Met.{Met}
-use Rattle.scanning.proofs.RunLaws.{sort-within}
+use Rattle.spots.specs.Spots.{cell}
+use Rattle.spots.specs.Runs.{part, sortStart}
+use Rattle.spots.specs.Judgement.{declaredBy, met, codeOfRun, isUnknown, viableBytes, wordMet}
+use Rattle.spots.specs.declared.Met.{Met}
+use Rattle.spots.proofs.RunLaws.{sort-within}
 
 pub part-length : (text : List ℕ) (s e : ℕ) → s ≤ e → e ≤ length text → length (part text s e) ≡ e - s
 part-length text s e l m = let d = length-drop s text in length-take-le (e - s) (drop s text) (omega (arith, d))

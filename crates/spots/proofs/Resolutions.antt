@@ -1,19 +1,24 @@
 -- THE VERDICT of the parser that keeps no formula is that of 19 and 20 together.
 --     resolved-judged
+--     declared-known      what is declared, by counts
 use Prim.Native.Nat.{ℕ, suc}
-use mathlib.Core.Path.{_≡_, refl, sym, ap, _∙_}
+use mathlib.Core.Path.{_≡_, refl, sym, ap, _∙_, fun-ext}
 use mathlib.Core.Bool.{Bool, true, false, cond}
 use mathlib.Core.List.{List, [], _∷_, _++_}
 use mathlib.Core.Option.{Option, none, some}
+use lib.ListN.{length}
+use Rattle.bundle.specs.Bundle.{Bundle}
+use Rattle.reading.specs.Called.{knownIn}
+use Rattle.lexing.proofs.NumeralLaws.{counts-suffice}
 use Rattle.grammar.specs.Bytes.{classOf}
 use Rattle.grammar.specs.Grammar.{Formula}
 use Rattle.grammar.specs.Parser.{State, Outcome, read, unread, step, finish, onRead, onStep, parseFrom, start, parse, startOfScan}
 use Rattle.grammar.specs.Names.{Name, Located, endsAt, endedBy, whileSteps, metFrom, firstUnknown, Resolved, resolved, otherwise, orUnknown, resolve}
 use Rattle.grammar.specs.Names as N
 use Rattle.grammar.proofs.Erased.{mapped, stateBy, step-by, finish-by}
-use Rattle.scanning.specs.Spots.{wants, wanted, owed, dueAt}
-use Rattle.scanning.specs.Judgement.{verdict, verdictOf, unknownOr, goOn, atEnd, judgeFrom, standing}
-use Rattle.scanning.specs.declared.Verdict.{Verdict}
+use Rattle.spots.specs.Spots.{wants, wanted, owed, dueAt}
+use Rattle.spots.specs.Judgement.{verdict, declaredBy, verdictOf, unknownOr, goOn, atEnd, judgeFrom, standing}
+use Rattle.spots.specs.declared.Verdict.{Verdict}
 
 module _ (known : Name → Bool) where
   erased : State Formula → State (Unit {0})
@@ -41,7 +46,8 @@ module _ (known : Name → Bool) where
       by : (b : Bool)
           → verdictOf (orUnknown (firstUnknown known (ls ++ whileSteps o (metFrom (suc n) cs))) (otherwise (onStep n o (parseFrom (suc n) cs))))
           ≡ unknownOr (firstUnknown known ls) (goOn n o′ (judgeFrom known (suc n) cs))
-          → verdictOf (orUnknown (cond b (firstUnknown known (ls ++ whileSteps o (metFrom (suc n) cs))) (some (l .first))) (otherwise (onStep n o (parseFrom (suc n) cs))))
+          → verdictOf (orUnknown (cond b (firstUnknown known (ls ++ whileSteps o (metFrom (suc n) cs))) (some (l .first)))
+          (otherwise (onStep n o (parseFrom (suc n) cs))))
           ≡ unknownOr (cond b (firstUnknown known ls) (some (l .first))) (goOn n o′ (judgeFrom known (suc n) cs))
       by true p = p
       by false p = refl
@@ -55,3 +61,8 @@ module _ (known : Name → Bool) where
   pub resolved-judged : (text : List ℕ) → verdictOf (resolve known text) ≡ judgeFrom known 0 text (standing 1 [])
   unfolding resolve N.met parse start erased dueAt owed wanted wants
   resolved-judged text = agrees text 0 start
+
+-- the names declared by a bundle, by its counts alone
+pub declared-known : (b : Bundle) → declaredBy (length (b .symbols)) (length (b .variables)) ≡ knownIn b
+unfolding declaredBy knownIn
+declared-known b = fun-ext (λ x. sym (counts-suffice b (x .spelled) .known (x .place)))

@@ -10,22 +10,24 @@ use borrow.Author.Tests.{lt-ltb, le-ltb, eq-eqb, ne-eqb, eqb-true, ltb-true, ltb
 use Rattle.grammar.specs.Names.{Name, Place, symbolOnly, variableOnly, resolve}
 use Rattle.reading.specs.Called.{numberAfter, isNumeral, decimal}
 use Rattle.lexing.specs.Counted.{numberWithin, knownAmong}
-use Rattle.scanning.specs.Spots.{table, cell, dueAt, Nested}
-use Rattle.scanning.specs.Runs.{codeOf, lexemeFrom, runEnd, part}
-use Rattle.scanning.specs.Judgement.{verdict, verdictOf, declaredBy, judgeFrom, standing, met, codeOfRun, isUnknown, viableBytes, wordMet}
-use Rattle.scanning.specs.Traces.{stand, origin, runAt, Next, words, opens, closes, Reached, here, Sound, Window, Stands, Lettered, Popped, place}
-use Rattle.scanning.specs.Traces.{pushed, storedAt, Turned, stops, goes, Scanning, TurnedFrom}
-use Rattle.scanning.specs.declared.Place.{Place as Where}
-use Rattle.scanning.specs.declared.Met.{Met}
-use Rattle.scanning.specs.declared.Turn.{Turn}
-use Rattle.scanning.specs.declared.Verdict.{Verdict}
-use Rattle.scanning.proofs.Resolutions.{resolved-judged}
-use Rattle.scanning.proofs.LexemeLaws.{over-lexeme, opens-goes, opens-stops, closes-goes, closes-stops, stray-stops, word-goes, word-unknown}
-use Rattle.scanning.proofs.LexemeLaws.{word-stops, judged-end}
-use Rattle.scanning.proofs.TableFacts.{closes-some, closes-most}
-use Rattle.scanning.proofs.TraceLaws.{sound-origin, sound-next, reached-on}
-use Rattle.scanning.proofs.Windows.{window-start, window-pushed, pushed-spot}
-use Rattle.scanning.proofs.PopLaws.{stands-sound}
+use Rattle.spots.specs.Spots.{table, cell, dueAt, Nested}
+use Rattle.spots.specs.Runs.{codeOf, lexemeFrom, runEnd, part}
+use Rattle.spots.specs.Judgement.{verdict, verdictOf, declaredBy, judgeFrom, standing, met, codeOfRun, isUnknown, viableBytes, wordMet}
+use Rattle.spots.specs.Traces.{stand, origin, runAt, Next, words, opens, closes, Reached, here, Sound}
+use Rattle.spots.specs.Levels.{Window, Stands, place, pushed, storedAt}
+use Rattle.spots.specs.Guesses.{Lettered}
+use Rattle.spots.specs.Turns.{Popped, Turned, stops, goes, Scanning, TurnedFrom}
+use Rattle.spots.specs.declared.Place.{Place as Where}
+use Rattle.spots.specs.declared.Met.{Met}
+use Rattle.spots.specs.declared.Turn.{Turn}
+use Rattle.spots.specs.declared.Verdict.{Verdict}
+use Rattle.spots.proofs.Resolutions.{resolved-judged}
+use Rattle.spots.proofs.LexemeLaws.{over-lexeme, opens-goes, opens-stops, closes-goes, closes-stops, stray-stops, word-goes, word-unknown}
+use Rattle.spots.proofs.LexemeLaws.{word-stops, judged-end}
+use Rattle.spots.proofs.TableFacts.{closes-some, closes-most}
+use Rattle.spots.proofs.TraceLaws.{sound-origin, sound-next, reached-on}
+use Rattle.spots.proofs.Windows.{window-start, window-pushed, pushed-spot}
+use Rattle.spots.proofs.PopLaws.{stands-sound}
 
 -- ---- the names declared start with the letter of their kind
 
@@ -35,7 +37,8 @@ letter-of letter low high [] l h = absurd (false≢true (rw (borrow.Author.Tests
 letter-of letter low high (c ∷ cs) l h = go (eqb c letter) refl h
   where
     go : (b : Bool) → eqb c letter ≡ b
-        → ltb 0 (cond (leb low (cond (b && isNumeral cs) (decimal 0 cs) 0) && leb (cond (b && isNumeral cs) (decimal 0 cs) 0) high) (cond (b && isNumeral cs) (decimal 0 cs) 0) 0) ≡ true
+        → ltb 0 (cond (leb low (cond (b && isNumeral cs) (decimal 0 cs) 0) && leb (cond (b && isNumeral cs) (decimal 0 cs) 0) high)
+        (cond (b && isNumeral cs) (decimal 0 cs) 0) 0) ≡ true
         → c ≡ letter
     go true e h = eqb-true c letter e
     go false e h = absurd (false≢true (rw (borrow.Author.Tests.lt-leb low 0 (omega arith)) at h))
@@ -56,23 +59,29 @@ module _ (known : Name → Bool) (text a : List ℕ) (p : Where) (i : ℕ) (l : 
   sound : Sound text (stand i (p .spot) held)
   sound = stands-sound known text a p i held st
 
-  word-by : (b : Bool) → ltb (cell (p .spot) (codeOfRun (runAt text i))) 20 ≡ b → (u : Bool) → isUnknown known (p .spot) (runAt text i) ≡ u → codeOf (getD text i 0) ≡ 6
-      → (m : Met) → m ≡ cond b (cond u (met 20 i (p .spot)) (met 0 0 (cell (p .spot) (codeOfRun (runAt text i))))) (met 19 (i + viableBytes (p .spot) (runAt text i)) (p .spot))
+  word-by : (b : Bool) → ltb (cell (p .spot) (codeOfRun (runAt text i))) 20 ≡ b → (u : Bool) → isUnknown known (p .spot) (runAt text i) ≡ u
+      → codeOf (getD text i 0) ≡ 6
+      → (m : Met) → m ≡ cond b (cond u (met 20 i (p .spot)) (met 0 0 (cell (p .spot) (codeOfRun (runAt text i)))))
+      (met 19 (i + viableBytes (p .spot) (runAt text i)) (p .spot))
       → Turned known text i (p .spot) held a (turnTo (m .number) (m .byte) (lexemeFrom text (runEnd text (i + 1))) (place (m .spot) (p .height) (p .base)))
   word-by true x true y k m e =
-      rw e (stops (λ z. omega arith) (word-unknown known text i (p .spot) held (sound .low) (sound .nested) l k (ltb-true (cell (p .spot) (codeOfRun (runAt text i))) 20 x) y))
+      rw e (stops (λ z. omega arith) (word-unknown known text i (p .spot) held (sound .low) (sound .nested) l k
+      (ltb-true (cell (p .spot) (codeOfRun (runAt text i))) 20 x) y))
   word-by true x false y k m e =
       let c = ltb-true (cell (p .spot) (codeOfRun (runAt text i))) 20 x in
       rw e (goes refl held (words k c y) (st .window) (word-goes known text i (p .spot) held (sound .low) (sound .nested) l k c y))
   word-by false x u y k m e =
-      rw e (stops (λ z. omega arith) (word-stops known text i (p .spot) held (sound .low) (sound .nested) l k (ltb-false (cell (p .spot) (codeOfRun (runAt text i))) 20 x)))
+      rw e (stops (λ z. omega arith) (word-stops known text i (p .spot) held (sound .low) (sound .nested) l k
+      (ltb-false (cell (p .spot) (codeOfRun (runAt text i))) 20 x)))
 
-  pub turned-run : codeOf (getD text i 0) ≡ 6 → (e : ℕ) → e ≡ runEnd text (i + 1) → (n : ℕ) → n ≡ lexemeFrom text e → (m : Met) → m ≡ wordMet known (p .spot) i (part text i e)
+  pub turned-run : codeOf (getD text i 0) ≡ 6 → (e : ℕ) → e ≡ runEnd text (i + 1) → (n : ℕ) → n ≡ lexemeFrom text e → (m : Met)
+      → m ≡ wordMet known (p .spot) i (part text i e)
       → Turned known text i (p .spot) held a (turnTo (m .number) (m .byte) n (place (m .spot) (p .height) (p .base)))
   unfolding wordMet
   turned-run k e f n q m is =
       rw (q, f)
-      (word-by (ltb (cell (p .spot) (codeOfRun (runAt text i))) 20) refl (isUnknown known (p .spot) (runAt text i)) refl k m (is ∙ ap (λ j. wordMet known (p .spot) i (part text i j)) f))
+      (word-by (ltb (cell (p .spot) (codeOfRun (runAt text i))) 20) refl (isUnknown known (p .spot) (runAt text i)) refl k m
+      (is ∙ ap (λ j. wordMet known (p .spot) i (part text i j)) f))
 
   pub turned-inside : codeOf (getD text i 0) ≡ 3 → (c : ℕ) → c ≡ cell (p .spot) 0 → c < 20 → 0 < length a → (n : ℕ) → n ≡ lexemeFrom text (i + 1)
       → (q : Where) → q ≡ pushed (length a) p c → (b : List ℕ) → b ≡ set a (storedAt (length a) (p .height)) (cell (p .spot) 10)
@@ -108,9 +117,11 @@ module _ (known : Name → Bool) (text a : List ℕ) (p : Where) (i : ℕ) (l : 
   turned-not-inside k c is lc = refused (opens-stops known text i (p .spot) held (sound .low) (sound .nested) l k (omega (arith, is)))
 
   pub turned-not-closed : codeOf (getD text i 0) ≡ 4 → (c : ℕ) → c ≡ cell (p .spot) 1 → 99 ≤ c → Turned known text i (p .spot) held a (turnTo 19 i i p)
-  turned-not-closed k c is lc = refused (closes-stops known text i (p .spot) held (sound .low) (sound .nested) l k (closes-most (p .spot) (sound .low) (omega (arith, is))))
+  turned-not-closed k c is lc =
+      refused (closes-stops known text i (p .spot) held (sound .low) (sound .nested) l k (closes-most (p .spot) (sound .low) (omega (arith, is))))
 
-  pub turned-stray : (codeOf (getD text i 0) ≡ 6 → ⊥) → (codeOf (getD text i 0) ≡ 3 → ⊥) → (codeOf (getD text i 0) ≡ 4 → ⊥) → Turned known text i (p .spot) held a (turnTo 19 i i p)
+  pub turned-stray : (codeOf (getD text i 0) ≡ 6 → ⊥) → (codeOf (getD text i 0) ≡ 3 → ⊥) → (codeOf (getD text i 0) ≡ 4 → ⊥)
+      → Turned known text i (p .spot) held a (turnTo 19 i i p)
   turned-stray x y z = refused (stray-stops known text i (p .spot) held (sound .low) (sound .nested) l (sound .first l) y z x)
 
 pub first-cell : (s c : ℕ) → c ≡ getD table (s * 14) 0 → c ≡ cell s 0
@@ -171,7 +182,14 @@ module _ (known : Name → Bool) (text a : List ℕ) (p : Where) (i : ℕ) (h : 
             let y = stand (r .next) (r .place .spot) rest in
             let o = sound-next known text x y (stands-sound known text a p i (h .scanning .held) (h .scanning .stands)) l nx in (
               record {
-                scanning = record { held = rest; stands = record { trace = reached-on known text x (origin text) y (h .scanning .stands .trace) l nx; window = w } };
+                scanning = record {
+                  held = rest;
+                  stands = record {
+                    trace = reached-on known text x (origin text) y
+                        (h .scanning .stands .trace) l nx;
+                    window = w;
+                  };
+                };
                 rest = h .rest ∙ e;
               },
               o .1,

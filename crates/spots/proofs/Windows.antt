@@ -14,10 +14,10 @@ use lib.Seq.{getD-set-same, getD-set-other}
 use lib.Dec.{eqb, ltb}
 use borrow.Author.Tests.{lt-ltb, le-ltb, eq-eqb, ne-eqb}
 use Rattle.bundle.specs.Lists.{each}
-use Rattle.scanning.specs.Spots.{cell, Nested, behind, alike}
-use Rattle.scanning.specs.Traces.{level, Window, place, pushed, storedAt}
-use Rattle.scanning.specs.declared.Place.{Place}
-use Rattle.scanning.proofs.TableFacts.{plain, nested-plain, plain-same}
+use Rattle.spots.specs.Spots.{cell, Nested, behind, alike}
+use Rattle.spots.specs.Levels.{level, Window, place, pushed, storedAt}
+use Rattle.spots.specs.declared.Place.{Place}
+use Rattle.spots.proofs.TableFacts.{plain, nested-plain, plain-same}
 
 pub level-top : (u : ℕ) (held : List ℕ) (j : ℕ) → j ≡ length held → level (u ∷ held) j ≡ u
 unfolding level

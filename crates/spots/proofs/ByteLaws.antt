@@ -18,9 +18,9 @@ use Rattle.grammar.specs.Names.{Name, Located, locate, metAt, endsAt, endedBy, 
 use Rattle.grammar.proofs.Bytewise.{then-then}
 use Rattle.lexing.specs.Codes.{classCode}
 use Rattle.lexing.specs.Common.{common}
-use Rattle.scanning.specs.Runs.{codeOf, blanks, runLength}
-use Rattle.scanning.specs.Judgement.{unknownOr, goOn, atEnd, judgeFrom, verdict}
-use Rattle.scanning.specs.declared.Verdict.{Verdict}
+use Rattle.spots.specs.Runs.{codeOf, blanks, runLength}
+use Rattle.spots.specs.Judgement.{unknownOr, goOn, atEnd, judgeFrom, verdict}
+use Rattle.spots.specs.declared.Verdict.{Verdict}
 
 abbrev pub state : Mode → List Due → State (Unit {0})
 state m σ = record { mode = m; stack = stackOf σ }
@@ -84,7 +84,8 @@ module _ (known : Name → Bool) (σ : List Due) where
   in-comment n c symbol f = refl
   in-comment n c other f = refl
 
-  blank : (n c : ℕ) (k : Class) (f : State (Unit {0}) → Verdict) → ltb 2 (classCode k) ≡ false → ByClass between n c k f ≡ f (state (inside (eqb (classCode k) 2)) σ)
+  blank : (n c : ℕ) (k : Class) (f : State (Unit {0}) → Verdict) → ltb 2 (classCode k) ≡ false
+      → ByClass between n c k f ≡ f (state (inside (eqb (classCode k) 2)) σ)
   unfolding unknownOr firstUnknown endedBy endsAt goOn andThen feed ends enter onwards viable classCode bracket outside
   blank n c space f e = refl
   blank n c lineEnd f e = refl
@@ -98,7 +99,8 @@ module _ (known : Name → Bool) (σ : List Due) where
   abbrev Over : Bool → List ℕ → Type 0
   Over m cs = (n : ℕ) → judgeFrom known n cs (state (inside m) σ) ≡ judgeFrom known (n + blanks m cs) (drop (blanks m cs) cs) (state between σ)
 
-  one-on : (n b : ℕ) (cs : List ℕ) (c : ℕ) → judgeFrom known (suc n + b) (drop b cs) (state between σ) ≡ judgeFrom known (n + suc b) (drop (suc b) (c ∷ cs)) (state between σ)
+  one-on : (n b : ℕ) (cs : List ℕ) (c : ℕ) → judgeFrom known (suc n + b) (drop b cs) (state between σ)
+      ≡ judgeFrom known (n + suc b) (drop (suc b) (c ∷ cs)) (state between σ)
   one-on n b cs c = let e : suc n + b ≡ n + suc b = omega arith in ap (λ i. judgeFrom known i (drop b cs) (state between σ)) e
 
   none-on : (n : ℕ) (cs : List ℕ) → judgeFrom known n cs (state between σ) ≡ judgeFrom known (n + 0) cs (state between σ)
@@ -117,12 +119,14 @@ module _ (known : Name → Bool) (σ : List Due) where
           → judgeFrom known (suc n) cs (state (inside (eqb (codeOf c) 2)) σ)
           ≡ judgeFrom known (suc n + blanks (eqb (codeOf c) 2) cs) (drop (blanks (eqb (codeOf c) 2) cs) cs) (state between σ)
           → judgeFrom known n (c ∷ cs) (state between σ)
-          ≡ judgeFrom known (n + cond b 0 (suc (blanks (eqb (codeOf c) 2) cs))) (drop (cond b 0 (suc (blanks (eqb (codeOf c) 2) cs))) (c ∷ cs)) (state between σ)
+          ≡ judgeFrom known (n + cond b 0 (suc (blanks (eqb (codeOf c) 2) cs))) (drop (cond b 0 (suc (blanks (eqb (codeOf c) 2) cs))) (c ∷ cs))
+          (state between σ)
       go true e h = none-on n (c ∷ cs)
       go false e h =
           by-class between n c cs ∙ blank n c (classOf c) (judgeFrom known (suc n) cs) e ∙ h ∙ one-on n (blanks (eqb (codeOf c) 2) cs) cs c
 
-  pub over-blanks : (n : ℕ) (cs : List ℕ) → judgeFrom known n cs (state between σ) ≡ judgeFrom known (n + blanks false cs) (drop (blanks false cs) cs) (state between σ)
+  pub over-blanks : (n : ℕ) (cs : List ℕ) → judgeFrom known n cs (state between σ)
+      ≡ judgeFrom known (n + blanks false cs) (drop (blanks false cs) cs) (state between σ)
   over-blanks n cs = over cs false n
 
   -- ---- brackets and stray bytes
@@ -147,7 +151,8 @@ module _ (known : Name → Bool) (σ : List Due) where
 
   -- ---- runs
 
-  starts-run : (n c : ℕ) (f : State (Unit {0}) → Verdict) → ByClass between n c symbol f ≡ cond (mayGrow (c ∷ []) σ) (f (state (within (c ∷ [])) σ)) (verdict 19 n)
+  starts-run : (n c : ℕ) (f : State (Unit {0}) → Verdict) → ByClass between n c symbol f
+      ≡ cond (mayGrow (c ∷ []) σ) (f (state (within (c ∷ [])) σ)) (verdict 19 n)
   unfolding unknownOr firstUnknown endedBy endsAt goOn andThen feed ends enter onwards viable bracket outside
   starts-run n c f = go (mayGrow (c ∷ []) σ)
     where
@@ -180,7 +185,8 @@ module _ (known : Name → Bool) (σ : List Due) where
       by other e = absurd (false≢true e)
 
   grows-run : (n c : ℕ) (cs w : List ℕ) → (eqb (codeOf c) 5 || eqb (codeOf c) 6) ≡ true
-      → judgeFrom known n (c ∷ cs) (state (within w) σ) ≡ cond (mayGrow (w ++ (c ∷ [])) σ) (judgeFrom known (suc n) cs (state (within (w ++ (c ∷ []))) σ)) (verdict 19 n)
+      → judgeFrom known n (c ∷ cs) (state (within w) σ) ≡ cond (mayGrow (w ++ (c ∷ [])) σ) (judgeFrom known (suc n) cs (state (within (w ++ (c ∷ []))) σ))
+      (verdict 19 n)
   grows-run n c cs w e = by-class (within w) n c cs ∙ grown n c w (classOf c) (judgeFrom known (suc n) cs) e
 
   within-same : (n m : ℕ) (cs u v : List ℕ) → n ≡ m → u ≡ v → judgeFrom known n cs (state (within u) σ) ≡ judgeFrom known m cs (state (within v) σ)
@@ -197,10 +203,12 @@ module _ (known : Name → Bool) (σ : List Due) where
           → judgeFrom known (suc n) xs (state (within (u ++ (c ∷ []))) σ)
           ≡ judgeFrom known (suc n + runLength xs) (pastRun xs) (state (within ((u ++ (c ∷ [])) ++ runOf xs)) σ)
           → judgeFrom known n (c ∷ xs) (state (within u) σ)
-          ≡ judgeFrom known (n + cond b (suc (runLength xs)) 0) (drop (cond b (suc (runLength xs)) 0) (c ∷ xs)) (state (within (u ++ take (cond b (suc (runLength xs)) 0) (c ∷ xs))) σ)
+          ≡ judgeFrom known (n + cond b (suc (runLength xs)) 0) (drop (cond b (suc (runLength xs)) 0) (c ∷ xs))
+          (state (within (u ++ take (cond b (suc (runLength xs)) 0) (c ∷ xs))) σ)
       go true e h =
           grows-run n c xs u e ∙ rw (g (u ++ (c ∷ [])))
-          (h ∙ within-same (suc n + runLength xs) (n + suc (runLength xs)) (pastRun xs) ((u ++ (c ∷ [])) ++ runOf xs) (u ++ (c ∷ runOf xs)) (omega arith) (append-assoc u (c ∷ []) (runOf xs)))
+          (h ∙ within-same (suc n + runLength xs) (n + suc (runLength xs)) (pastRun xs) ((u ++ (c ∷ [])) ++ runOf xs) (u ++ (c ∷ runOf xs)) (omega arith)
+          (append-assoc u (c ∷ []) (runOf xs)))
       go false e h = within-same n (n + 0) (c ∷ xs) u (u ++ []) (omega arith) (sym (append-nil u))
 
   -- where only one word may be meant
@@ -241,7 +249,8 @@ module _ (known : Name → Bool) (σ : List Due) where
         where
           go : (b : Bool) → (eqb (codeOf c) 5 || eqb (codeOf c) 6) ≡ b → (starts (c₀ ∷ (u ++ (c ∷ []))) t ≡ true → Sorted xs (u ++ (c ∷ [])) (suc n))
               → judgeFrom known n (c ∷ xs) (state (within (c₀ ∷ u)) σ)
-              ≡ SortRun i (c₀ ∷ (u ++ take (cond b (suc (runLength xs)) 0) (c ∷ xs))) (n + cond b (suc (runLength xs)) 0) (drop (cond b (suc (runLength xs)) 0) (c ∷ xs))
+              ≡ SortRun i (c₀ ∷ (u ++ take (cond b (suc (runLength xs)) 0) (c ∷ xs))) (n + cond b (suc (runLength xs)) 0)
+              (drop (cond b (suc (runLength xs)) 0) (c ∷ xs))
           go true e h = sort-grow c xs u n e p s (starts (c₀ ∷ (u ++ (c ∷ []))) t) refl h
           go false e h = sort-so-far i (c₀ ∷ u) n (c ∷ xs) s
 

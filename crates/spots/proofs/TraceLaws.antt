@@ -11,12 +11,12 @@ use lib.Dec.{eqb, ltb}
 use Rattle.grammar.specs.Bytes.{Word, constant, negation, connective, quantifier, letting, sort, name, wordOf}
 use Rattle.grammar.specs.Names.{Name}
 use Rattle.lexing.specs.Codes.{wordCode}
-use Rattle.scanning.specs.Spots.{cell, Nested}
-use Rattle.scanning.specs.Runs.{codeOf, lexemeFrom, runEnd}
-use Rattle.scanning.specs.Judgement.{codeOfRun}
-use Rattle.scanning.specs.Traces.{Stand, stand, origin, runAt, Next, words, opens, closes, Reached, here, more, Sound}
-use Rattle.scanning.proofs.RunLaws.{lexeme-within, lexeme-first, end-within}
-use Rattle.scanning.proofs.TableFacts.{word-keeps, opens-keeps, behind-low}
+use Rattle.spots.specs.Spots.{cell, Nested}
+use Rattle.spots.specs.Runs.{codeOf, lexemeFrom, runEnd}
+use Rattle.spots.specs.Judgement.{codeOfRun}
+use Rattle.spots.specs.Traces.{Stand, stand, origin, runAt, Next, words, opens, closes, Reached, here, more, Sound}
+use Rattle.spots.proofs.RunLaws.{lexeme-within, lexeme-first, end-within}
+use Rattle.spots.proofs.TableFacts.{word-keeps, opens-keeps, behind-low}
 
 pub word-range : (x : Word) → (3 ≤ wordCode x) × (wordCode x < 10)
 unfolding wordCode

@@ -15,16 +15,17 @@ use borrow.Author.Tests.{lt-ltb, le-ltb, eq-eqb, ne-eqb, eqb-true, eqb-false, lt
 use Rattle.grammar.specs.Bytes.{wordOf}
 use Rattle.grammar.specs.Names.{Name, Place, either, symbolOnly, variableOnly}
 use Rattle.lexing.specs.Counted.{placeOf}
-use Rattle.scanning.specs.Spots.{table, cell, alike}
-use Rattle.scanning.specs.Judgement.{codeOfRun, isUnknown}
-use Rattle.scanning.specs.Traces.{Stand, stand, origin, runAt, Next, words, opens, closes, Reached, Sound, level, Lettered, Guessed, guessColumn}
-use Rattle.scanning.specs.Traces.{ifBetween, guessInside, guessStored, GuessTurned, LevelsFound}
-use Rattle.scanning.specs.Runs.{codeOf, lexemeFrom, runEnd, part}
-use Rattle.scanning.specs.declared.Guess.{Guess}
-use Rattle.scanning.proofs.RunLaws.{lexeme-within, end-within}
-use Rattle.scanning.proofs.TableFacts.{guess-word, guess-sort, guess-symbol, guess-variable, guess-open, guess-enter}
-use Rattle.scanning.proofs.TraceLaws.{word-range, sound-origin, sound-next, next-after, at-goal}
-use Rattle.scanning.proofs.Windows.{level-top, level-under}
+use Rattle.spots.specs.Spots.{table, cell, alike}
+use Rattle.spots.specs.Judgement.{codeOfRun, isUnknown}
+use Rattle.spots.specs.Traces.{Stand, stand, origin, runAt, Next, words, opens, closes, Reached, Sound}
+use Rattle.spots.specs.Levels.{level}
+use Rattle.spots.specs.Guesses.{Lettered, Guessed, guessColumn, ifBetween, guessInside, guessStored, GuessTurned, LevelsFound}
+use Rattle.spots.specs.Runs.{codeOf, lexemeFrom, runEnd, part}
+use Rattle.spots.specs.declared.Guess.{Guess}
+use Rattle.spots.proofs.RunLaws.{lexeme-within, end-within}
+use Rattle.spots.proofs.TableFacts.{guess-word, guess-sort, guess-symbol, guess-variable, guess-open, guess-enter}
+use Rattle.spots.proofs.TraceLaws.{word-range, sound-origin, sound-next, next-after, at-goal}
+use Rattle.spots.proofs.Windows.{level-top, level-under}
 
 -- ---- as the functions return
 
@@ -122,7 +123,8 @@ module _ (known : Name → Bool) (letters : Lettered known) (s g : ℕ) (w : Lis
   guessed-run = go (ℕ-discrete (codeOfRun w) 8) (ℕ-discrete (codeOfRun w) 9) (ℕ-discrete (getD w 0 0) 102)
     where
       go : Dec (codeOfRun w ≡ 8) → Dec (codeOfRun w ≡ 9) → Dec (getD w 0 0 ≡ 102)
-          → alike (cell s (codeOfRun w)) (cell g (cond (eqb (codeOfRun w) 8) 13 (cond (eqb (codeOfRun w) 9 && not (eqb (getD w 0 0) 102)) 13 (codeOfRun w)))) ≡ true
+          → alike (cell s (codeOfRun w)) (cell g (cond (eqb (codeOfRun w) 8) 13 (cond (eqb (codeOfRun w) 9 && not (eqb (getD w 0 0) 102)) 13 (codeOfRun w))))
+          ≡ true
       go (yes e) q f = rw e (guess-sort s g low is (rw e at goes))
       go (no e) (yes q) (yes f) =
           rw (q, eq-eqb (getD w 0 0) 102 f) (guess-symbol s g low is (rw q at goes) (not-variable q f))
@@ -224,7 +226,8 @@ module _ (text a : List ℕ) (low top : ℕ) (g : Guess) (i : ℕ) (l : i < leng
   guess d s = record { next = n; depth = d; spot = s }
 
   pub turned-word : g .depth ≤ i → codeOf (getD text i 0) ≡ 6 → (e : ℕ) → e ≡ runEnd text (i + 1) → n ≡ lexemeFrom text e
-      → (s : ℕ) → s ≡ ifBetween low top (g .depth) (cell (g .spot) (guessColumn (part text i e))) (g .spot) → GuessTurned text a a low top g i (guess (g .depth) s)
+      → (s : ℕ) → s ≡ ifBetween low top (g .depth) (cell (g .spot) (guessColumn (part text i e))) (g .spot)
+      → GuessTurned text a a low top g i (guess (g .depth) s)
   turned-word d k e p q s f =
       let w = end-within text (i + 1) (omega arith) in
       let v = lexeme-within text e (omega (arith, w .1, p)) in
@@ -239,10 +242,12 @@ module _ (text a : List ℕ) (low top : ℕ) (g : Guess) (i : ℕ) (l : i < leng
           → Guessed a low top (g .depth) (g .spot) (stand i t held) → (y .byte ≡ n) × Guessed a low top (g .depth) s y
       go known letters t held y snd (words _ c u) h =
           let same : lexemeFrom text (runEnd text (i + 1)) ≡ n = sym (q ∙ ap (lexemeFrom text) p) in
-          let z : s ≡ ifBetween low top (g .depth) (cell (g .spot) (guessColumn (runAt text i))) (g .spot) = f ∙ ap (λ j. ifBetween low top (g .depth) (cell (g .spot) (guessColumn (part text i j))) (g .spot)) p in (
+          let z : s ≡ ifBetween low top (g .depth) (cell (g .spot) (guessColumn (runAt text i))) (g .spot) = f
+          ∙ ap (λ j. ifBetween low top (g .depth) (cell (g .spot) (guessColumn (part text i j))) (g .spot)) p in (
             same,
             rw z
-                (guessed-word a low top (g .depth) (g .spot) (stand i t held) h (cell t (codeOfRun (runAt text i))) (lexemeFrom text (runEnd text (i + 1))) (cell (g .spot) (guessColumn (runAt text i)))
+                (guessed-word a low top (g .depth) (g .spot) (stand i t held) h (cell t (codeOfRun (runAt text i))) (lexemeFrom text (runEnd text (i + 1)))
+                (cell (g .spot) (guessColumn (runAt text i)))
                 (λ o. guessed-run known letters t (g .spot) (runAt text i) (snd .low) o c u)),
           )
       go known letters t held y snd (opens b c) h = absurd (off (sym k ∙ b))
@@ -289,7 +294,8 @@ module _ (text a : List ℕ) (low top : ℕ) (g : Guess) (i : ℕ) (l : i < leng
         guessed = λ known letters t held y snd nx h. go known t held y nx h;
       }
         where
-          go : (known : Name → Bool) (t : ℕ) (held : List ℕ) (y : Stand) → Next known text (stand i t held) y → Guessed a low top (g .depth) (g .spot) (stand i t held)
+          go : (known : Name → Bool) (t : ℕ) (held : List ℕ) (y : Stand) → Next known text (stand i t held) y
+              → Guessed a low top (g .depth) (g .spot) (stand i t held)
               → (y .byte ≡ n) × Guessed a low top (g .depth) (g .spot) y
           go known t held y (words e c u) h = absurd (x e)
           go known t held y (opens e c) h = absurd (z e)
@@ -307,7 +313,8 @@ module _ (text a : List ℕ) (low top : ℕ) (g : Guess) (i : ℕ) (l : i < leng
         guessed = λ known letters t held y snd nx h. go known t held y nx h;
       }
         where
-          go : (known : Name → Bool) (t : ℕ) (held : List ℕ) (y : Stand) → Next known text (stand i t held) y → Guessed a low top (g .depth) (g .spot) (stand i t held)
+          go : (known : Name → Bool) (t : ℕ) (held : List ℕ) (y : Stand) → Next known text (stand i t held) y
+              → Guessed a low top (g .depth) (g .spot) (stand i t held)
               → (y .byte ≡ n) × Guessed a low top (g .depth - 1) s y
           go known t held y (words e c u) h = absurd (x e)
           go known t held y (opens e c) h = absurd (z e)

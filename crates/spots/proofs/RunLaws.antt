@@ -17,9 +17,9 @@ use borrow.Author.Tests.{eq-eqb, ne-eqb, le-ltb, ltb-true, ltb-false}
 use Rattle.grammar.specs.Bytes.{bytes}
 use Rattle.grammar.proofs.Words.{or-false}
 use Rattle.lexing.specs.Common.{common}
-use Rattle.scanning.specs.Runs.{codeOf, blanks, lexemeFrom, runLength, runEnd, part, sortMeant, sortStart}
-use Rattle.scanning.specs.Traces.{runAt}
-use Rattle.scanning.proofs.ByteLaws.{runOf, pastRun}
+use Rattle.spots.specs.Runs.{codeOf, blanks, lexemeFrom, runLength, runEnd, part, sortMeant, sortStart}
+use Rattle.spots.specs.Traces.{runAt}
+use Rattle.spots.proofs.ByteLaws.{runOf, pastRun}
 
 pub blanks-within : (m : Bool) (cs : List ℕ) → blanks m cs ≤ length cs
 unfolding blanks
@@ -116,7 +116,9 @@ module _ (text : List ℕ) (from j : ℕ) (m : Bool) (h : Skipping text from j m
   module _ (l : j < length text) (k : ℕ) (e : k ≡ codeOf (getD text j 0)) where
     pub skipping-found : (m || ltb k 3) ≡ false → j ≡ lexemeFrom text from
     unfolding blanks
-    skipping-found q = let z : blanks m (drop j text) ≡ 0 = rw (drop-cons text j 0 l, or-false m (ltb k 3) q .0) (stops (ltb 2 (codeOf (getD text j 0))) refl) in omega (arith, h .rest, z)
+    skipping-found q =
+        let z : blanks m (drop j text) ≡ 0 = rw (drop-cons text j 0 l, or-false m (ltb k 3) q .0) (stops (ltb 2 (codeOf (getD text j 0))) refl) in omega
+        (arith, h .rest, z)
       where
         stops : (b : Bool) → ltb 2 (codeOf (getD text j 0)) ≡ b → cond b 0 (suc (blanks (eqb (codeOf (getD text j 0)) 2) (drop (suc j) text))) ≡ 0
         stops true x = refl

@@ -11,10 +11,10 @@ use Rattle.grammar.specs.Parser.{State, step, finish, stackOf, startOfScan}
 use Rattle.grammar.specs.Names.{Name, endsAt, endedBy, firstUnknown, Resolved, resolved, unreadAt, unknownAt, resolve}
 use Rattle.lexing.specs.Codes.{wordCode}
 use Rattle.lexing.specs.Counted.{placeOf, knownAmong}
-use Rattle.scanning.specs.Spots.{dueAt, cell}
-use Rattle.scanning.specs.Runs.{sortStart}
-use Rattle.scanning.specs.declared.Verdict.{Verdict}
-use Rattle.scanning.specs.declared.Met.{Met}
+use Rattle.spots.specs.Spots.{dueAt, cell}
+use Rattle.spots.specs.Runs.{sortStart}
+use Rattle.spots.specs.declared.Verdict.{Verdict}
+use Rattle.spots.specs.declared.Met.{Met}
 
 abbrev pub verdict : ℕ → ℕ → Verdict
 verdict n i = record { number = n; byte = i }

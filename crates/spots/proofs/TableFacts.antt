@@ -13,8 +13,8 @@ use borrow.Author.Tests.{lt-ltb, le-ltb, eq-eqb, ne-eqb, eqb-true, ltb-true, not
 use Rattle.bundle.specs.Lists.{has, each, sameList}
 use Rattle.logic.specs.Tests.{upTo}
 use Rattle.logic.proofs.Tests.{up-to, and-left, and-right, or-cases, same-list, each-has}
-use Rattle.scanning.specs.Spots.{cell, behind, Nested, takenFor, alike}
-use Rattle.scanning.specs.Traces.{level}
+use Rattle.spots.specs.Spots.{cell, behind, Nested, takenFor, alike}
+use Rattle.spots.specs.Levels.{level}
 
 implies : Bool → Bool → Bool
 implies p q = not p || q
@@ -100,7 +100,8 @@ plain u = has u plainSpots
 
 closesFact : ℕ → Bool
 closesFact s =
-    implies (not (eqb (cell s 1) 99)) (ltb 1 s && (implies (ltb (cell s 1) 20) (sameList (behind s) (cell s 1 ∷ [])) && implies (not (ltb (cell s 1) 20)) (each plain (behind s))))
+    implies (not (eqb (cell s 1) 99)) (ltb 1 s && (implies (ltb (cell s 1) 20) (sameList (behind s) (cell s 1 ∷ [])) && implies (not (ltb (cell s 1) 20))
+    (each plain (behind s))))
 
 closes-facts : upTo 20 (λ s. closesFact (s - 1)) ≡ true
 unfolding upTo closesFact implies sameList behind each plain
@@ -125,7 +126,8 @@ module _ (s : ℕ) (l : s < 20) (c : cell s 1 ≡ 99 → ⊥) where
   pub closes-to : cell s 1 < 20 → (u : ℕ) → has u (behind s) ≡ true → u ≡ cell s 1
   unfolding has
   closes-to k u h =
-      let e = same-list (behind s) (cell s 1 ∷ []) (implied (ltb (cell s 1) 20) _ (and-left (implies (ltb (cell s 1) 20) (sameList (behind s) (cell s 1 ∷ []))) _ rest-of) (lt-ltb (cell s 1) 20 k)) in
+      let e = same-list (behind s) (cell s 1 ∷ []) (implied (ltb (cell s 1) 20) _
+      (and-left (implies (ltb (cell s 1) 20) (sameList (behind s) (cell s 1 ∷ []))) _ rest-of) (lt-ltb (cell s 1) 20 k)) in
       one (or-cases (eqb u (cell s 1)) false (ap (λ v. has u v) (sym e) ∙ h))
     where
       one : (eqb u (cell s 1) ≡ true) ⊎ (false ≡ true) → u ≡ cell s 1
@@ -174,7 +176,8 @@ pub plain-same : (u g : ℕ) → plain u ≡ true → alike u g ≡ true → u �
 unfolding alike takenFor each plain
 plain-same u g p h = go (or-cases (eqb u g) (has u (takenFor g)) h)
   where
-    cases : (a b c d e : Bool) → each (λ u. not (plain u)) (cond a (10 ∷ []) (cond b (11 ∷ []) (cond c (12 ∷ []) (cond d (13 ∷ []) (cond e (2 ∷ 9 ∷ 10 ∷ 15 ∷ 16 ∷ []) []))))) ≡ true
+    cases : (a b c d e : Bool) → each (λ u. not (plain u)) (cond a (10 ∷ [])
+        (cond b (11 ∷ []) (cond c (12 ∷ []) (cond d (13 ∷ []) (cond e (2 ∷ 9 ∷ 10 ∷ 15 ∷ 16 ∷ []) []))))) ≡ true
     cases true b c d e = refl
     cases false true c d e = refl
     cases false false true d e = refl
@@ -195,7 +198,16 @@ unfolding alike takenFor has
 alike-low s g l h = ltb-true g 21 (go (ltb g 21) refl)
   where
     far : 21 ≤ g → alike s g ≡ false
-    far k = rw (ne-eqb s g (λ e. omega arith), ne-eqb g 16 (λ e. omega arith), ne-eqb g 17 (λ e. omega arith), ne-eqb g 18 (λ e. omega arith), ne-eqb g 19 (λ e. omega arith), ne-eqb g 20 (λ e. omega arith))
+    far k =
+        rw (
+          ne-eqb s g (λ e. omega arith),
+          ne-eqb g 16 (λ e. omega arith),
+          ne-eqb g 17 (λ e. omega arith),
+          ne-eqb g 18 (λ e. omega arith),
+          ne-eqb g 19
+              (λ e. omega arith),
+          ne-eqb g 20 (λ e. omega arith),
+        )
 
     go : (b : Bool) → ltb g 21 ≡ b → b ≡ true
     go true e = refl
@@ -205,7 +217,8 @@ alike-low s g l h = ltb-true g 21 (go (ltb g 21) refl)
 each-pair : (p : ℕ → ℕ → Bool) → upTo 20 (λ s. upTo 21 (λ g. implies (alike (s - 1) (g - 1)) (p (s - 1) (g - 1)))) ≡ true
     → (s g : ℕ) → s < 20 → alike s g ≡ true → p s g ≡ true
 each-pair p h s g l a =
-    implied (alike s g) (p s g) (each-spot 21 (λ g. implies (alike s g) (p s g)) (each-spot 20 (λ s. upTo 21 (λ g. implies (alike s (g - 1)) (p s (g - 1)))) h s l) g (alike-low s g l a)) a
+    implied (alike s g) (p s g) (each-spot 21 (λ g. implies (alike s g) (p s g))
+    (each-spot 20 (λ s. upTo 21 (λ g. implies (alike s (g - 1)) (p s (g - 1)))) h s l) g (alike-low s g l a)) a
 
 plainWordFact : ℕ → ℕ → ℕ → Bool
 plainWordFact j s g = implies (ltb (cell s j) 20) (alike (cell s j) (cell g j))
@@ -218,7 +231,8 @@ pub guess-word : (s g j : ℕ) → s < 20 → alike s g ≡ true → 3 ≤ j →
 unfolding plainWordFact
 guess-word s g j l a x y c =
     let e : j ≡ j - 3 + 3 = omega arith in
-    let f = each-spot 5 (λ j. upTo 20 (λ s. upTo 21 (λ g. implies (alike (s - 1) (g - 1)) (plainWordFact (j + 3) (s - 1) (g - 1))))) plain-words (j - 3) (omega arith) in
+    let f = each-spot 5 (λ j. upTo 20 (λ s. upTo 21 (λ g. implies (alike (s - 1) (g - 1)) (plainWordFact (j + 3) (s - 1) (g - 1))))) plain-words (j - 3)
+    (omega arith) in
     let h : plainWordFact j s g ≡ true = ap (λ k. plainWordFact k s g) e ∙ each-pair (plainWordFact (j - 3 + 3)) f s g l a in
     implied (ltb (cell s j) 20) (alike (cell s j) (cell g j)) h (lt-ltb (cell s j) 20 c)
 

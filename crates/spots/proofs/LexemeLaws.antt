@@ -14,7 +14,26 @@ use lib.ListN.{length, getD, take, drop}
 use lib.Seq.{drop-cons, drop-drop}
 use lib.Dec.{eqb, ltb}
 use borrow.Author.Tests.{lt-ltb, le-ltb, eq-eqb, ne-eqb, eqb-true, eqb-false, ltb-true, ltb-false}
-use Rattle.grammar.specs.Bytes.{Class, space, lineEnd, semicolon, opening, closing, digit, symbol, other, Word, constant, negation, connective, quantifier, letting, sort, name, classOf}
+use Rattle.grammar.specs.Bytes.{
+  Class,
+  space,
+  lineEnd,
+  semicolon,
+  opening,
+  closing,
+  digit,
+  symbol,
+  other,
+  Word,
+  constant,
+  negation,
+  connective,
+  quantifier,
+  letting,
+  sort,
+  name,
+  classOf,
+}
 use Rattle.grammar.specs.Bytes.{wordOf, bytes, wordAmong, twelve}
 use Rattle.grammar.specs.Grammar.{Lexeme, opens, closes, word, stray, between, within}
 use Rattle.grammar.specs.Parser.{Due, Stack, stackOf, takes, run, feed, andThen, complete, finish, starts, mayGrow}
@@ -27,16 +46,16 @@ use Rattle.lexing.specs.Common.{common}
 use Rattle.lexing.specs.Counted.{placeOf}
 use Rattle.lexing.proofs.ClassLaws.{is-class}
 use Rattle.lexing.proofs.CommonLaws.{starts-common}
-use Rattle.scanning.specs.Spots.{wanted, owed, dueAt, cell, Nested}
-use Rattle.scanning.specs.Runs.{codeOf, blanks, lexemeFrom, runLength, runEnd, sortMeant, sortStart}
-use Rattle.scanning.specs.Judgement.{verdict, unknownOr, atEnd, judgeFrom, standing, viableBytes, codeOfRun, isUnknown}
-use Rattle.scanning.specs.Traces.{runAt}
-use Rattle.scanning.specs.declared.Verdict.{Verdict}
-use Rattle.scanning.proofs.SpotLaws.{stackIf, openedTo, closedTo, wordTo, growsAs, namedAs, due-opens, due-closes, due-stray, due-word, due-grows}
-use Rattle.scanning.proofs.SpotLaws.{due-named, completed, endsAtSpot, due-ends}
-use Rattle.scanning.proofs.ByteLaws.{state, cut, runOf, pastRun, over-blanks, OneLexeme, an-opening, a-closing, a-digit, another, lexeme-goes}
-use Rattle.scanning.proofs.ByteLaws.{lexeme-stops, begins-run, run-any, run-sort, past-run, run-goes, run-unknown, run-stops}
-use Rattle.scanning.proofs.RunLaws.{run-parts, run-past, run-ending, run-length}
+use Rattle.spots.specs.Spots.{wanted, owed, dueAt, cell, Nested}
+use Rattle.spots.specs.Runs.{codeOf, blanks, lexemeFrom, runLength, runEnd, sortMeant, sortStart}
+use Rattle.spots.specs.Judgement.{verdict, unknownOr, atEnd, judgeFrom, standing, viableBytes, codeOfRun, isUnknown}
+use Rattle.spots.specs.Traces.{runAt}
+use Rattle.spots.specs.declared.Verdict.{Verdict}
+use Rattle.spots.proofs.SpotLaws.{stackIf, openedTo, closedTo, wordTo, growsAs, namedAs, due-opens, due-closes, due-stray, due-word, due-grows}
+use Rattle.spots.proofs.SpotLaws.{due-named, completed, endsAtSpot, due-ends}
+use Rattle.spots.proofs.ByteLaws.{state, cut, runOf, pastRun, over-blanks, OneLexeme, an-opening, a-closing, a-digit, another, lexeme-goes}
+use Rattle.spots.proofs.ByteLaws.{lexeme-stops, begins-run, run-any, run-sort, past-run, run-goes, run-unknown, run-stops}
+use Rattle.spots.proofs.RunLaws.{run-parts, run-past, run-ending, run-length}
 
 -- ---- words and names
 
@@ -155,14 +174,16 @@ module _ (known : Name → Bool) (text : List ℕ) where
     unfolding σ dueAt owed classCode xs
     opens-goes e l =
         here
-        ∙ lexeme-goes known σ i c xs opens (rw (class-is opening e) an-opening) (dueAt (cell s 0) (cell s 10 ∷ held)) (due-opens s held low nested ∙ rw (lt-ltb (cell s 0) 20 l))
+        ∙ lexeme-goes known σ i c xs opens (rw (class-is opening e) an-opening) (dueAt (cell s 0) (cell s 10 ∷ held))
+        (due-opens s held low nested ∙ rw (lt-ltb (cell s 0) 20 l))
         ∙ one-past (dueAt (cell s 0) (cell s 10 ∷ held)) i
 
     pub opens-stops : codeOf (getD text i 0) ≡ 3 → 20 ≤ cell s 0 → Rest i (dueAt s held) ≡ verdict 19 i
     unfolding σ classCode
     opens-stops e l = here ∙ lexeme-stops known σ i c xs opens (rw (class-is opening e) an-opening) (due-opens s held low nested ∙ rw (le-ltb (cell s 0) 20 l))
 
-    pub closes-goes : codeOf (getD text i 0) ≡ 4 → (cell s 1 ≡ 99 → ⊥) → (u : ℕ) (rest : List ℕ) → held ≡ u ∷ rest → Rest i (dueAt s held) ≡ Rest (lexemeFrom text (i + 1)) (dueAt u rest)
+    pub closes-goes : codeOf (getD text i 0) ≡ 4 → (cell s 1 ≡ 99 → ⊥) → (u : ℕ) (rest : List ℕ) → held ≡ u ∷ rest
+        → Rest i (dueAt s held) ≡ Rest (lexemeFrom text (i + 1)) (dueAt u rest)
     unfolding σ dueAt owed classCode xs
     closes-goes e l u rest h =
         here
@@ -171,9 +192,11 @@ module _ (known : Name → Bool) (text : List ℕ) where
 
     pub closes-stops : codeOf (getD text i 0) ≡ 4 → cell s 1 ≡ 99 → Rest i (dueAt s held) ≡ verdict 19 i
     unfolding σ classCode
-    closes-stops e l = here ∙ lexeme-stops known σ i c xs closes (rw (class-is closing e) a-closing) (due-closes s held low nested ∙ rw (eq-eqb (cell s 1) 99 l))
+    closes-stops e l =
+        here ∙ lexeme-stops known σ i c xs closes (rw (class-is closing e) a-closing) (due-closes s held low nested ∙ rw (eq-eqb (cell s 1) 99 l))
 
-    pub stray-stops : ltb 2 (codeOf (getD text i 0)) ≡ true → (codeOf (getD text i 0) ≡ 3 → ⊥) → (codeOf (getD text i 0) ≡ 4 → ⊥) → (codeOf (getD text i 0) ≡ 6 → ⊥)
+    pub stray-stops : ltb 2 (codeOf (getD text i 0)) ≡ true → (codeOf (getD text i 0) ≡ 3 → ⊥) → (codeOf (getD text i 0) ≡ 4 → ⊥)
+        → (codeOf (getD text i 0) ≡ 6 → ⊥)
         → Rest i (dueAt s held) ≡ verdict 19 i
     unfolding σ c
     stray-stops e x y z = here ∙ lexeme-stops known σ i c xs stray (stray-class (classOf (getD text i 0)) e x y z) (due-stray s held low nested)
@@ -240,7 +263,8 @@ module _ (known : Name → Bool) (text : List ℕ) where
             starts-nil : (v : List ℕ) → starts [] v ≡ true
             starts-nil v = refl
 
-        go : (a b : Bool) → eqb (cell s 11) 0 ≡ a → eqb (cell s 11) 1 ≡ b → cond (mayGrow (c ∷ []) σ) (judgeFrom known (suc i) xs (state (within (c ∷ [])) σ)) (verdict 19 i) ≡ Whole
+        go : (a b : Bool) → eqb (cell s 11) 0 ≡ a → eqb (cell s 11) 1 ≡ b
+            → cond (mayGrow (c ∷ []) σ) (judgeFrom known (suc i) xs (state (within (c ∷ [])) σ)) (verdict 19 i) ≡ Whole
         go true b x y = absurd (true≢false (sym m ∙ not-any x w))
         go false true x y = rw (any x y (c ∷ [])) (run-any known σ (any x y) xs (c ∷ []) (suc i) ∙ whole)
         go false false x y = rw (one-sort x y []) (by-sort (one-sort x y) (starts (c ∷ []) t) refl)
@@ -306,7 +330,9 @@ module _ (known : Name → Bool) (text : List ℕ) where
       where
         go : (b : Bool) → mayGrow w σ ≡ b → b ≡ true
         go true e = refl
-        go false e = absurd (Option·none-ne-some (stackOf (wanted (cell s (codeOfRun w)) ++ owed held)) (sym (refuses w σ (λ f. tt) e) ∙ takes-word ∙ rw (lt-ltb (cell s (codeOfRun w)) 20 l)))
+        go false e =
+            absurd (Option·none-ne-some (stackOf (wanted (cell s (codeOfRun w)) ++ owed held))
+            (sym (refuses w σ (λ f. tt) e) ∙ takes-word ∙ rw (lt-ltb (cell s (codeOfRun w)) 20 l)))
 
     -- the name met is the word, where it is one
     unknown-here : cell s (codeOfRun w) < 20
@@ -322,7 +348,8 @@ module _ (known : Name → Bool) (text : List ℕ) where
             → firstUnknown known (locate i (metAt σ (wordOf w))) ≡ cond (b && not (known (record { place = placeOf (cell s 12); spelled = w }))) (some i) none
         go true e =
             let q : codeOfRun w ≡ 9 = eqb-true (codeOfRun w) 9 e in
-            rw (name-of w q, due-named s held low nested w, lt-ltb (cell s 9) 20 (rw q at l)) (one (known (record { place = placeOf (cell s 12); spelled = w })))
+            rw (name-of w q, due-named s held low nested w, lt-ltb (cell s 9) 20 (rw q at l))
+            (one (known (record { place = placeOf (cell s 12); spelled = w })))
         go false e = rw (no-name σ (wordOf w) (eqb-false (codeOfRun w) 9 e))
 
     none-here : 20 ≤ cell s (codeOfRun w) → firstUnknown known (locate (runEnd text (i + 1) - length w) (metAt σ (wordOf w))) ≡ none
