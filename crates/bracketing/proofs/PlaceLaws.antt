@@ -1,22 +1,25 @@
 -- Places of a text: what follows a lexeme, what follows a formula.
---     past-over, past-on                                  the answers of `brackets::after_lexeme`
+--     past-over, past-on, past-two                            what follows a lexeme, and what follows two
+--     starts-part                                             whether a part starts here
 --     Skipping, skip-start, skip-over, skip-here, skip-next   a formula skipped, as `brackets::after_formula` goes over it
 use Prim.Native.Nat.{ℕ, zero, suc, _+_, _-_, _≤_, _<_}
 use native.Mathlib.Omega.{arith}
 use native.Mathlib.Numerals.{add-one}
 use mathlib.Core.Path.{_≡_, refl, sym, ap, _∙_}
-use mathlib.Core.Bool.{Bool, true, false, cond}
+use mathlib.Core.Bool.{Bool, true, false, cond, not, _&&_}
 use mathlib.Core.List.{List, [], _∷_}
 use lib.ListN.{length}
 use lib.Dec.{eqb}
+use borrow.Author.Tests.{ne-eqb}
 use Rattle.grammar.specs.Bytes.{Word, constant, negation, connective, quantifier, letting, sort, name}
 use Rattle.grammar.specs.Grammar.{Lexeme, opens, closes, word, stray}
 use Rattle.lexing.specs.Codes.{wordCode, lexemeCode}
 use Rattle.lexing.specs.Lexes.{lexemesAt, lexemeOf, Found, Lexes}
 use Rattle.lexing.specs.declared.lexemes.Lexed.{Lexed}
-use Rattle.bracketing.specs.Brackets.{restOf, oneLess, openAfter, ifNone, skip, afterFormula}
+use Rattle.bracketing.specs.Brackets.{restOf, oneLess, openAfter, ifNone, skip, afterFormula, startsPart}
 use Rattle.bracketing.specs.Places.{Reaches, openBy}
-use Rattle.bracketing.proofs.Fronts.{at-end}
+use Rattle.bracketing.proofs.Fronts.{at-end, Front, front, over, opening, closing, other, run}
+use Rattle.lexing.proofs.LexemeLaws.{word-small}
 
 -- ---- after a lexeme
 
@@ -38,6 +41,30 @@ module _ (text : List ℕ) (i : ℕ) (r : Lexed) (h : Lexes text i r) where
     there = rw (h .found ne .next);
     moves = λ s. omega (arith, h .after, h .found ne .some);
   }
+
+pub past-two : (text : List ℕ) (i j k : ℕ) → Reaches text i j (restOf (lexemesAt text i)) → Reaches text j k (restOf (lexemesAt text j))
+    → Reaches text i k (restOf (restOf (lexemesAt text i)))
+past-two text i j k h g = record {
+  after = omega (arith, h .after, g .after);
+  inside = g .inside;
+  there = g .there ∙ ap restOf (h .there);
+  moves = λ ne. omega (arith, h .moves ne, g .after);
+}
+
+-- ---- parts
+
+pub starts-part : (text : List ℕ) (i : ℕ) (r : Lexed) → Lexes text i r → (not (eqb (r .code) 1) && not (eqb (r .code) 10)) ≡ startsPart (lexemesAt text i)
+unfolding startsPart
+starts-part text i r h = go (front text i r h)
+  where
+    go : Front text i r → (not (eqb (r .code) 1) && not (eqb (r .code) 10)) ≡ startsPart (lexemesAt text i)
+    go (over c e) = rw (c, e)
+    go (opening c e) = rw (c, e)
+    go (closing c e) = rw (c, e)
+    go (other c e) = rw (c, e)
+    go (run w is c e) =
+        let s = word-small w in
+        rw (e, ne-eqb (r .code) 1 (λ z. omega (arith, s .0)), ne-eqb (r .code) 10 (λ z. omega (arith, s .1)))
 
 -- ---- after a formula
 

@@ -3,19 +3,23 @@
 --     result-named, sort-none, sort-some                  the sorts of a head and of a word alone, as code finds them
 --     none-here, name-at                                  the name that a found lexeme is
 --     sort-word, sort-bracket, sort-result, sort-let      the sort from a place on, by the next lexeme
+--     said-none, said-item, said-other                    the sort that the word at a place says
 use Prim.Native.Nat.{ℕ, zero, suc}
 use native.Mathlib.Omega.{arith}
 use mathlib.Core.Path.{_≡_, refl, sym, ap, _∙_}
-use mathlib.Core.Bool.{Bool, true, false, cond}
+use mathlib.Core.Bool.{Bool, true, false, cond, false≢true}
 use mathlib.Core.List.{List, [], _∷_}
 use borrow.Author.Tests.{ne-eqb}
 use Rattle.bundle.specs.declared.Bundle.{Bundle as Counts}
 use Rattle.bundle.specs.Bundle.{Bundle, sortOfVariable}
+use Rattle.bundle.specs.Lists.{sameList}
 use Rattle.bundle.specs.File.{bundleAt}
 use Rattle.bundle.proofs.Fields.{symbols-length, variables-length}
 use Rattle.logic.specs.declared.Signature.{Signature}
 use Rattle.logic.specs.Symbols.{symbolKind, kindOfSymbol, signature, signatureOf, resultSort}
-use Rattle.grammar.specs.Bytes.{Word, constant, negation, connective, quantifier, letting, sort, name, wordOf}
+use Rattle.grammar.specs.Bytes.{Word, constant, negation, connective, quantifier, letting, sort, name, bytes, twelve, wordAmong, wordOf}
+use Rattle.logic.proofs.Tests.{same-list}
+use Rattle.grammar.proofs.Words.{among}
 use Rattle.grammar.specs.Grammar.{Lexeme, opens, closes, word, stray}
 use Rattle.lexing.specs.Codes.{wordCode}
 use Rattle.lexing.specs.Counted.{variableAmong, symbolAmong}
@@ -25,8 +29,8 @@ use Rattle.lexing.proofs.NumeralLaws.{counts-suffice}
 use Rattle.lexing.proofs.LexemeLaws.{word-small}
 use Rattle.reading.specs.Called.{numberAfter, variableCalled, symbolCalled}
 use Rattle.reading.specs.Local.{aloneSort}
-use Rattle.bracketing.specs.Brackets.{afterFormula}
-use Rattle.bracketing.specs.Nodes.{nameOf, isLet, wordSort, resultOf, sortFrom, sortInside, sortPast}
+use Rattle.bracketing.specs.Brackets.{frontOf, afterFormula}
+use Rattle.bracketing.specs.Nodes.{nameOf, isLet, sortSaid, sortIn, wordSort, resultOf, sortFrom, sortInside, sortPast}
 use Rattle.bracketing.specs.Places.{nameHere, namedSort, namedResult}
 use Rattle.bracketing.proofs.SortsOff.{sort-past}
 use Rattle.bracketing.proofs.Fronts.{name-of, Front, front, over, opening, closing, other, run}
@@ -156,3 +160,86 @@ module _ (b : Bundle) (text : List ℕ) (i : ℕ) (r : Lexed) (h : Lexes text i 
           ap (sortInside b) e
           ∙ (ap (λ (p : Bool). cond p (sortPast b 0 (lexemesAt text (r .end))) (resultOf b w)) (is-let w (sym c ∙ s))
           ∙ sort-past b 0 (lexemesAt text (r .end)))
+
+-- ---- the sort that a word says
+
+item-run : (u : List ℕ) → sameList u (bytes "Item") ≡ true → sortSaid (wordOf u) ≡ 1
+unfolding sortSaid wordOf wordAmong twelve bytes sameList
+item-run u e = rw (same-list u (bytes "Item") e)
+
+other-run : (u : List ℕ) → sameList u (bytes "Item") ≡ false → sortSaid (wordOf u) ≡ 0
+unfolding sortSaid wordOf twelve
+other-run u ne =
+    among (λ m. sortSaid m ≡ 0) u refl twelve (
+      λ e. refl,
+      (
+        λ e. refl,
+        (
+          λ e. refl,
+          (
+            λ e. refl,
+            (
+              λ e. refl,
+              (
+                λ e. refl,
+                (
+                  λ e. refl,
+                  (
+                    λ e. refl,
+                    (
+                      λ e. refl,
+                      (
+                        λ e. refl,
+                        (
+                          λ e. refl,
+                          (λ e. absurd (false≢true (sym ne ∙ e)), tt),
+                        ),
+                      ),
+                    ),
+                  ),
+                ),
+              ),
+            ),
+          ),
+        ),
+      ),
+    )
+
+no-sort : (w : Word) → (wordCode w ≡ 8 → ⊥) → sortSaid w ≡ 0
+unfolding sortSaid wordCode
+no-sort (constant v) ne = refl
+no-sort negation ne = refl
+no-sort (connective c) ne = refl
+no-sort (quantifier q) ne = refl
+no-sort letting ne = refl
+no-sort (sort s) ne = absurd (ne refl)
+no-sort (name w) ne = refl
+
+module _ (text : List ℕ) (i : ℕ) (r : Lexed) (h : Lexes text i r) where
+  pub said-none : (r .code ≡ 8 → ⊥) → 0 ≡ sortIn (frontOf (lexemesAt text i))
+  unfolding sortIn frontOf
+  said-none ne = go (front text i r h)
+    where
+      go : Front text i r → 0 ≡ sortIn (frontOf (lexemesAt text i))
+      go (over c e) = rw e
+      go (opening c e) = rw e
+      go (closing c e) = rw e
+      go (other c e) = rw e
+      go (run w is c e) = rw e (sym (no-sort w (λ s. ne (c ∙ s))))
+
+  said-run : r .code ≡ 8 → sortIn (frontOf (lexemesAt text i)) ≡ sortSaid (wordOf (part text (r .start) (r .end)))
+  unfolding sortIn frontOf
+  said-run s = go (front text i r h)
+    where
+      go : Front text i r → sortIn (frontOf (lexemesAt text i)) ≡ sortSaid (wordOf (part text (r .start) (r .end)))
+      go (over c e) = absurd (omega arith)
+      go (opening c e) = absurd (omega arith)
+      go (closing c e) = absurd (omega arith)
+      go (other c e) = absurd (omega arith)
+      go (run w is c e) = rw (e, is)
+
+  pub said-item : r .code ≡ 8 → sameList (part text (r .start) (r .end)) (bytes "Item") ≡ true → 1 ≡ sortIn (frontOf (lexemesAt text i))
+  said-item s e = sym (said-run s ∙ item-run (part text (r .start) (r .end)) e)
+
+  pub said-other : r .code ≡ 8 → sameList (part text (r .start) (r .end)) (bytes "Item") ≡ false → 0 ≡ sortIn (frontOf (lexemesAt text i))
+  said-other s e = sym (said-run s ∙ other-run (part text (r .start) (r .end)) e)

@@ -1,6 +1,6 @@
 -- Brackets counted on lists of lexemes: what follows a formula, and the parts that stand up to a closing bracket.
 use Prim.Native.Nat.{ℕ, zero, suc}
-use mathlib.Core.Bool.{Bool, true, false, cond}
+use mathlib.Core.Bool.{Bool, true, false, cond, not}
 use mathlib.Core.List.{List, [], _∷_}
 use Rattle.grammar.specs.Grammar.{Lexeme, opens, closes, word, stray}
 
@@ -52,6 +52,12 @@ skip n (l ∷ ls) = ifNone (openAfter l n) ls (skip (openAfter l n) ls)
 -- what follows the formula, or the list, at the front
 abbrev pub afterFormula : List Lexeme → List Lexeme
 afterFormula ls = skip 0 ls
+
+-- a part starts at the front: neither nothing nor a closing bracket is there
+unfoldable pub startsPart : List Lexeme → Bool
+unfolding isClosing
+startsPart [] = false
+startsPart (l ∷ ls) = not (isClosing l)
 
 -- the parts up to the closing bracket, each as f has it of the lexemes from its first one on; n brackets are open within a part
 unfoldable pub parts : {A : Type 0} → (List Lexeme → A) → ℕ → List Lexeme → List A

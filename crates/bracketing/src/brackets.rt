@@ -3,7 +3,7 @@ ghost use mathlib.Core.Path.{_≡_};
 ghost use Prim.Native.Nat.{_≤_, _<_};
 ghost use lib.ListN.{length};
 ghost use Rattle.lexing.specs.Lexes.{lexemesAt};
-ghost use Rattle.bracketing.specs.Brackets.{restOf, afterFormula};
+ghost use Rattle.bracketing.specs.Brackets.{restOf, afterFormula, startsPart};
 ghost use Rattle.bracketing.specs.Places.{Reaches, openBy};
 use lexing::lexemes::next_lexeme;
 
@@ -31,6 +31,24 @@ pub fn after_lexeme(text: &[u8], i: usize) -> usize
         return text.len();
     }
     l.end
+}
+
+// What follows the bracket and the name at byte i.
+pub fn after_name(text: &[u8], i: usize) -> usize
+    requires { ⌜ i ≤ length (now text) ⌝ }
+    ensures { λ r. ⌜ Reaches (now (text .entry)) i r (restOf (restOf (lexemesAt (now (text .entry)) i))) ⌝ }
+{
+    let j = after_lexeme(text, i);
+    after_lexeme(text, j)
+}
+
+// Whether a part of a bracket starts at byte i.
+pub fn part_at(text: &[u8], i: usize) -> bool
+    requires { ⌜ i ≤ length (now text) ⌝ }
+    ensures { λ r. ⌜ r ≡ startsPart (lexemesAt (now (text .entry)) i) ⌝ }
+{
+    let l = next_lexeme(text, i);
+    (l.code != 1) & (l.code != 10)
 }
 
 // What follows the formula, or the list, at byte i.

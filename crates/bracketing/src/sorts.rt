@@ -7,14 +7,17 @@ ghost use Rattle.bundle.specs.File.{Whole, bundleAt};
 ghost use Rattle.lexing.specs.Counted.{variableAmong, symbolAmong};
 ghost use Rattle.lexing.specs.Lexes.{lexemesAt};
 ghost use Rattle.bracketing.specs.Places.{Lies, nameHere, namedSort, namedResult};
-ghost use Rattle.bracketing.specs.Nodes.{sortFrom};
+ghost use Rattle.bracketing.specs.Brackets.{frontOf, restOf};
+ghost use Rattle.bracketing.specs.Nodes.{nameIn, sortIn, sortFrom};
 use super::brackets::after_formula;
+use super::brackets::after_lexeme;
 use bundle::Bundle;
 use bundle::records::variable_sort;
 use lexing::lexemes::Lexed;
 use lexing::lexemes::next_lexeme;
 use lexing::names::symbol_called;
 use lexing::names::variable_called;
+use lexing::runs::is_word;
 use sorting::sorts::result_sort;
 use sorting::sorts::signature_of;
 
@@ -42,6 +45,33 @@ pub fn symbol_here(b: Bundle, text: &[u8], l: Lexed) -> usize
         return 0;
     }
     symbol_called(b.symbols, &text[start..end])
+}
+
+// The variable after the bracket at byte i, 0 for none.
+pub fn variable_at(b: Bundle, text: &[u8], i: usize) -> usize
+    requires { ⌜ Within b × (i ≤ length (now text)) ⌝ }
+    ensures { λ r. ⌜ r ≡ variableAmong (b .variables) (nameIn (frontOf (restOf (lexemesAt (now (text .entry)) i)))) ⌝ }
+{
+    let j = after_lexeme(text, i);
+    let l = next_lexeme(text, j);
+    variable_here(b, text, l)
+}
+
+// The sort that the word at byte i says.
+pub fn said_at(text: &[u8], i: usize) -> usize
+    requires { ⌜ i ≤ length (now text) ⌝ }
+    ensures { λ r. ⌜ r ≡ sortIn (frontOf (lexemesAt (now (text .entry)) i)) ⌝ }
+{
+    let l = next_lexeme(text, i);
+    let start = l.start;
+    let end = l.end;
+    if l.code != 8 {
+        return 0;
+    }
+    if is_word(&text[start..end], b"Item") {
+        return 1;
+    }
+    0
 }
 
 // The sort of a bracket with this head, a let apart.
