@@ -1,6 +1,5 @@
 -- `brackets::after_formula` meets its contract. The invariant: what follows the formula is what follows here, where n brackets are open.
 -- The measure is what is left of the text.
-use borrow.Author.Needs.{needs}
 use native.Mathlib.Omega.{arith}
 use Prim.Native.Nat.{_-_}
 use lib.ListN.{length}

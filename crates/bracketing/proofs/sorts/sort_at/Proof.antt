@@ -1,5 +1,4 @@
 -- `sorts::sort_at` meets its contract. The invariant: the sort is that of the formula here. The measure is what is left of the text.
-use borrow.Author.Needs.{needs}
 use native.Mathlib.Omega.{arith}
 use Prim.Native.Nat.{_-_, _≤_}
 use mathlib.Core.Path.{_≡_, refl, sym, ap, _∙_}
