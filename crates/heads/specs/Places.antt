@@ -1,23 +1,16 @@
 -- What stands at a byte of a text that spells a formula: its head, a variable of a quantifier's list, a part of a list.
-use Prim.Native.Nat.{ℕ, _-_}
+use Prim.Native.Nat.{ℕ, _≤_, _<_}
 use mathlib.Core.Path.{_≡_}
 use mathlib.Core.Bool.{Bool, true, false, cond}
 use mathlib.Core.List.{List, [], _∷_}
-use lib.ListN.{take, drop}
+use lib.ListN.{length}
 use Rattle.grammar.specs.Bytes.{Word, constant, negation, connective, quantifier, letting, name, wordOf}
 use Rattle.grammar.specs.Grammar.{SortedVariable, declares, Formula, called, truth, bracketed, Bracketed, denies, connects, applies, quantifies, lets}
-use Rattle.grammar.specs.Grammar.{Formulas, noFormula, andFormula, Bindings, noBinding, andBinding, Lexeme, opens, closes, word, between, lexemesFrom}
-use Rattle.grammar.specs.Grammar.{spell, spellVariables, spellFormulas, spellBindings}
+use Rattle.grammar.specs.Grammar.{Formulas, noFormula, andFormula, Bindings, noBinding, andBinding, Lexeme, opens, closes, word, spell, spellVariables}
 use Rattle.lexing.specs.Counted.{variableAmong}
+use Rattle.lexing.specs.Lexes.{part, lexemesAt}
 use Rattle.heads.specs.declared.Head.{Head}
 use Rattle.heads.specs.declared.Item.{Item}
-
--- the lexemes from byte i on; the bytes from a to before e
-abbrev pub lexed : List ℕ → ℕ → List Lexeme
-lexed text i = lexemesFrom between (drop i text)
-
-abbrev pub run : List ℕ → ℕ → ℕ → List ℕ
-run text a e = take (e - a) (drop a text)
 
 -- ---- parts of a list: arguments up to the closing bracket, or a let's pairs up to its list's
 
@@ -51,11 +44,11 @@ pairs (andBinding x φ xs) = record { called = x; formula = φ } ∷ pairs xs
 
 -- ---- the head of a formula
 
--- its kind is k: 0 a word alone, 1 an application, 2 a quantifier, 3 a let; its word is w, and inside it these lexemes follow
+-- its kind is k: 0 a word alone, 1 an application, 2 a quantifier, 3 a let; its word is w, and after it, inside, these lexemes follow
 pub record Starts (text : List ℕ) (r : Head) (k : ℕ) (w : Word) (ls : List Lexeme) : Type 0 where
   pub kind : r .kind ≡ k
-  pub word : wordOf (run text (r .start) (r .end)) ≡ w
-  pub inside : lexed text (r .inside) ≡ ls
+  pub word : wordOf (part text (r .start) (r .end)) ≡ w
+  pub inside : lexemesAt text (r .inside) ≡ ls
 
 abbrev pub HeadInside : List ℕ → Head → Bracketed → List Lexeme → Type 0
 HeadInside text r (denies φ) rest = Starts text r 1 negation (spellParts false (record { called = []; formula = φ } ∷ []) rest)
@@ -71,16 +64,24 @@ HeadOf text r (called w) rest = Starts text r 0 (name w) rest
 HeadOf text r (truth v) rest = Starts text r 0 (constant v) rest
 HeadOf text r (bracketed φ) rest = HeadInside text r φ rest
 
+-- The head at byte i; its kind is 4 where no formula starts there.
+pub record HeadAt (text : List ℕ) (i : ℕ) (r : Head) : Type 0 where
+  pub order : r .start ≤ r .end
+  pub whole : r .end ≤ length text
+  pub within : r .inside ≤ length text
+  pub further : (r .kind ≡ 4 → ⊥) → i < r .inside
+  pub means : (φ : Formula) (rest : List Lexeme) → lexemesAt text i ≡ spell φ rest → HeadOf text r φ rest
+
 -- ---- the next of a list, or the list's end
 
 pub record Ends (text : List ℕ) (r : Item) (ls : List Lexeme) : Type 0 where
   pub last : r .last ≡ true
-  pub after : lexed text (r .end) ≡ ls
+  pub after : lexemesAt text (r .end) ≡ ls
 
 pub record GoesOn (text : List ℕ) (r : Item) (x : ℕ) (ls : List Lexeme) : Type 0 where
   pub last : r .last ≡ false
   pub variable : r .variable ≡ x
-  pub after : lexed text (r .end) ≡ ls
+  pub after : lexemesAt text (r .end) ≡ ls
 
 -- of a quantifier's variables, where so many are declared
 abbrev pub VariableOf : List ℕ → ℕ → Item → List SortedVariable → List Lexeme → Type 0
@@ -92,3 +93,24 @@ abbrev pub PartOf : List ℕ → ℕ → Bool → Item → List Part → List Le
 PartOf text n bound r [] rest = Ends text r rest
 PartOf text n bound r (p ∷ ps) rest =
     GoesOn text r (cond bound (variableAmong n (p .called)) 0) (spell (p .formula) (afterPart bound (spellParts bound ps rest)))
+
+-- The item at byte i, or the list's end.
+pub record ItemAt (text : List ℕ) (i : ℕ) (r : Item) : Type 0 where
+  pub after : i ≤ r .end
+  pub within : r .end ≤ length text
+  pub word : r .variable ≤ 4294967295
+
+pub record VariableAt (text : List ℕ) (n i : ℕ) (r : Item) : Type 0 where
+  pub item : ItemAt text i r
+  pub further : r .last ≡ false → i < r .end
+  pub means : (xs : List SortedVariable) (rest : List Lexeme) → lexemesAt text i ≡ spellVariables xs rest → VariableOf text n r xs rest
+
+pub record PartAt (text : List ℕ) (n : ℕ) (bound : Bool) (i : ℕ) (r : Item) : Type 0 where
+  pub item : ItemAt text i r
+  pub means : (ps : List Part) (rest : List Lexeme) → lexemesAt text i ≡ spellParts bound ps rest → PartOf text n bound r ps rest
+
+-- after the part whose formula ends before byte i
+pub record PartEnd (text : List ℕ) (bound : Bool) (i r : ℕ) : Type 0 where
+  pub after : i ≤ r
+  pub within : r ≤ length text
+  pub means : (ls : List Lexeme) → lexemesAt text i ≡ afterPart bound ls → lexemesAt text r ≡ ls
