@@ -1,4 +1,5 @@
 // What stands at a byte of a text: the head of a formula, an item of a list.
+ghost use mathlib.Core.Path.{_≡_};
 ghost use Prim.Native.Nat.{_≤_};
 ghost use lib.ListN.{length};
 ghost use Rattle.heads.specs.Places.{HeadAt, VariableAt, PartAt, PartEnd};
@@ -7,6 +8,17 @@ use crate::Item;
 use lexing::lexemes::next_lexeme;
 use lexing::names::variable_called;
 
+fn head(kind: usize, start: usize, end: usize, inside: usize) -> Head
+    ensures { λ r. ⌜ r ≡ record { kind = kind; start = start; end = end; inside = inside } ⌝ }
+{
+    Head {
+        kind,
+        start,
+        end,
+        inside,
+    }
+}
+
 // The head of the formula at byte i.
 pub fn head_at(text: &[u8], i: usize) -> Head
     requires { ⌜ i ≤ length (now text) ⌝ }
@@ -14,32 +26,29 @@ pub fn head_at(text: &[u8], i: usize) -> Head
 {
     let first = next_lexeme(text, i);
     let code = first.code;
+    let start = first.start;
+    let end = first.end;
     if code != 0 {
-        let kind = if (code < 3) | (code > 9) { 4 } else { 0 };
-        return Head {
-            kind,
-            start: first.start,
-            end: first.end,
-            inside: first.end,
-        };
+        if code < 3 {
+            return head(4, start, end, end);
+        }
+        if code > 9 {
+            return head(4, start, end, end);
+        }
+        return head(0, start, end, end);
     }
-    let word = next_lexeme(text, first.end);
-    let head = word.code;
-    if (head == 6) | (head == 7) {
-        let opened = next_lexeme(text, word.end);
-        return Head {
-            kind: head - 4,
-            start: word.start,
-            end: word.end,
-            inside: opened.end,
-        };
+    let word = next_lexeme(text, end);
+    let number = word.code;
+    let from = word.start;
+    let to = word.end;
+    if number < 6 {
+        return head(1, from, to, to);
     }
-    Head {
-        kind: 1,
-        start: word.start,
-        end: word.end,
-        inside: word.end,
+    if number > 7 {
+        return head(1, from, to, to);
     }
+    let opened = next_lexeme(text, to);
+    head(number - 4, from, to, opened.end)
 }
 
 // Of a quantifier's variables, where so many are declared, the one at byte i; or their list's end.
@@ -56,8 +65,10 @@ pub fn variable_at(text: &[u8], variables: usize, i: usize) -> Item
         };
     }
     let called = next_lexeme(text, first.end);
-    let variable = variable_called(variables, &text[called.start..called.end]);
-    let sorted = next_lexeme(text, called.end);
+    let from = called.start;
+    let to = called.end;
+    let variable = variable_called(variables, &text[from..to]);
+    let sorted = next_lexeme(text, to);
     let closed = next_lexeme(text, sorted.end);
     Item {
         last: false,
@@ -79,19 +90,21 @@ pub fn part_at(text: &[u8], variables: usize, bound: bool, i: usize) -> Item
             end: first.end,
         };
     }
-    if !bound {
+    if bound {
+        let called = next_lexeme(text, first.end);
+        let from = called.start;
+        let to = called.end;
+        let variable = variable_called(variables, &text[from..to]);
         return Item {
             last: false,
-            variable: 0,
-            end: i,
+            variable,
+            end: to,
         };
     }
-    let called = next_lexeme(text, first.end);
-    let variable = variable_called(variables, &text[called.start..called.end]);
     Item {
         last: false,
-        variable,
-        end: called.end,
+        variable: 0,
+        end: i,
     }
 }
 
@@ -100,9 +113,9 @@ pub fn part_end(text: &[u8], bound: bool, i: usize) -> usize
     requires { ⌜ i ≤ length (now text) ⌝ }
     ensures { λ r. ⌜ PartEnd (now (text .entry)) bound i r ⌝ }
 {
-    if !bound {
-        return i;
+    if bound {
+        let closed = next_lexeme(text, i);
+        return closed.end;
     }
-    let closed = next_lexeme(text, i);
-    closed.end
+    i
 }

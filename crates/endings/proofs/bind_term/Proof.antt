@@ -46,7 +46,7 @@ returns-2 c =
       ended-held (p .ensures .1 (z .0) (z .1)) 0 _ (c .ended .ensures) (p .ensures .2) (binder-le _ (z .0) (s .args .x) _),
       λ e. absurd (not-both e d),
       λ k t u e q b i. told (λ k t u e. TermOutcome (placeBinder (bundleIn w k) q (s .args .x) t) 0 e (p .last .0) (c .ended .result)) d b
-      (ended-outcome (p .ensures .1 q i) 0 _ (c .ended .ensures)),
+          (ended-outcome (p .ensures .1 q i) 0 _ (c .ended .ensures)),
     )
 
 pub bind-term-spec : {M : Type 1} → statement M

@@ -46,9 +46,9 @@ returns-2 c =
       ended-held (p .ensures .1) _ _ (c .ended .ensures) (p .ensures .2) (let-le _ _ _ _),
       λ e. absurd (not-both e d),
       λ k t u e b. told (λ k t u e. TermOutcome
-      (placeLet (bundleIn w k) (halves false st (s .args .height) (s .args .top)) (halves true st (s .args .height) (s .args .top)) t) u e
-      (p .last .0) (c .ended .result)) d b
-      (ended-outcome (p .ensures .1) _ _ (c .ended .ensures)),
+          (placeLet (bundleIn w k) (halves false st (s .args .height) (s .args .top)) (halves true st (s .args .height) (s .args .top)) t) u e
+          (p .last .0) (c .ended .result)) d b
+          (ended-outcome (p .ensures .1) _ _ (c .ended .ensures)),
     )
 
 pub let-term-spec : {M : Type 1} → statement M
