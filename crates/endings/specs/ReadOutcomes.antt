@@ -1,6 +1,7 @@
 -- What is answered where a formula, or the parts of one, have been read, against the records without limits.
 use Prim.Native.Nat.{ℕ, _≤_, _<_}
 use mathlib.Core.Path.{_≡_}
+use mathlib.Core.Bool.{true}
 use mathlib.Core.List.{List}
 use lib.ListN.{length}
 use Rattle.bundle.specs.declared.Bundle.{Bundle as Counts}
@@ -10,6 +11,7 @@ use Rattle.filing.specs.Filing.{Indexed}
 use Rattle.placing.specs.declared.Recorded.{Recorded}
 use Rattle.placing.specs.Outcomes.{TooMuch}
 use Rattle.expansion.specs.Placed.{PlacedTerm}
+use Rattle.heads.specs.Places.{PartEnd}
 use Rattle.endings.specs.declared.ReadTerm.{ReadTerm}
 use Rattle.endings.specs.declared.ReadParts.{ReadParts}
 
@@ -37,3 +39,14 @@ pub record PartsHeld (w ix st : List ℕ) (h : ℕ) (r : ReadParts) : Type 0 whe
 pub data TermOutcome (p : PlacedTerm) (s e : ℕ) (w : List ℕ) (r : ReadTerm) : Type 0 where
   done : (c : Counts) → r ≡ ReadTerm.Done c (p .term) s e → bundleIn w c ≡ p .bundle → TermOutcome p s e w r
   full : TooMuch (p .bundle) → r ≡ ReadTerm.Full → TermOutcome p s e w r
+
+-- ---- the closing bracket after a formula
+
+-- the formula ends within the text
+pub record TermInside (text : List ℕ) (r : ReadTerm) : Type 0 where
+  pub inside : (c : Counts) (t s e : ℕ) → r ≡ ReadTerm.Done c t s e → e ≤ length text
+
+-- r is the answer of a formula with the closing bracket after it
+pub data Closed (text : List ℕ) (body r : ReadTerm) : Type 0 where
+  done : (c : Counts) (t s e e′ : ℕ) → body ≡ ReadTerm.Done c t s e → r ≡ ReadTerm.Done c t s e′ → PartEnd text true e e′ → Closed text body r
+  full : body ≡ ReadTerm.Full → r ≡ ReadTerm.Full → Closed text body r

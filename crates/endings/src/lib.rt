@@ -16,10 +16,11 @@ ghost use Rattle.reading.specs.Local.{aloneSort, aloneTerm};
 ghost use Rattle.reading.specs.Records.{file as fileTerm};
 ghost use Rattle.lexing.specs.Counted.{variableAmong};
 ghost use Rattle.heads.specs.HeadSymbols.{symbolFor};
-ghost use Rattle.endings.specs.ReadOutcomes.{ending, Held, TermHeld, PartsHeld, TermOutcome};
+ghost use Rattle.endings.specs.ReadOutcomes.{ending, Held, TermHeld, PartsHeld, TermOutcome, TermInside, Closed};
 use bundle::Bundle;
 use bundle::digests::DIGESTS;
 use bundle::records::variable_sort;
+use heads::places::part_end;
 use heads::words::symbol_for;
 use lexing::names::variable_called;
 use placing::Recorded;
@@ -207,6 +208,30 @@ pub fn let_term(
         } => {
             let p = place_let(words, counts, term, stack, height, top, index);
             ended(p, sort, end)
+        }
+    }
+}
+
+// A formula with the closing bracket after it.
+pub fn closed(text: &[u8], body: ReadTerm) -> ReadTerm
+    requires { ⌜ TermInside (now text) body ⌝ }
+    ensures { λ r. ⌜ Closed (now (text .entry)) body r ⌝ }
+{
+    match body {
+        ReadTerm::Full => ReadTerm::Full,
+        ReadTerm::Done {
+            counts,
+            term,
+            sort,
+            end,
+        } => {
+            let after = part_end(text, true, end);
+            ReadTerm::Done {
+                counts,
+                term,
+                sort,
+                end: after,
+            }
         }
     }
 }
