@@ -45,7 +45,7 @@ use Rattle.reading.proofs.Answers.{names-exactly}
 no-number : {A : Type 0} (xs : List A) → xs ≡ [] → (i : ℕ) → Number (length xs) i → ⊥
 no-number xs e i n = omega (arith, ap length e, n .0, n .1)
 
-declared-checked : (f : List ℕ) → DeclarationsFormed f → Checked (bundleOf f)
+pub declared-checked : (f : List ℕ) → DeclarationsFormed f → Checked (bundleOf f)
 declared-checked f d =
     let b : Bundle = bundleOf f in
     record {
@@ -69,7 +69,7 @@ declared-version f d = d .header .version
 -- ---- the formula's records
 
 module _ (f text : List ℕ) (φ : Formula) (d : DeclarationsFormed f) (r : ReadAs (bundleOf f) text φ) where
-  term-sorted : TermSorted (bundleOf f) (plain (bundleOf f) φ)
+  pub term-sorted : TermSorted (bundleOf f) (plain (bundleOf f) φ)
   term-sorted = formula-sorted (bundleOf f) φ truthSort (names-exactly (bundleOf f) (names φ []) .1 (r .named .names)) (r .sorted) .0
 
   pub job-filed : FiledAs (bundleOf f) (plain (bundleOf f) φ) (filedFor (bundleOf f) φ)
