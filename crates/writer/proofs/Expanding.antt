@@ -5,13 +5,13 @@
 --     Told, told-done, told-full              what the visit's answer says
 --     refused-full, written                   16 fails; no check does
 --     bytes-of, right-small                   the result's term is a word of 32 bits
---     stored-refused, stored-written          what is left before the zeros are written
-use Prim.Native.Nat.{ℕ, zero, suc, _-_, _≤_, _<_}
+--     stored-expanded                         what is left before the zeros are written
+use Prim.Native.Nat.{ℕ, zero, suc, _≤_, _<_}
 use mathlib.Core.Path.{_≡_, refl, sym, ap, _∙_}
 use mathlib.Core.Bool.{Bool, true, false, cond}
 use mathlib.Core.List.{List, [], _∷_, _++_}
 use native.Mathlib.Omega.{arith}
-use lib.ListN.{length, getD, take, replicate}
+use lib.ListN.{length, getD, take}
 use lib.Dec.{ltb}
 use borrow.Author.Tests.{ltb-true}
 use Rattle.bundle.specs.declared.Bundle.{Bundle as Counts}
@@ -34,11 +34,12 @@ use Rattle.placing.specs.declared.Visited.{Visited}
 use Rattle.expansion.specs.Nodes.{Node, nodeAt}
 use Rattle.expansion.specs.Visit.{Visit, visit, visited, expanded, claiming}
 use Rattle.expansion.specs.File.{countsIn, fileOf}
-use Rattle.expansion.specs.Expansion.{longEnough, earlyTests, jobTests, jobFault, Outcome, writes, outcomeOf, expansion}
+use Rattle.expansion.specs.Expansion.{longEnough, earlyTests, jobTests, jobFault, writes, outcomeOf, expansion}
 use Rattle.expansion.specs.Demands.{LongEnough, Bytes}
 use Rattle.placing.specs.Outcomes.{StandsFor, TooMuch, VisitOutcome, done, full, Stands, TermAsks}
 use Rattle.expansion.specs.AreasAfter.{Stored}
-use Rattle.expansion.proofs.Files.{file-length, file-cut}
+use Rattle.expansion.proofs.Files.{file-length}
+use Rattle.expansion.proofs.AreasAfter.{stored-written}
 use Rattle.expansion.proofs.SmallWords.{file-small, expanded-small}
 use Rattle.writer.proofs.Rooted.{stands-at}
 use Rattle.expansion.proofs.JobChecks.{long-exactly}
@@ -205,50 +206,26 @@ module _ {f : List ℕ} {out words sets : ℕ} {w : List ℕ} {c : Counts} {left
 
 -- ---- what is left before the zeros are written
 
-module _ (f out words sets out′ words′ sets′ : List ℕ) (o : length out′ ≡ length out) (w : length words′ ≡ length words) (s : length sets′ ≡ length sets) where
-  pub stored-refused : (m i : ℕ) → Refused m i ≡ expansion f (length out) (length words) (length sets) .answer
-      → Stored (expansion f (length out) (length words) (length sets)) out words sets out′ words′ sets′ (Refused m i)
-  stored-refused m i e = record {
-    answer = e;
-    output = o;
-    scratch = w;
-    stack = s;
-    file = λ n k. let z : _≡_ {A = ℕ} 0 1 = cc in absurd (omega arith);
-  }
+-- the visit was done, with the counts d and the result x, and the scratch v; the file was stored, n bytes long
+module _ (f out words sets out′ words′ sets′ : List ℕ) (lo : length out′ ≡ length out) (lw : length words′ ≡ length words)
+    (ls : length sets′ ≡ length sets) {u : List ℕ} {c : Counts} {left : ℕ} (b : Begun f (length out) (length words) (length sets) u c left) (v : List ℕ)
+    (d : Counts) (x n : ℕ) (t : Told (visited (bundleOf f)) v d x) (size : n ≡ bytesOf d)
+    (stored : take (bytesOf d) out′ ≡ fileOf (claiming (bundleIn v d) left x)) where
+  holds-bundle : bundleIn v d ≡ visited (bundleOf f) .bundle
+  holds-bundle = rw (t .counts) (t .holds .bundle)
 
-  -- the visit was done, with the counts d and the result x, and the scratch v; the file was stored, n bytes long
-  module _ {u : List ℕ} {c : Counts} {left : ℕ} (b : Begun f (length out) (length words) (length sets) u c left) (v : List ℕ) (d : Counts) (x n : ℕ)
-      (t : Told (visited (bundleOf f)) v d x) (size : n ≡ bytesOf d) (stored : take (bytesOf d) out′ ≡ fileOf (claiming (bundleIn v d) left x)) where
-    holds-bundle : bundleIn v d ≡ visited (bundleOf f) .bundle
-    holds-bundle = rw (t .counts) (t .holds .bundle)
+  file-is : fileOf (claiming (bundleIn v d) left x) ≡ fileOf (expanded (bundleOf f))
+  unfolding expanded
+  file-is = λ i. fileOf (claiming (holds-bundle i) (left-is b i) (t .result i))
 
-    file-is : fileOf (claiming (bundleIn v d) left x) ≡ fileOf (expanded (bundleOf f))
-    unfolding expanded
-    file-is = λ i. fileOf (claiming (holds-bundle i) (left-is b i) (t .result i))
+  size-is : n ≡ length (fileOf (expanded (bundleOf f)))
+  unfolding expanded
+  size-is = size ∙ ap bytesOf (t .counts) ∙ sym (file-length (expanded (bundleOf f)))
 
-    size-is : n ≡ length (fileOf (expanded (bundleOf f)))
-    unfolding expanded
-    size-is = size ∙ ap bytesOf (t .counts) ∙ sym (file-length (expanded (bundleOf f)))
+  room : n ≤ length out
+  room =
+      let within : Within d = rw (t .counts) (t .holds .within) in
+      omega (arith, size, within-words d within, areas-long f (length out) (length words) (length sets) (b .none) .output)
 
-    fits : n ≤ length out
-    fits =
-        let within : Within d = rw (t .counts) (t .holds .within) in
-        omega (arith, size, within-words d within, areas-long f (length out) (length words) (length sets) (b .none) .output)
-
-    -- the whole outcome, and the start of its output
-    outcome-is : expansion f (length out) (length words) (length sets) ≡ writes (expanded (bundleOf f)) (length out) (length words) (length sets)
-    outcome-is = written b (t .holds .within)
-
-    start-is : take n (expansion f (length out) (length words) (length sets) .out) ≡ fileOf (expanded (bundleOf f))
-    start-is = rw (outcome-is, size-is) (file-cut (expanded (bundleOf f)) (replicate (length out - length (fileOf (expanded (bundleOf f)))) 0))
-
-    pub stored-written : Stored (expansion f (length out) (length words) (length sets)) out words sets out′ words′ sets′ (Written n)
-    stored-written = record {
-      answer = ap Written size-is ∙ sym (ap (λ (o : Outcome). o .answer) outcome-is);
-      output = o;
-      scratch = w;
-      stack = s;
-      file = λ m k.
-          let e : n ≡ m = cc in
-          rw (← e) (fits, rw size stored ∙ file-is ∙ sym start-is);
-    }
+  pub stored-expanded : Stored (expansion f (length out) (length words) (length sets)) out words sets out′ words′ sets′ (Written n)
+  stored-expanded = stored-written lo lw ls (expanded (bundleOf f)) n (written b (t .holds .within)) size-is room (rw size stored ∙ file-is)
