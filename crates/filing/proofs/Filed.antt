@@ -1,7 +1,7 @@
 -- Terms filed by their digests, and the walk down the chain of a digest.
 --     variable-digest, application-digest, binder-digest, let-digest     whatever is looked up has the digest that it is looked up by
---     plain-digested, application-digested, formed-digested  digests that stay where the bundle grows: of a term with no list,
---                                                  of an application whose list was just appended, of a term of well-formed tables
+--     plain-digested, application-digested, let-digested, formed-digested     digests that stay where the bundle grows: of a term with no list,
+--                                                  of an application or a let whose lists were just appended, of a term of well-formed tables
 --     filed-none, filed-on, filed-longer, indexed-on         nothing is filed at first; then one term more is; where the bundle grows they stay filed
 --     held-own                                     the terms of the bundle itself are filed
 --     SoughtTerm, sought-end                       the walk for a term: what it has found at its end is the lowest
@@ -26,7 +26,7 @@ use Rattle.logic.specs.WellFormed.{TablesFormed}
 use Rattle.logic.specs.Lookup.{seek, sameVariable, sameApplication, sameBinder, sameLet}
 use Rattle.logic.specs.Longer.{Longer, addList, listStart}
 use Rattle.logic.proofs.Tests.{and-left, and-right, same-list}
-use Rattle.logic.proofs.Longer.{longer-refl, longer-trans, list-added}
+use Rattle.logic.proofs.Longer.{longer-refl, longer-trans, list-longer, list-added}
 use Rattle.logic.proofs.Kept.{term-kept, arguments-kept, let-lists-kept}
 use Rattle.filing.specs.Filing.{mixAll, rootDigest, letDigest, lookupDigest, Digested, FiledTo, Indexed}
 use Rattle.filing.proofs.Seeks.{seekFrom, seek-start, seek-here, seek-on, seek-end}
@@ -97,6 +97,12 @@ pub application-digested : (b : Bundle) (f : ℕ) (vs : List ℕ)
     → Digested (addList b vs) (record { kind = 2; a = f; b = listStart b vs; c = 0 }) (mixAll (rootDigest 2 f) vs)
 unfolding lookupDigest
 application-digested b f vs B more = ap (mixAll (rootDigest 2 f)) (list-added b vs more)
+
+pub let-digested : (b : Bundle) (vs ts : List ℕ) (t : ℕ)
+    → Digested (addList (addList b vs) ts) (record { kind = 5; a = listStart b vs; b = listStart (addList b vs) ts; c = t }) (letDigest vs ts t)
+unfolding lookupDigest
+let-digested b vs ts t B more =
+    ap₂ (λ (us rs : List ℕ). letDigest us rs t) (list-added b vs (longer-trans (list-longer (addList b vs) ts) more)) (list-added (addList b vs) ts more)
 
 module _ {b : Bundle} (formed : TablesFormed b) (B : Bundle) (more : Longer b B) where
   digest-kept : (t : ℕ) (p q : Bool) → eqb (termOf b t .kind) 5 ≡ p → eqb (termOf b t .kind) 2 ≡ q

@@ -1,7 +1,7 @@
 // Terms of the scratch filed by a digest, in an index: the newest term of each digest, then, from place DIGESTS on, the term before each term among
 // those with its digest; 0 for none. The digest is made of what terms are looked up by.
 ghost use mathlib.Core.Path.{_≡_};
-ghost use mathlib.Core.Bool.{true};
+ghost use mathlib.Core.Bool.{true, false};
 ghost use Prim.Native.Nat.{_+_, _≤_, _<_};
 ghost use lib.ListN.{length, getD, set, replicate};
 ghost use Rattle.bundle.specs.Limits.{limits};
@@ -31,16 +31,16 @@ pub fn root_digest(kind: usize, first: usize) -> usize
     mixed(d, first)
 }
 
-// A digest and the results of the pairs from `from` to before `to`.
-pub fn mixed_results(d: usize, stack: &[u64], from: usize, to: usize) -> usize
+// A digest and the results, or the steps, of the pairs from `from` to before `to`.
+pub fn mixed_halves(d: usize, stack: &[u64], upper: bool, from: usize, to: usize) -> usize
     requires { ⌜ (d < digests) × (from ≤ to) × (to ≤ length (now stack)) ⌝ }
-    ensures { λ r. ⌜ (r ≡ mixAll d (halves true (now (stack .entry)) from to)) × (r < digests) ⌝ }
+    ensures { λ r. ⌜ (r ≡ mixAll d (halves upper (now (stack .entry)) from to)) × (r < digests) ⌝ }
 {
     let mut sum = d;
     let mut at = from;
     while at < to {
         let pair = stack[at];
-        let x = half(pair, true);
+        let x = half(pair, upper);
         sum = mixed(sum, x);
         at += 1;
     }
@@ -71,6 +71,18 @@ fn let_digest(words: &[u32], c: Bundle, variables: usize, bound: usize, body: us
     let d = mixed(0, LET);
     let e = mixed_items(words, c, d, variables);
     let f = mixed_items(words, c, e, bound);
+    mixed(f, body)
+}
+
+// The digest of a let, by the pairs from `from` to before `to` and its body: a pair has a variable in its lower half and the variable's bound term in
+// its upper.
+pub fn pairs_digest(body: usize, stack: &[u64], from: usize, to: usize) -> usize
+    requires { ⌜ (from ≤ to) × (to ≤ length (now stack)) ⌝ }
+    ensures { λ r. ⌜ (r ≡ letDigest (halves false (now (stack .entry)) from to) (halves true (now (stack .entry)) from to) body) × (r < digests) ⌝ }
+{
+    let d = mixed(0, LET);
+    let e = mixed_halves(d, stack, false, from, to);
+    let f = mixed_halves(e, stack, true, from, to);
     mixed(f, body)
 }
 

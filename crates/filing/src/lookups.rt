@@ -1,22 +1,23 @@
 // Terms looked up in the scratch, the lowest number first; 0 where there is none. Each is looked for among the terms with its digest alone, from
 // the newest on: so the last that is found is the lowest.
 ghost use mathlib.Core.Path.{_≡_};
-ghost use mathlib.Core.Bool.{true};
+ghost use mathlib.Core.Bool.{true, false};
 ghost use Prim.Native.Nat.{_≤_, _<_};
 ghost use lib.ListN.{length};
 ghost use Rattle.bundle.specs.Bundle.{termOf};
 ghost use Rattle.bundle.specs.Filed.{digests};
 ghost use Rattle.logic.specs.Terms.{Binder, binder, numberOf};
-ghost use Rattle.logic.specs.Lookup.{seek, sameVariable, sameApplication, sameBinder};
+ghost use Rattle.logic.specs.Lookup.{seek, sameVariable, sameApplication, sameBinder, sameLet};
 ghost use Rattle.scratch.specs.Scratch.{bundleIn, Roomy};
 ghost use Rattle.scratch.specs.Stack.{halves};
-ghost use Rattle.filing.specs.Filing.{mixAll, rootDigest, Indexed};
+ghost use Rattle.filing.specs.Filing.{mixAll, rootDigest, letDigest, Indexed};
 use bundle::Bundle;
 use bundle::digests::DIGESTS;
 use bundle::halves::wide;
 use logic::kinds::APPLICATION;
+use logic::kinds::LET;
 use logic::kinds::VARIABLE;
-use scratch::lists::same_results;
+use scratch::lists::same_halves;
 use scratch::records::term_field;
 
 // Whether term t is the variable y.
@@ -73,7 +74,7 @@ fn is_application(
     if first != symbol {
         return false;
     }
-    same_results(words, c, second, stack, from, to)
+    same_halves(words, c, second, stack, true, from, to)
 }
 
 // d is the digest of the application.
@@ -130,6 +131,60 @@ pub fn find_binder(
     let mut t = wide(index[d]);
     while t != 0 {
         let same = same_binder(words, c, t, kind, y, body);
+        found = if same { t } else { found };
+        t = wide(index[DIGESTS + t]);
+    }
+    found
+}
+
+// Whether term t is the let, in the term `body`, of the pairs from `from` to before `to`: a pair has a variable in its lower half and the variable's
+// bound term in its upper.
+fn is_let(
+    words: &[u32],
+    c: Bundle,
+    t: usize,
+    body: usize,
+    stack: &[u64],
+    from: usize,
+    to: usize,
+) -> bool
+    requires { ⌜ Roomy (now words) c × (from ≤ to) × (to ≤ length (now stack)) ⌝ }
+    ensures { λ r. ⌜ r ≡ sameLet (bundleIn (now (words .entry)) c) (halves false (now (stack .entry)) from to) (halves true (now (stack .entry)) from to) body
+        (termOf (bundleIn (now (words .entry)) c) t) ⌝ }
+{
+    let kind = term_field(words, c, t, 0);
+    if kind != LET {
+        return false;
+    }
+    let variables = term_field(words, c, t, 1);
+    let bound = term_field(words, c, t, 2);
+    let inner = term_field(words, c, t, 3);
+    let p = same_halves(words, c, variables, stack, false, from, to);
+    let q = same_halves(words, c, bound, stack, true, from, to);
+    p & (q & (inner == body))
+}
+
+// d is the digest of the let.
+pub fn find_let(
+    words: &[u32],
+    c: Bundle,
+    index: &[u16; DIGESTS + Bundle::TERMS + 1],
+    d: usize,
+    body: usize,
+    stack: &[u64],
+    from: usize,
+    to: usize,
+) -> usize
+    requires { ⌜ Roomy (now words) c × Indexed (bundleIn (now words) c) (now index) × (d < digests)
+        × (d ≡ letDigest (halves false (now stack) from to) (halves true (now stack) from to) body) × (from ≤ to) × (to ≤ length (now stack)) ⌝ }
+    ensures { λ r. ⌜ r ≡ seek
+        (sameLet (bundleIn (now (words .entry)) c) (halves false (now (stack .entry)) from to) (halves true (now (stack .entry)) from to) body)
+        (bundleIn (now (words .entry)) c .terms) ⌝ }
+{
+    let mut found = 0;
+    let mut t = wide(index[d]);
+    while t != 0 {
+        let same = is_let(words, c, t, body, stack, from, to);
         found = if same { t } else { found };
         t = wide(index[DIGESTS + t]);
     }

@@ -1,9 +1,11 @@
 -- The outcome of each opener and closer, by the outcomes of its calls. In each law w and c are what the call before left.
---     add-asks, fixed-asks, application-asks, binder-asks, fresh-asks     where a call was done: ready for more, and its number is a word
+--     add-asks, fixed-asks, variable-asks, application-asks, binder-asks, let-asks, fresh-asks     where a call was done: ready for more, and
+--                                                its number is a word
 --     no-list                                    the list of no value
 --     step-on, context-on, term-on               a step, a context, a term after its list
 --     step-full, context-full, term-full         the same where the list was full
---     found-is                                   a term that the lookup found
+--     found-is, new-is, plain-is                 a term that the lookup found; one that it did not find, and one of those with no list
+--     let-on, let-full                           a let after its list of variables; the same where that was full
 --     concluded-on, concluded-full               a step after a term; the same where the term was full
 --     leaf-own, leaf-gives                       the visit to a variable, by its image
 --     fresh-on, variable-full                    the term of a new variable; where there was no room for the variable
@@ -11,7 +13,7 @@
 --     binder-full, binder-over, binder-on        what a quantifier opens: no room for its term, none for its contexts, room
 --     binder-of                                  the binder of a kind
 use mathlib.Core.Path.{_≡_, refl, sym, ap, subst, _∙_}
-use mathlib.Core.Bool.{true}
+use mathlib.Core.Bool.{Bool, true}
 use mathlib.Core.List.{List, [], _∷_}
 use Prim.Native.Nat.{ℕ, zero, suc, _≤_}
 use native.Mathlib.Omega.{arith}
@@ -22,9 +24,9 @@ use Rattle.logic.specs.declared.Image.the-variants.{Own, Gives}
 use Rattle.logic.specs.Terms.{Binder, binder, numberOf, isBinder}
 use Rattle.logic.proofs.TermKinds.{binder-kind, is-binder-exactly}
 use Rattle.logic.specs.Contexts.{image}
-use Rattle.logic.specs.Lookup.{seek, sameVariable, sameApplication, sameBinder}
+use Rattle.logic.specs.Lookup.{seek, sameVariable, sameApplication, sameBinder, sameLet}
 use Rattle.logic.specs.Longer.{withVariables, withTerms, withContexts, withSteps, addList, listStart}
-use Rattle.logic.proofs.Longer.{terms-longer, contexts-longer, steps-longer}
+use Rattle.logic.proofs.Longer.{longer-trans, list-longer, terms-longer, contexts-longer, steps-longer}
 use Rattle.scratch.specs.Scratch.{bundleIn, Ready}
 use Rattle.scratch.proofs.ScratchFields.{sized-as}
 use Rattle.filing.proofs.Seeks.{seek-le}
@@ -33,7 +35,7 @@ use Rattle.placing.specs.declared.Visited.{Visited}
 use Rattle.placing.specs.declared.Recorded.{Recorded}
 use Rattle.placing.specs.declared.Opened.{Opened}
 use Rattle.expansion.specs.Nodes.{leaf}
-use Rattle.expansion.specs.Placed.{PlacedTerm, placed, placeVariable, placeApplication, placeBinder}
+use Rattle.expansion.specs.Placed.{PlacedTerm, placed, placeVariable, placeApplication, placeBinder, placeLet}
 use Rattle.expansion.specs.Visit.{Visit, concluded, replacing, fixing, newVariable, fresh, renaming}
 use Rattle.expansion.specs.Visit.{openBinder, visit}
 use Rattle.expansion.specs.Visit as unlimited
@@ -77,14 +79,11 @@ module _ {b : Bundle} {vs w : List ℕ} {a : Recorded} {c : Counts} {s : ℕ} (o
         subst (λ (n : ℕ). OpenOutcome (opened (addList b vs) (record { kind = 2; a = x; b = n; parent = p })) w′ r) (k .1)
         (subst (λ (B : Bundle). OpenOutcome (opened B (record { kind = 2; a = x; b = s; parent = p })) w′ r) (k .0 .bundle) h)
 
-    -- m is what the lookup found: 0
-    pub term-on : {r : Recorded} (f : ℕ → TermRecord) (n m : ℕ) → m ≡ n → m ≡ 0 → PlaceOutcome (termed (bundleIn w c) (f s)) w′ r
-        → PlaceOutcome (placed b (addList b vs) (f (listStart b vs)) n) w′ r
-    term-on {r} f n m d z h =
+    pub term-on : {r : Recorded} (f : ℕ → TermRecord) → PlaceOutcome (termed (bundleIn w c) (f s)) w′ r
+        → PlaceOutcome (termed (addList b vs) (f (listStart b vs))) w′ r
+    term-on {r} f h =
         let k = add-done o e in
-        subst (λ (i : ℕ). PlaceOutcome (placed b (addList b vs) (f (listStart b vs)) i) w′ r) (sym z ∙ d)
-        (subst (λ (i : ℕ). PlaceOutcome (termed (addList b vs) (f i)) w′ r) (k .1)
-        (subst (λ (B : Bundle). PlaceOutcome (termed B (f s)) w′ r) (k .0 .bundle) h))
+        subst (λ (p : PlacedTerm). PlaceOutcome p w′ r) (λ i. termed (k .0 .bundle i) (f (k .1 i))) h
 
 module _ {b : Bundle} {vs w : List ℕ} {a : Recorded} (o : AddOutcome b vs w a) (e : a ≡ Recorded.Full) {w′ : List ℕ} where
   pub step-full : (u x l t : ℕ) → VisitOutcome (concluded b u x l t vs) w′ Visited.Full
@@ -93,10 +92,8 @@ module _ {b : Bundle} {vs w : List ℕ} {a : Recorded} (o : AddOutcome b vs w a)
   pub context-full : (x p : ℕ) → OpenOutcome (replacing b x p vs) w′ Recorded.Full
   context-full x p = OpenOutcome.full (longer-over (contexts-longer (addList b vs) _) (add-full o e)) refl
 
-  pub term-full : (f : ℕ → TermRecord) (n m : ℕ) → m ≡ n → m ≡ 0 → PlaceOutcome (placed b (addList b vs) (f (listStart b vs)) n) w′ Recorded.Full
-  term-full f n m d z =
-      subst (λ (i : ℕ). PlaceOutcome (placed b (addList b vs) (f (listStart b vs)) i) w′ Recorded.Full) (sym z ∙ d)
-      (PlaceOutcome.full (longer-over (terms-longer (addList b vs) _) (add-full o e)) refl)
+  pub term-full : (r : TermRecord) → PlaceOutcome (termed (addList b vs) r) w′ Recorded.Full
+  term-full r = PlaceOutcome.full (longer-over (terms-longer (addList b vs) _) (add-full o e)) refl
 
 -- ---- no list, no new term
 
@@ -104,10 +101,38 @@ pub no-list : {w : List ℕ} {c : Counts} → Ready w c → AddOutcome (bundleIn
 no-list {w} {c} r = add-is w c (r .room) (r .version) (bundleIn w c) [] 0 (sym (add-none (bundleIn w c))) refl
 
 -- m is what the lookup found, a term
-pub found-is : {w : List ℕ} {c : Counts} → Ready w c → (vs : List ℕ) (f : ℕ → TermRecord) (n m : ℕ) → m ≡ n → (m ≡ 0 → ⊥)
-    → PlaceOutcome (placed (bundleIn w c) (addList (bundleIn w c) vs) (f (listStart (bundleIn w c) vs)) n) w (Recorded.Done c m)
-found-is r vs f zero m e h = absurd (h e)
-found-is {w} {c} r vs f (suc n) m e h = place-is w c (r .room) (r .version) (record { bundle = bundleIn w c; term = suc n }) m refl e
+pub found-is : {w : List ℕ} {c : Counts} → Ready w c → (b′ : Bundle) (r : TermRecord) (n m : ℕ) → m ≡ n → (m ≡ 0 → ⊥)
+    → PlaceOutcome (placed (bundleIn w c) b′ r n) w (Recorded.Done c m)
+found-is k b′ r zero m e h = absurd (h e)
+found-is {w} {c} k b′ r (suc n) m e h = place-is w c (k .room) (k .version) (record { bundle = bundleIn w c; term = suc n }) m refl e
+
+-- m is what the lookup found: 0
+pub new-is : (b b′ : Bundle) (r : TermRecord) (n m : ℕ) → m ≡ n → m ≡ 0 → {w : List ℕ} {a : Recorded} → PlaceOutcome (placed b b′ r 0) w a
+    → PlaceOutcome (placed b b′ r n) w a
+new-is b b′ r n m e z {w} {a} = subst (λ (i : ℕ). PlaceOutcome (placed b b′ r i) w a) (sym z ∙ e)
+
+-- the same of a term with no list
+pub plain-is : (b : Bundle) (r : TermRecord) (n m : ℕ) → m ≡ n → m ≡ 0 → {w : List ℕ} {a : Recorded} → PlaceOutcome (termed b r) w a
+    → PlaceOutcome (placed b (addList b []) r n) w a
+plain-is b r n m e z {w} {a} h =
+    new-is b (addList b []) r n m e z (subst (λ (B : Bundle). PlaceOutcome (placed b B r 0) w a) (sym (add-none b)) h)
+
+-- m is what the lookup found: 0. Where the list of variables was done, w, c and s are what it left.
+module _ (b : Bundle) (vs ts : List ℕ) (t m : ℕ) (d : m ≡ seek (sameLet b vs ts t) (b .terms)) (z : m ≡ 0) {w : List ℕ} {a : Recorded}
+    (o : AddOutcome b vs w a) {w′ : List ℕ} where
+  pub let-full : a ≡ Recorded.Full → PlaceOutcome (placeLet b vs ts t) w′ Recorded.Full
+  let-full e =
+      new-is _ _ _ _ m d z
+      (PlaceOutcome.full (longer-over (longer-trans (list-longer (addList b vs) ts) (terms-longer (addList (addList b vs) ts) _)) (add-full o e)) refl)
+
+  pub let-on : {c : Counts} {s : ℕ} → a ≡ Recorded.Done c s → {r : Recorded}
+      → PlaceOutcome (termed (addList (bundleIn w c) ts) (record { kind = 5; a = s; b = listStart (bundleIn w c) ts; c = t })) w′ r
+      → PlaceOutcome (placeLet b vs ts t) w′ r
+  let-on e {r} h =
+      let k = add-done o e in
+      new-is _ _ _ _ m d z
+      (subst (λ (p : PlacedTerm). PlaceOutcome p w′ r)
+      (λ i. termed (addList (k .0 .bundle i) ts) (record { kind = 5; a = k .1 i; b = listStart (k .0 .bundle i) ts; c = t })) h)
 
 -- ---- after a term
 
@@ -218,43 +243,29 @@ module _ (b : Bundle) (x v : ℕ) {w : List ℕ} {a : Recorded} (o : PlaceOutcom
 -- ---- terms placed are words of 32 bits
 
 module _ (b : Bundle) {w : List ℕ} {a : Recorded} {c : Counts} {n : ℕ} where
+  -- p is the lookup's test; b′ is b with lists appended
+  pub placed-asks : (b′ : Bundle) → b′ .terms ≡ b .terms → (r : TermRecord) (p : TermRecord → Bool) → PlaceOutcome (placed b b′ r (seek p (b .terms))) w a
+      → a ≡ Recorded.Done c n → Ready w c × (n ≤ 4294967295)
+  placed-asks b′ same r p o e =
+      let k = place-done o e in
+      (k .0 .ready, omega (arith, k .1, placed-word w c b b′ same r (seek p (b .terms)) (seek-le p (b .terms)) (k .0)))
+
+  pub variable-asks : (y : ℕ) → PlaceOutcome (placeVariable b y) w a → a ≡ Recorded.Done c n → Ready w c × (n ≤ 4294967295)
+  variable-asks y = placed-asks (addList b []) refl (record { kind = 1; a = y; b = 0; c = 0 }) (sameVariable y)
+
   pub application-asks : (f : ℕ) (vs : List ℕ) → PlaceOutcome (placeApplication b f vs) w a → a ≡ Recorded.Done c n → Ready w c × (n ≤ 4294967295)
-  application-asks f vs o e =
-      let k = place-done o e in (
-        k .0 .ready,
-        omega (
-          arith,
-          k .1,
-          placed-word w c b vs (λ s. record { kind = 2; a = f; b = s; c = 0 }) (seek (sameApplication b f vs) (b .terms))
-              (seek-le (sameApplication b f vs) (b .terms)) (k .0),
-        ),
-      )
+  application-asks f vs = placed-asks (addList b vs) refl (record { kind = 2; a = f; b = listStart b vs; c = 0 }) (sameApplication b f vs)
 
   pub binder-asks : (q : Binder) (y t : ℕ) → PlaceOutcome (placeBinder b q y t) w a → a ≡ Recorded.Done c n → Ready w c × (n ≤ 4294967295)
-  binder-asks q y t o e =
-      let k = place-done o e in (
-        k .0 .ready,
-        omega (
-          arith,
-          k .1,
-          placed-word w c b [] (λ s. record { kind = numberOf (binder q); a = y; b = t; c = 0 }) (seek (sameBinder q y t) (b .terms))
-              (seek-le (sameBinder q y t) (b .terms)) (k .0),
-        ),
-      )
+  binder-asks q y t = placed-asks (addList b []) refl (record { kind = numberOf (binder q); a = y; b = t; c = 0 }) (sameBinder q y t)
 
-  pub fresh-asks : (x : ℕ) → PlaceOutcome (fresh b x) w a → a ≡ Recorded.Done c n → Ready w c × (n ≤ 4294967295)
-  fresh-asks x o e =
-      let k = place-done o e in
-      let v : Bundle = withVariables b (sortOfVariable b x ∷ []) in
-      let p = sameVariable (newVariable b) in (
-        k .0 .ready,
-        omega (
-          arith,
-          k .1,
-          placed-word w c v [] (λ s. record { kind = 1; a = newVariable b; b = 0; c = 0 }) (seek p (b .terms)) (seek-le p (b .terms))
-              (k .0),
-        ),
-      )
+  pub let-asks : (vs ts : List ℕ) (t : ℕ) → PlaceOutcome (placeLet b vs ts t) w a → a ≡ Recorded.Done c n → Ready w c × (n ≤ 4294967295)
+  let-asks vs ts t =
+      placed-asks (addList (addList b vs) ts) refl (record { kind = 5; a = listStart b vs; b = listStart (addList b vs) ts; c = t }) (sameLet b vs ts t)
+
+pub fresh-asks : (b : Bundle) {w : List ℕ} {a : Recorded} {c : Counts} {n : ℕ} (x : ℕ) → PlaceOutcome (fresh b x) w a → a ≡ Recorded.Done c n
+    → Ready w c × (n ≤ 4294967295)
+fresh-asks b x = variable-asks (withVariables b (sortOfVariable b x ∷ [])) (newVariable b)
 
 -- the binder of a kind
 pub binder-of : (k : ℕ) → isBinder k ≡ true → (q : Binder) × (k ≡ numberOf (binder q))

@@ -2,8 +2,8 @@
 --     place-holds, list-holds                    nothing was appended
 --     full-visit, full-record, full-binder, full-list     the call was full: nothing is said
 --     list-indexed, variable-indexed, step-indexed, leaf-indexed, let-indexed, renaming-indexed     no term was appended
---     plain-filed, application-filed, term-indexed     a term was: its digest stays, and it was filed
-use mathlib.Core.Path.{_≡_, refl, sym, ap, _∙_, subst}
+--     plain-filed, application-filed, list-filed, let-filed, term-indexed     a term was: its digest stays, and it was filed
+use mathlib.Core.Path.{_≡_, refl, sym, ap, ap₂, _∙_, subst}
 use mathlib.Core.List.{List, [], _∷_}
 use Prim.Native.Nat.{ℕ, suc, _+_, _<_}
 use native.Mathlib.Omega.{arith}
@@ -11,11 +11,11 @@ use lib.ListN.{length, getD, set, length-append}
 use Rattle.bundle.specs.declared.Bundle.{Bundle as Counts}
 use Rattle.bundle.specs.Bundle.{Bundle, TermRecord, termOf}
 use Rattle.bundle.specs.Filed.{digests}
-use Rattle.logic.specs.Longer.{Longer, withVariables, withTerms}
+use Rattle.logic.specs.Longer.{Longer, withVariables, withTerms, addList, listStart}
 use Rattle.logic.proofs.Longer.{longer-trans, list-longer, variables-longer, terms-longer, term-added}
 use Rattle.scratch.specs.Scratch.{bundleIn}
-use Rattle.filing.specs.Filing.{mixAll, rootDigest, lookupDigest, Digested, Indexed}
-use Rattle.filing.proofs.Filed.{plain-digested, application-digested, filed-on, filed-longer, indexed-on}
+use Rattle.filing.specs.Filing.{mixAll, rootDigest, letDigest, lookupDigest, Digested, Indexed}
+use Rattle.filing.proofs.Filed.{plain-digested, application-digested, let-digested, filed-on, filed-longer, indexed-on}
 use Rattle.placing.specs.declared.Visited.{Visited}
 use Rattle.placing.specs.declared.Listed.{Listed}
 use Rattle.placing.specs.declared.Recorded.{Recorded}
@@ -87,14 +87,25 @@ module _ {b : Bundle} {ix : List ℕ} (indexed : Indexed b ix) where
 pub plain-filed : (b : Bundle) (k f x d : ℕ) → (k ≡ 2 → ⊥) → (k ≡ 5 → ⊥) → d ≡ rootDigest k f → Digested b (record { kind = k; a = f; b = x; c = 0 }) d
 plain-filed b k f x d h g e B more = plain-digested b (record { kind = k; a = f; b = x; c = 0 }) h g B more ∙ sym e
 
--- w and c are those after the list was appended, and s is where it starts
-pub application-filed : {b : Bundle} {vs w : List ℕ} {a : Recorded} {c : Counts} {s : ℕ} → AddOutcome b vs w a → a ≡ Recorded.Done c s
-    → (f d : ℕ) → d ≡ mixAll (rootDigest 2 f) vs → Digested (bundleIn w c) (record { kind = 2; a = f; b = s; c = 0 }) d
-application-filed {b} {vs} {w} {a} {c} {s} o e f d own B more =
-    let k = add-done o e in
-    ap (λ (n : ℕ). lookupDigest B (record { kind = 2; a = f; b = n; c = 0 })) (k .1)
-    ∙ application-digested b f vs B (subst (λ (x : Bundle). Longer x B) (k .0 .bundle) more)
-    ∙ sym own
+pub application-filed : (b : Bundle) (f : ℕ) (vs : List ℕ) (d : ℕ) → d ≡ mixAll (rootDigest 2 f) vs
+    → Digested (addList b vs) (record { kind = 2; a = f; b = listStart b vs; c = 0 }) d
+application-filed b f vs d own B more = application-digested b f vs B more ∙ sym own
+
+-- w and c are those after the list vs was appended, and s is where it starts
+module _ {b : Bundle} {vs w : List ℕ} {a : Recorded} {c : Counts} {s : ℕ} (o : AddOutcome b vs w a) (e : a ≡ Recorded.Done c s) where
+  pub list-filed : (r : ℕ → TermRecord) (d : ℕ) → Digested (addList b vs) (r (listStart b vs)) d → Digested (bundleIn w c) (r s) d
+  list-filed r d own B more =
+      let k = add-done o e in
+      ap (λ (n : ℕ). lookupDigest B (r n)) (k .1) ∙ own B (subst (λ (x : Bundle). Longer x B) (k .0 .bundle) more)
+
+  -- vs are a let's variables, and ts its bound terms
+  pub let-filed : (ts : List ℕ) (t d : ℕ) → d ≡ letDigest vs ts t
+      → Digested (addList (bundleIn w c) ts) (record { kind = 5; a = s; b = listStart (bundleIn w c) ts; c = t }) d
+  let-filed ts t d own B more =
+      let k = add-done o e in
+      ap₂ (λ (n : ℕ) (x : Bundle). lookupDigest B (record { kind = 5; a = n; b = listStart x ts; c = t })) (k .1) (k .0 .bundle)
+      ∙ let-digested b vs ts t B (subst (λ (x : Bundle). Longer (addList x ts) B) (k .0 .bundle) more)
+      ∙ sym own
 
 -- w and c are those after the term t was appended, and ix′ is the index after it was filed
 pub term-indexed : {b : Bundle} {ix : List ℕ} → Indexed b ix → (r : TermRecord) (d : ℕ) → Digested b r d → d < digests → length (b .terms) < 1024

@@ -149,12 +149,12 @@ pub start-word : (w : List ℕ) (c : Counts) (b : Bundle) (vs : List ℕ) → Kn
 start-word w c b [] k = omega arith
 start-word w c b (v ∷ vs) k = omega (arith, k .ready .room .within .links, sized-as w c (k .bundle) .links, list-length b (v ∷ vs))
 
--- n is what the lookup found
-pub placed-word : (w : List ℕ) (c : Counts) (b : Bundle) (vs : List ℕ) (r : ℕ → TermRecord) (n : ℕ) → n ≤ length (b .terms)
-    → Known w c (placed b (addList b vs) (r (listStart b vs)) n .bundle) → placed b (addList b vs) (r (listStart b vs)) n .term ≤ 4294967295
-placed-word w c b vs r zero l k =
-    omega (arith, k .ready .room .within .terms, sized-as w c (k .bundle) .terms, length-append (b .terms) (r (listStart b vs) ∷ []))
-placed-word w c b vs r (suc n) l k = omega (arith, k .ready .room .within .terms, sized-as w c (k .bundle) .terms)
+-- n is what the lookup found; b′ is b with lists appended
+pub placed-word : (w : List ℕ) (c : Counts) (b b′ : Bundle) → b′ .terms ≡ b .terms → (r : TermRecord) (n : ℕ) → n ≤ length (b .terms)
+    → Known w c (placed b b′ r n .bundle) → placed b b′ r n .term ≤ 4294967295
+placed-word w c b b′ same r zero l k =
+    omega (arith, k .ready .room .within .terms, sized-as w c (k .bundle) .terms, length-append (b′ .terms) (r ∷ []), ap length same)
+placed-word w c b b′ same r (suc n) l k = omega (arith, k .ready .room .within .terms, sized-as w c (k .bundle) .terms)
 
 -- the term that an image gives
 pub given-word : (w : List ℕ) (c : Counts) → c .version ≡ 1 → ((i : ℕ) → Word (getD w i 0)) → (x y t : ℕ) → image (bundleIn w c) x y ≡ Gives t → t ≤ 4294967295

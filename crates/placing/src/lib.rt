@@ -1,28 +1,31 @@
 // Records and lists appended where their section has room, and terms looked up before they are appended, each against its definition without
 // limits. `Full` as soon as a section would pass its limit. The index holds all terms; a term that is appended is filed in it.
 ghost use mathlib.Core.Path.{_≡_};
-ghost use mathlib.Core.Bool.{true};
+ghost use mathlib.Core.Bool.{true, false};
 ghost use mathlib.Core.List.{[], _∷_};
 ghost use Prim.Native.Nat.{suc, _≤_, _<_};
 ghost use lib.ListN.{length};
 ghost use Rattle.bundle.specs.Filed.{digests};
 ghost use Rattle.logic.specs.Terms.{Binder, binder, numberOf, isBinder};
-ghost use Rattle.logic.specs.Longer.{withTerms, withContexts, withSteps};
+ghost use Rattle.logic.specs.Longer.{withTerms, withContexts, withSteps, addList, listStart};
 ghost use Rattle.scratch.specs.Scratch.{bundleIn, Ready};
 ghost use Rattle.scratch.specs.Stack.{halves};
 ghost use Rattle.filing.specs.Filing.{Digested, Indexed};
-ghost use Rattle.expansion.specs.Placed.{placeApplication, placeBinder};
+ghost use Rattle.expansion.specs.Placed.{placeVariable, placeApplication, placeBinder, placeLet};
 ghost use Rattle.expansion.specs.Visit.{fresh};
 ghost use Rattle.placing.specs.Outcomes.{VisitOutcome, OpenOutcome, PlaceOutcome, AddOutcome, RecordIndexed};
 use bundle::Bundle;
 use bundle::digests::DIGESTS;
 use filing::filing::file_term;
-use filing::filing::mixed_results;
+use filing::filing::mixed_halves;
+use filing::filing::pairs_digest;
 use filing::filing::root_digest;
 use filing::lookups::find_application;
 use filing::lookups::find_binder;
+use filing::lookups::find_let;
 use filing::lookups::find_variable;
 use logic::kinds::APPLICATION;
+use logic::kinds::LET;
 use logic::kinds::VARIABLE;
 use scratch::appends::append_context;
 use scratch::appends::append_step;
@@ -119,15 +122,17 @@ pub fn add_term(
     kind: usize,
     first: usize,
     second: usize,
+    third: usize,
     index: &mut [u16; DIGESTS + Bundle::TERMS + 1],
     d: usize,
 ) -> Recorded
-    requires { ⌜ Ready (now words) c × (kind ≤ 4294967295) × (first ≤ 4294967295) × (second ≤ 4294967295) × Indexed (bundleIn (now words) c) (now index)
-        × (d < digests) × Digested (bundleIn (now words) c) (record { kind = kind; a = first; b = second; c = 0 }) d ⌝ }
+    requires { ⌜ Ready (now words) c × (kind ≤ 4294967295) × (first ≤ 4294967295) × (second ≤ 4294967295) × (third ≤ 4294967295)
+        × Indexed (bundleIn (now words) c) (now index) × (d < digests)
+        × Digested (bundleIn (now words) c) (record { kind = kind; a = first; b = second; c = third }) d ⌝ }
     ensures { λ r. ⌜ (length (now (words .exit)) ≡ length (now (words .entry)))
         × PlaceOutcome
         (record {
-          bundle = withTerms (bundleIn (now (words .entry)) c) (record { kind = kind; a = first; b = second; c = 0 } ∷ []);
+          bundle = withTerms (bundleIn (now (words .entry)) c) (record { kind = kind; a = first; b = second; c = third } ∷ []);
           term =
               suc (length (bundleIn (now (words .entry)) c .terms));
         }) (now (words .exit)) r × RecordIndexed (now (words .exit)) (now (index .exit)) r ⌝ }
@@ -136,11 +141,47 @@ pub fn add_term(
     if terms >= Bundle::TERMS {
         return Recorded::Full;
     }
-    let counts = append_term(words, c, kind, first, second, 0);
+    let counts = append_term(words, c, kind, first, second, third);
     file_term(index, d, terms + 1);
     Recorded::Done {
         counts,
         number: terms + 1,
+    }
+}
+
+// A term whose second field is the list of the results of the pairs from `from` to before `to`, which is appended before it. d is the digest of the
+// term.
+fn add_listed_term(
+    words: &mut [u32],
+    c: Bundle,
+    kind: usize,
+    first: usize,
+    stack: &[u64],
+    from: usize,
+    to: usize,
+    third: usize,
+    index: &mut [u16; DIGESTS + Bundle::TERMS + 1],
+    d: usize,
+) -> Recorded
+    requires { ⌜ Ready (now words) c × (kind ≤ 4294967295) × (first ≤ 4294967295) × (from ≤ to) × (to ≤ length (now stack)) × (third ≤ 4294967295)
+        × Indexed (bundleIn (now words) c) (now index) × (d < digests)
+        × Digested (addList (bundleIn (now words) c) (halves true (now stack) from to))
+        (record { kind = kind; a = first; b = listStart (bundleIn (now words) c) (halves true (now stack) from to); c = third }) d ⌝ }
+    ensures { λ r. ⌜ (length (now (words .exit)) ≡ length (now (words .entry)))
+        × PlaceOutcome
+        (record {
+          bundle = withTerms (addList (bundleIn (now (words .entry)) c) (halves true (now (stack .entry)) from to))
+              (record { kind = kind; a = first; b = listStart (bundleIn (now (words .entry)) c) (halves true (now (stack .entry)) from to); c = third } ∷ []);
+          term = suc (length (bundleIn (now (words .entry)) c .terms));
+        }) (now (words .exit)) r × RecordIndexed (now (words .exit)) (now (index .exit)) r ⌝ }
+{
+    let listed = add_halves(words, c, stack, true, from, to);
+    match listed {
+        Recorded::Full => Recorded::Full,
+        Recorded::Done {
+            counts,
+            number: start,
+        } => add_term(words, counts, kind, first, start, third, index, d),
     }
 }
 
@@ -220,7 +261,7 @@ pub fn place_application(
         × RecordIndexed (now (words .exit)) (now (index .exit)) r ⌝ }
 {
     let root = root_digest(APPLICATION, symbol);
-    let d = mixed_results(root, stack, from, to);
+    let d = mixed_halves(root, stack, true, from, to);
     let found = find_application(words, c, index, d, symbol, stack, from, to);
     if found != 0 {
         return Recorded::Done {
@@ -228,14 +269,29 @@ pub fn place_application(
             number: found,
         };
     }
-    let listed = add_halves(words, c, stack, true, from, to);
-    match listed {
-        Recorded::Full => Recorded::Full,
-        Recorded::Done {
-            counts,
-            number: start,
-        } => add_term(words, counts, APPLICATION, symbol, start, index, d),
+    add_listed_term(words, c, APPLICATION, symbol, stack, from, to, 0, index, d)
+}
+
+// The term of the variable y, looked up before it is appended.
+pub fn place_variable(
+    words: &mut [u32],
+    c: Bundle,
+    y: usize,
+    index: &mut [u16; DIGESTS + Bundle::TERMS + 1],
+) -> Recorded
+    requires { ⌜ Ready (now words) c × (y ≤ 4294967295) × Indexed (bundleIn (now words) c) (now index) ⌝ }
+    ensures { λ r. ⌜ (length (now (words .exit)) ≡ length (now (words .entry)))
+        × PlaceOutcome (placeVariable (bundleIn (now (words .entry)) c) y) (now (words .exit)) r × RecordIndexed (now (words .exit)) (now (index .exit)) r ⌝ }
+{
+    let d = root_digest(VARIABLE, y);
+    let found = find_variable(words, c, index, d, y);
+    if found != 0 {
+        return Recorded::Done {
+            counts: c,
+            number: found,
+        };
     }
+    add_term(words, c, VARIABLE, y, 0, 0, index, d)
 }
 
 // A new variable of the sort of x, and its term.
@@ -256,15 +312,7 @@ pub fn place_fresh(
     }
     let y = variables + 1;
     let more = append_variable(words, c, sort);
-    let d = root_digest(VARIABLE, y);
-    let found = find_variable(words, more, index, d, y);
-    if found != 0 {
-        return Recorded::Done {
-            counts: more,
-            number: found,
-        };
-    }
-    add_term(words, more, VARIABLE, y, 0, index, d)
+    place_variable(words, more, y, index)
 }
 
 // The term of a binder of y in the term `body`, looked up before it is appended.
@@ -290,5 +338,51 @@ pub fn place_binder(
             number: found,
         };
     }
-    add_term(words, c, kind, y, body, index, d)
+    add_term(words, c, kind, y, body, 0, index, d)
+}
+
+// The term of a let in the term `body`, looked up before it is appended: the variables are the lower halves of the pairs from `from` to before `to`, and
+// the upper halves are the terms that they are bound to.
+pub fn place_let(
+    words: &mut [u32],
+    c: Bundle,
+    body: usize,
+    stack: &[u64],
+    from: usize,
+    to: usize,
+    index: &mut [u16; DIGESTS + Bundle::TERMS + 1],
+) -> Recorded
+    requires { ⌜ Ready (now words) c × (body ≤ 4294967295) × (from ≤ to) × (to ≤ length (now stack)) × Indexed (bundleIn (now words) c) (now index) ⌝ }
+    ensures { λ r. ⌜ (length (now (words .exit)) ≡ length (now (words .entry)))
+        × PlaceOutcome
+        (placeLet (bundleIn (now (words .entry)) c) (halves false (now (stack .entry)) from to) (halves true (now (stack .entry)) from to) body)
+        (now (words .exit)) r × RecordIndexed (now (words .exit)) (now (index .exit)) r ⌝ }
+{
+    let d = pairs_digest(body, stack, from, to);
+    let found = find_let(words, c, index, d, body, stack, from, to);
+    if found != 0 {
+        return Recorded::Done {
+            counts: c,
+            number: found,
+        };
+    }
+    let named = add_halves(words, c, stack, false, from, to);
+    match named {
+        Recorded::Full => Recorded::Full,
+        Recorded::Done {
+            counts,
+            number: variables,
+        } => add_listed_term(
+            words,
+            counts,
+            LET,
+            variables,
+            stack,
+            from,
+            to,
+            body,
+            index,
+            d,
+        ),
+    }
 }

@@ -47,17 +47,18 @@ pub fn pack(result: usize, step: usize) -> u64
     (result as u64) * 4294967296 + (step as u64)
 }
 
-// Whether a list has just the results of the pairs from `from` to before `to`.
-pub fn same_results(
+// Whether a list has just the results, or the steps, of the pairs from `from` to before `to`.
+pub fn same_halves(
     words: &[u32],
     c: Bundle,
     list: usize,
     stack: &[u64],
+    upper: bool,
     from: usize,
     to: usize,
 ) -> bool
     requires { ⌜ Roomy (now words) c × (from ≤ to) × (to ≤ length (now stack)) ⌝ }
-    ensures { λ r. ⌜ r ≡ sameList (items (bundleIn (now (words .entry)) c) list) (halves true (now (stack .entry)) from to) ⌝ }
+    ensures { λ r. ⌜ r ≡ sameList (items (bundleIn (now (words .entry)) c) list) (halves upper (now (stack .entry)) from to) ⌝ }
 {
     let mut i = first_link(c, list);
     let mut at = from;
@@ -67,7 +68,7 @@ pub fn same_results(
         }
         let value = link_field(words, c, i, 0);
         let pair = stack[at];
-        if value != half(pair, true) {
+        if value != half(pair, upper) {
             return false;
         }
         i = next_link(words, c, i);

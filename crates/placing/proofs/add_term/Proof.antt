@@ -27,8 +27,8 @@ add-file-term c = search needs
 file-term-requires : tie.Need-file-term-requires
 file-term-requires c κs = (omega arith, omega arith, omega arith)
 
-add-t15 : tie.Need-add-t15
-add-t15 c = search needs
+add-t16 : tie.Need-add-t16
+add-t16 c = search needs
 
 same-length : tie.Need-same-length
 same-length c = search needs
@@ -44,9 +44,9 @@ returns-2 c =
       place-is (p .last .0) (p .result) (p .ensures .0) (p .ensures .3 ∙ s .pre .0 .version) _ _ (p .ensures .2)
           next,
       place-holds
-          (term-indexed (s .pre .4) (record { kind = a .kind; a = a .first; b = a .second; c = 0 }) (a .d) (s .pre .6) (s .pre .5)
+          (term-indexed (s .pre .5) (record { kind = a .kind; a = a .first; b = a .second; c = a .third }) (a .d) (s .pre .7) (s .pre .6)
           (omega (arith, sized-in (a .words .now) (a .c) .terms)) next (p .last .0) (p .result) (p .ensures .2) (c .file-term .ensures)),
     )
 
 pub add-term-spec : {M : Type 1} → statement M
-add-term-spec = tie.close (tie.spec returns append-term-requires add-file-term file-term-requires add-t15 same-length returns-2)
+add-term-spec = tie.close (tie.spec returns append-term-requires add-file-term file-term-requires add-t16 same-length returns-2)

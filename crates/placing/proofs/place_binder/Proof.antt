@@ -1,12 +1,12 @@
--- `closers::place_binder` meets its contract: by what the lookup found.
+-- `place_binder` meets its contract: by what the lookup found.
 use Rattle.logic.specs.Terms.{binder, numberOf}
 use mathlib.Core.Path.{refl, subst}
-use mathlib.Core.List.{[]}
 use Prim.Native.Nat.{ℕ}
 use Rattle.logic.proofs.KindTests.{binder-no-list}
+use native.Mathlib.Omega.{arith}
 use Rattle.scratch.specs.Scratch.{bundleIn}
 use Rattle.placing.specs.Outcomes.{PlaceOutcome}
-use Rattle.placing.proofs.CallOutcomes.{termed, no-list, found-is, term-on}
+use Rattle.placing.proofs.CallOutcomes.{termed, found-is, plain-is}
 use Rattle.placing.proofs.Indexes.{place-holds, plain-filed}
 use borrow.Author.Needs.{needs}
 use Rattle.placing.proofs.place_binder.Statement.{statement}
@@ -30,8 +30,7 @@ returns c =
     let a = s .args in
     let f = c .before .find-binder in (
       refl,
-      (λ q e. found-is (s .pre .0) [] (λ s. record { kind = numberOf (binder q); a = a .y; b = a .body; c = 0 }) _ (f .result) (f .ensures q e)
-          (c .if1 .taken)),
+      (λ q e. found-is (s .pre .0) _ _ _ (f .result) (f .ensures q e) (c .if1 .taken)),
       place-holds (s .pre .5),
     )
 
@@ -45,6 +44,7 @@ add-term-requires c κs =
       s .pre .2,
       s .pre .3,
       s .pre .4,
+      omega arith,
       s .pre .5,
       d .ensures .1,
       plain-filed (bundleIn (a .words .now) (a .c)) (a .kind) (a .y) (a .body)
@@ -62,7 +62,7 @@ returns-2 c =
     let t = c .before .before .add-term in (
       t .ensures .0,
       (λ q e.
-          term-on (no-list (s .pre .0)) refl (λ s. record { kind = numberOf (binder q); a = a .y; b = a .body; c = 0 }) _ (f .result) (f .ensures q e)
+          plain-is (bundleIn (a .words .now) (a .c)) _ _ (f .result) (f .ensures q e)
           (c .before .before .before .before .before .if1 .left)
           (subst (λ (k : ℕ). PlaceOutcome (termed (bundleIn (a .words .now) (a .c)) (record { kind = k; a = a .y; b = a .body; c = 0 })) (t .last .0)
           (t .result)) e

@@ -29,8 +29,8 @@ returns-2 c =
           (c .if2 .taken),
     )
 
-same-results-requires : tie.Need-same-results-requires
-same-results-requires c κs = search needs
+same-halves-requires : tie.Need-same-halves-requires
+same-halves-requires c κs = search needs
 
 returns-3 : tie.Need-returns-3
 unfolding sameApplication
@@ -42,7 +42,7 @@ returns-3 c =
       ← c .before .before .before .before .term-field2 .ensures .0,
       eq-eqb _ _ (c .before .if2 .left),
       ← c .before .before .before .term-field3 .ensures .0,
-    ) (c .same-results .ensures)
+    ) (c .same-halves .ensures)
 
 pub is-application-spec : {M : Type 1} → statement M
 is-application-spec =
@@ -53,5 +53,5 @@ is-application-spec =
     term-field-requires-3
     returns
     returns-2
-    same-results-requires
+    same-halves-requires
     returns-3)

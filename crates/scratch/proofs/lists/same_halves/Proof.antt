@@ -1,6 +1,5 @@
--- `lists::same_results` meets its contract. The invariant: the list has the results where what is left of it has those that are left.
+-- `lists::same_halves` meets its contract. The invariant: the list has the halves where what is left of it has those that are left.
 -- The measure is how many are left.
-use mathlib.Core.Bool.{true}
 use mathlib.Core.Path.{_≡_, sym}
 use Prim.Native.Nat.{_-_, _≤_}
 use native.Mathlib.Omega.{arith}
@@ -13,17 +12,17 @@ use Rattle.scratch.specs.Stack.{halves}
 use Rattle.bundle.proofs.BundleWalks.{walk-start, walk-start-le, walk-le, walk-nil, walk-cons, walk-some, same-nil}
 use Rattle.scratch.proofs.ScratchFields.{sized-in}
 use Rattle.scratch.proofs.Halves.{halves-none, halves-more}
-use Rattle.scratch.proofs.lists.same_results.Statement.{statement}
-use Rattle.scratch.proofs.lists.same_results.Tie as tie
+use Rattle.scratch.proofs.lists.same_halves.Statement.{statement}
+use Rattle.scratch.proofs.lists.same_halves.Tie as tie
 
 abbrev Inv-loop : tie.InvT-loop
-Inv-loop words c list stack from to i₀ at₀ i at =
+Inv-loop words c list stack upper from to i₀ at₀ i at =
     (at ≤ to)
     × (i ≤ c .links)
-    × (sameList (items (bundleIn words c) list) (halves true stack from to) ≡ sameList (items (bundleIn words c) i) (halves true stack at to))
+    × (sameList (items (bundleIn words c) list) (halves upper stack from to) ≡ sameList (items (bundleIn words c) i) (halves upper stack at to))
 
 abbrev μ-loop : tie.MeasureT-loop
-μ-loop words c list stack from to i₀ at₀ i at = to - at
+μ-loop words c list stack upper from to i₀ at₀ i at = to - at
 
 first-link-requires : tie.Need-first-link-requires Inv-loop μ-loop
 first-link-requires c κs = search needs
@@ -45,7 +44,7 @@ returns c =
     rw (
       l .inv .2,
       walk-nil (sized-in (a .words .now) (a .c)) (l .i) (c .if1 .taken),
-      halves-more true (a .stack .now) (l .at) (a .to)
+      halves-more (a .upper) (a .stack .now) (l .at) (a .to)
           (c .before .loop-test .taken) (c .before .before .before .before .before .before .pre .2),
     )
 
@@ -69,7 +68,7 @@ returns-2 c =
     rw (
       l .inv .2,
       walk-some (sized-in (a .words .now) (a .c)) (l .i) (c .before .before .before .before .if1 .left) (l .inv .1),
-      halves-more true
+      halves-more (a .upper)
           (a .stack .now) (l .at) (a .to) (c .before .before .before .before .before .loop-test .taken)
           (c .before .before .before .before .before .before .before .before .before .before .pre .2),
     )
@@ -96,7 +95,7 @@ loop-again c =
         l .inv .2,
         walk-cons (sized-in (a .words .now) (a .c)) (l .i) (c .before .before .before .before .link-field .result) (n .result)
             (c .before .before .before .before .before .if1 .left) (l .inv .1) (c .before .before .before .before .link-field .ensures .0) (n .ensures),
-        halves-more true (a .stack .now) (l .at) (a .to) (c .before .before .before .before .before .before .loop-test .taken)
+        halves-more (a .upper) (a .stack .now) (l .at) (a .to) (c .before .before .before .before .before .before .loop-test .taken)
             (c .before .before .before .before .before .before .before .before .before .before .before .pre .2),
       )
           (rw (← c .before .before .half .ensures .0, eq-eqb _ _ (c .before .if2 .left))),
@@ -106,10 +105,11 @@ returns-3 : tie.Need-returns-3 Inv-loop μ-loop
 returns-3 c =
     let a = c .before .before .before .before .before .args in
     let l = c .before .loop in
-    rw (l .inv .2, halves-none true (a .stack .now) (l .at) (a .to) (c .loop-test .left)) (sym (same-nil (sized-in (a .words .now) (a .c)) (l .i) (l .inv .1)))
+    rw (l .inv .2, halves-none (a .upper) (a .stack .now) (l .at) (a .to) (c .loop-test .left))
+    (sym (same-nil (sized-in (a .words .now) (a .c)) (l .i) (l .inv .1)))
 
-pub same-results-spec : {M : Type 1} → statement M
-same-results-spec =
+pub same-halves-spec : {M : Type 1} → statement M
+same-halves-spec =
     tie.close
     (tie.spec
     Inv-loop

@@ -1,21 +1,20 @@
--- `filing::mixed_results` meets its contract. The invariant: the digest of all is the digest so far with the results that are left.
+-- `filing::mixed_halves` meets its contract. The invariant: the digest of all is the digest so far with the halves that are left.
 -- The measure is how many are left.
 use borrow.Author.Needs.{needs}
 use native.Mathlib.Omega.{arith}
 use Prim.Native.Nat.{_-_, _≤_, _<_}
-use mathlib.Core.Bool.{true}
 use mathlib.Core.Path.{_≡_, refl}
 use Rattle.scratch.specs.Stack.{halves}
 use Rattle.filing.specs.Filing.{mixAll}
 use Rattle.scratch.proofs.Halves.{halves-none, halves-more}
-use Rattle.filing.proofs.filing.mixed_results.Statement.{statement}
-use Rattle.filing.proofs.filing.mixed_results.Tie as tie
+use Rattle.filing.proofs.filing.mixed_halves.Statement.{statement}
+use Rattle.filing.proofs.filing.mixed_halves.Tie as tie
 
 abbrev Inv-loop : tie.InvT-loop
-Inv-loop d stack from to sum₀ at₀ sum at = (at ≤ to) × (sum < 2048) × (mixAll d (halves true stack from to) ≡ mixAll sum (halves true stack at to))
+Inv-loop d stack upper from to sum₀ at₀ sum at = (at ≤ to) × (sum < 2048) × (mixAll d (halves upper stack from to) ≡ mixAll sum (halves upper stack at to))
 
 abbrev μ-loop : tie.MeasureT-loop
-μ-loop d stack from to sum₀ at₀ sum at = to - at
+μ-loop d stack upper from to sum₀ at₀ sum at = to - at
 
 loop-holds : tie.Need-loop-holds Inv-loop μ-loop
 loop-holds c = (omega arith, omega arith, refl)
@@ -47,7 +46,7 @@ loop-again c =
       c .mixed .ensures .1,
       rw (
         l .inv .2,
-        halves-more true (a .stack .now) (l .at) (a .to) (c .before .before .before .loop-test .taken)
+        halves-more (a .upper) (a .stack .now) (l .at) (a .to) (c .before .before .before .loop-test .taken)
             (c .before .before .before .before .before .before .pre .2),
         ← c .before .half .ensures .0,
         c .mixed .ensures .0,
@@ -59,10 +58,10 @@ unfolding mixAll
 returns c =
     let a = c .before .before .before .args in
     let l = c .before .loop in
-    (rw (l .inv .2, halves-none true (a .stack .now) (l .at) (a .to) (c .loop-test .left)), l .inv .1)
+    (rw (l .inv .2, halves-none (a .upper) (a .stack .now) (l .at) (a .to) (c .loop-test .left)), l .inv .1)
 
-pub mixed-results-spec : {M : Type 1} → statement M
-mixed-results-spec =
+pub mixed-halves-spec : {M : Type 1} → statement M
+mixed-halves-spec =
     tie.close
     (tie.spec
     Inv-loop
