@@ -1,3 +1,3 @@
 -- What the contracts cite.
---     Sections   what is wrong with a record, by its section
+--     Sections   what is wrong with a record, by its section; the first bad record of the sections before the terms
 pub mod Sections

@@ -12,6 +12,7 @@
 --     Files             the file of a bundle reads back
 --     SmallWords        all numbers of the bundle that is written are words of 32 bits
 --     JobOrder          the writer's first fault is the first failing check of the one ordered list
+--     AreasAfter        what a call leaves once the zeros are written
 --     JobChecks         a file is written exactly for well-formed closed jobs that fit; what is left in the areas
 --     JobSizes          how large the number and the record of a refused job can be
 --     Demands           THE DEMANDS
@@ -29,6 +30,7 @@ pub mod SmallNumbers
 pub mod Files
 pub mod SmallWords
 pub mod JobOrder
+pub mod AreasAfter
 pub mod JobChecks
 pub mod JobSizes
 pub mod Demands

@@ -9,8 +9,6 @@ pub mod terms; // terms.rt: 7, 8, and all of a term
 
 use bundle::Bundle;
 use bundle::words::counts;
-use declarations::Section;
-use declarations::section_fault;
 use logic::Fault;
 use sorting::notes::note_sorts;
 
@@ -19,17 +17,9 @@ pub fn sections_fault(file: &[u8], b: Bundle, sorts: &[usize]) -> Fault
     requires { ⌜ Whole (now file) b × Sorted (now file) b (now sorts) ⌝ }
     ensures { λ r. ⌜ r ≡ sectionsFault (bundleAt (now (file .entry)) b) ⌝ }
 {
-    let in_links = section_fault(file, b, Section::Links, b.links);
-    if in_links.number != 0 {
-        return in_links;
-    }
-    let in_symbols = section_fault(file, b, Section::Symbols, b.symbols);
-    if in_symbols.number != 0 {
-        return in_symbols;
-    }
-    let in_variables = section_fault(file, b, Section::Variables, b.variables);
-    if in_variables.number != 0 {
-        return in_variables;
+    let early = declarations::sections_fault(file, b);
+    if early.number != 0 {
+        return early;
     }
     terms::terms_fault(file, b, sorts)
 }

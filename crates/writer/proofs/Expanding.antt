@@ -5,14 +5,13 @@
 --     Told, told-done, told-full              what the visit's answer says
 --     refused-full, written                   16 fails; no check does
 --     bytes-of, right-small                   the result's term is a word of 32 bits
---     stored-refused, stored-written          what is left before the zeros are written
---     left-refused, left-written              and after
-use Prim.Native.Nat.{ℕ, zero, suc, _-_, _≤_, _<_}
+--     stored-expanded                         what is left before the zeros are written
+use Prim.Native.Nat.{ℕ, zero, suc, _≤_, _<_}
 use mathlib.Core.Path.{_≡_, refl, sym, ap, _∙_}
 use mathlib.Core.Bool.{Bool, true, false, cond}
 use mathlib.Core.List.{List, [], _∷_, _++_}
 use native.Mathlib.Omega.{arith}
-use lib.ListN.{length, getD, take, replicate}
+use lib.ListN.{length, getD, take}
 use lib.Dec.{ltb}
 use borrow.Author.Tests.{ltb-true}
 use Rattle.bundle.specs.declared.Bundle.{Bundle as Counts}
@@ -28,21 +27,19 @@ use Rattle.logic.specs.Checks.{headerFault, sectionsFault, tablesFault}
 use Rattle.logic.proofs.Tests.{numbered, failing-none, numbers-of, and-left, and-right}
 use Rattle.logic.proofs.Firsts.{orElse-on, orElse-here, next-both}
 use Rattle.logic.proofs.Formed.{tables-exactly}
-use Rattle.sets.specs.Sets.{cleared}
 use Rattle.logic.proofs.Headers.{tables-header}
-use Rattle.sets.proofs.Cleared.{all-cleared}
 use Rattle.scratch.specs.Scratch.{bundleIn}
-use Rattle.expansion.specs.declared.Answer.{Answer}
 use Rattle.expansion.specs.declared.Answer.the-variants.{Written, Refused}
 use Rattle.placing.specs.declared.Visited.{Visited}
 use Rattle.expansion.specs.Nodes.{Node, nodeAt}
 use Rattle.expansion.specs.Visit.{Visit, visit, visited, expanded, claiming}
 use Rattle.expansion.specs.File.{countsIn, fileOf}
-use Rattle.expansion.specs.Expansion.{longEnough, earlyTests, jobTests, jobFault, outcomeOf, expansion}
+use Rattle.expansion.specs.Expansion.{longEnough, earlyTests, jobTests, jobFault, writes, outcomeOf, expansion}
 use Rattle.expansion.specs.Demands.{LongEnough, Bytes}
 use Rattle.placing.specs.Outcomes.{StandsFor, TooMuch, VisitOutcome, done, full, Stands, TermAsks}
-use Rattle.expansion.specs.AreasAfter.{Left, Stored}
+use Rattle.expansion.specs.AreasAfter.{Stored}
 use Rattle.expansion.proofs.Files.{file-length}
+use Rattle.expansion.proofs.AreasAfter.{stored-written}
 use Rattle.expansion.proofs.SmallWords.{file-small, expanded-small}
 use Rattle.writer.proofs.Rooted.{stands-at}
 use Rattle.expansion.proofs.JobChecks.{long-exactly}
@@ -163,12 +160,12 @@ module _ {f : List ℕ} {out words sets : ℕ} {w : List ℕ} {c : Counts} {left
       refused-number f out words sets (b .none) 16 (λ z. omega arith)
       (last-is ∙ rw (off (withinOf (countsIn (visited (bundleOf f) .bundle))) (λ e. h (within-all (countsIn (visited (bundleOf f) .bundle)) e))))
 
-  written : Within (countsIn (visited (bundleOf f) .bundle)) → Written (length (fileOf (expanded (bundleOf f)))) ≡ expansion f out words sets .answer
+  written : Within (countsIn (visited (bundleOf f) .bundle)) → expansion f out words sets ≡ writes (expanded (bundleOf f)) out words sets
   unfolding expansion outcomeOf
   written h =
       let e : jobFault f out words sets ≡ fault 0 0 = late-is f out words sets (b .none)
       ∙ orElse-on (firstFailing (jobTests (bundleOf f))) 0 (fault 0 0) (last-is ∙ rw (within-true (countsIn (visited (bundleOf f) .bundle)) h)) in
-      sym (ap (λ (r : Fault). outcomeOf (bundleOf f) r (r .number) out words sets .answer) e)
+      ap (λ (r : Fault). outcomeOf (bundleOf f) r (r .number) out words sets) e
 
   bundle-is : bundleIn w c ≡ bundleOf f
   unfolding bundleOf
@@ -209,112 +206,26 @@ module _ {f : List ℕ} {out words sets : ℕ} {w : List ℕ} {c : Counts} {left
 
 -- ---- what is left before the zeros are written
 
-module _ (f out words sets out′ words′ sets′ : List ℕ) (o : length out′ ≡ length out) (w : length words′ ≡ length words) (s : length sets′ ≡ length sets) where
-  pub stored-refused : (m i : ℕ) → Refused m i ≡ expansion f (length out) (length words) (length sets) .answer
-      → Stored f out words sets out′ words′ sets′ (Refused m i)
-  stored-refused m i e = record {
-    answer = e;
-    output = o;
-    scratch = w;
-    stack = s;
-    file = λ n k. let z : _≡_ {A = ℕ} 0 1 = cc in absurd (omega arith);
-  }
+-- the visit was done, with the counts d and the result x, and the scratch v; the file was stored, n bytes long
+module _ (f out words sets out′ words′ sets′ : List ℕ) (lo : length out′ ≡ length out) (lw : length words′ ≡ length words)
+    (ls : length sets′ ≡ length sets) {u : List ℕ} {c : Counts} {left : ℕ} (b : Begun f (length out) (length words) (length sets) u c left) (v : List ℕ)
+    (d : Counts) (x n : ℕ) (t : Told (visited (bundleOf f)) v d x) (size : n ≡ bytesOf d)
+    (stored : take (bytesOf d) out′ ≡ fileOf (claiming (bundleIn v d) left x)) where
+  holds-bundle : bundleIn v d ≡ visited (bundleOf f) .bundle
+  holds-bundle = rw (t .counts) (t .holds .bundle)
 
-  -- the visit was done, with the counts d and the result x, and the scratch v; the file was stored, n bytes long
-  module _ {u : List ℕ} {c : Counts} {left : ℕ} (b : Begun f (length out) (length words) (length sets) u c left) (v : List ℕ) (d : Counts) (x n : ℕ)
-      (t : Told (visited (bundleOf f)) v d x) (size : n ≡ bytesOf d) (stored : take (bytesOf d) out′ ≡ fileOf (claiming (bundleIn v d) left x)) where
-    holds-bundle : bundleIn v d ≡ visited (bundleOf f) .bundle
-    holds-bundle = rw (t .counts) (t .holds .bundle)
+  file-is : fileOf (claiming (bundleIn v d) left x) ≡ fileOf (expanded (bundleOf f))
+  unfolding expanded
+  file-is = λ i. fileOf (claiming (holds-bundle i) (left-is b i) (t .result i))
 
-    file-is : fileOf (claiming (bundleIn v d) left x) ≡ fileOf (expanded (bundleOf f))
-    unfolding expanded
-    file-is = λ i. fileOf (claiming (holds-bundle i) (left-is b i) (t .result i))
+  size-is : n ≡ length (fileOf (expanded (bundleOf f)))
+  unfolding expanded
+  size-is = size ∙ ap bytesOf (t .counts) ∙ sym (file-length (expanded (bundleOf f)))
 
-    size-is : n ≡ length (fileOf (expanded (bundleOf f)))
-    unfolding expanded
-    size-is = size ∙ ap bytesOf (t .counts) ∙ sym (file-length (expanded (bundleOf f)))
+  room : n ≤ length out
+  room =
+      let within : Within d = rw (t .counts) (t .holds .within) in
+      omega (arith, size, within-words d within, areas-long f (length out) (length words) (length sets) (b .none) .output)
 
-    fits : n ≤ length out
-    fits =
-        let within : Within d = rw (t .counts) (t .holds .within) in
-        omega (arith, size, within-words d within, areas-long f (length out) (length words) (length sets) (b .none) .output)
-
-    pub stored-written : Stored f out words sets out′ words′ sets′ (Written n)
-    stored-written = record {
-      answer = ap Written size-is ∙ written b (t .holds .within);
-      output = o;
-      scratch = w;
-      stack = s;
-      file = λ m k.
-          let e : n ≡ m = cc in
-          rw (← e) (fits, rw size stored ∙ file-is);
-    }
-
--- ---- and after
-
-module _ (b : Bundle) (r : Fault) (out words sets : ℕ) where
-  outcome-words : (k : ℕ) → outcomeOf b r k out words sets .words ≡ replicate words 0
-  unfolding outcomeOf
-  outcome-words zero = refl
-  outcome-words (suc k) = refl
-
-  outcome-sets : (k : ℕ) → outcomeOf b r k out words sets .sets ≡ replicate sets 0
-  unfolding outcomeOf
-  outcome-sets zero = refl
-  outcome-sets (suc k) = refl
-
-  outcome-refused : (k m i : ℕ) → Refused m i ≡ outcomeOf b r k out words sets .answer → outcomeOf b r k out words sets .out ≡ replicate out 0
-  unfolding outcomeOf
-  outcome-refused zero m i e = let z : _≡_ {A = ℕ} 0 1 = cc in absurd (omega arith)
-  outcome-refused (suc k) m i e = refl
-
-  outcome-written : (k n : ℕ) → Written n ≡ outcomeOf b r k out words sets .answer → outcomeOf b r k out words sets .out ≡ fileOf (expanded b)
-      ++ replicate (out - n) 0
-  unfolding outcomeOf
-  outcome-written zero n e = let l : n ≡ length (fileOf (expanded b)) = cc in rw l
-  outcome-written (suc k) n e = let z : _≡_ {A = ℕ} 0 1 = cc in absurd (omega arith)
-
-module _ (f out words sets out′ words′ sets′ words″ sets″ : List ℕ) (w : words″ ≡ replicate (length words′) 0) (s : sets″ ≡ cleared sets′ 0 (length sets′))
-  where
-    module _ (r : Answer) (stored : Stored f out words sets out′ words′ sets′ r) where
-      scratch-zero : words″ ≡ expansion f (length out) (length words) (length sets) .words
-      unfolding expansion
-      scratch-zero =
-          w ∙ rw (stored .scratch)
-          (sym (outcome-words (bundleOf f) (jobFault f (length out) (length words) (length sets)) (length out) (length words) (length sets)
-          (jobFault f (length out) (length words) (length sets) .number)))
-
-      stack-zero : sets″ ≡ expansion f (length out) (length words) (length sets) .sets
-      unfolding expansion
-      stack-zero =
-          s ∙ all-cleared sets′
-          ∙ rw (stored .stack)
-          (sym (outcome-sets (bundleOf f) (jobFault f (length out) (length words) (length sets)) (length out) (length words) (length sets)
-          (jobFault f (length out) (length words) (length sets) .number)))
-
-    pub left-refused : (m i : ℕ) (out″ : List ℕ) → Stored f out words sets out′ words′ sets′ (Refused m i) → out″ ≡ take 0 out′ ++ replicate (length out′ - 0) 0
-        → Left (expansion f (length out) (length words) (length sets)) (Refused m i) out″ words″ sets″
-    unfolding expansion
-    left-refused m i out″ stored e =
-        let l : length out′ - 0 ≡ length out = omega (arith, stored .output) in
-        record {
-          answer = stored .answer;
-          output =
-              e ∙ rw l
-              (sym (outcome-refused (bundleOf f) (jobFault f (length out) (length words) (length sets)) (length out) (length words) (length sets)
-              (jobFault f (length out) (length words) (length sets) .number) m i (stored .answer)));
-          scratch = scratch-zero (Refused m i) stored;
-          stack = stack-zero (Refused m i) stored;
-        }
-
-    pub left-written : (n : ℕ) (out″ : List ℕ) → Stored f out words sets out′ words′ sets′ (Written n) → out″ ≡ take n out′ ++ replicate (length out′ - n) 0
-        → Left (expansion f (length out) (length words) (length sets)) (Written n) out″ words″ sets″
-    unfolding expansion
-    left-written n out″ stored e = record {
-      answer = stored .answer;
-      output = e ∙ rw (stored .file n refl .1, stored .output)
-          (sym (outcome-written (bundleOf f) (jobFault f (length out) (length words) (length sets)) (length out) (length words) (length sets)
-          (jobFault f (length out) (length words) (length sets) .number) n (stored .answer)));
-      scratch = scratch-zero (Written n) stored;
-      stack = stack-zero (Written n) stored;
-    }
+  pub stored-expanded : Stored (expansion f (length out) (length words) (length sets)) out words sets out′ words′ sets′ (Written n)
+  stored-expanded = stored-written lo lw ls (expanded (bundleOf f)) n (written b (t .holds .within)) size-is room (rw size stored ∙ file-is)

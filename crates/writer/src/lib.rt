@@ -9,8 +9,8 @@ use placing::Visited;
 
 // Checks the job, expands it in the scratch and stores the file at the start of the output. The rest of the areas is left as it comes.
 fn store_job(job: &[u8], out: &mut [u8], words: &mut [u32], sets: &mut [u64]) -> Answer
-    ensures { λ r. ⌜ Stored (now (job .entry)) (now (out .entry)) (now (words .entry)) (now (sets .entry)) (now (out .exit)) (now (words .exit))
-        (now (sets .exit)) r ⌝ }
+    ensures { λ r. ⌜ Stored (expansion (now (job .entry)) (length (now (out .entry))) (length (now (words .entry))) (length (now (sets .entry))))
+        (now (out .entry)) (now (words .entry)) (now (sets .entry)) (now (out .exit)) (now (words .exit)) (now (sets .exit)) r ⌝ }
 {
     let enough = areas::long_enough(out.len(), words.len(), sets.len());
     let early = terms::tables_fault(job, enough, 3);
@@ -53,16 +53,5 @@ pub fn expand(job: &[u8], out: &mut [u8], words: &mut [u32], sets: &mut [u64]) -
         (now (out .exit)) (now (words .exit)) (now (sets .exit)) ⌝ }
 {
     let answer = store_job(job, out, words, sets);
-    areas::zero_words(words);
-    sets::clear(sets, 0, sets.len());
-    match answer {
-        Answer::Refused { number, record } => {
-            areas::zero_bytes(out, 0);
-            Answer::Refused { number, record }
-        }
-        Answer::Written { length } => {
-            areas::zero_bytes(out, length);
-            Answer::Written { length }
-        }
-    }
+    areas::close(answer, out, words, sets)
 }

@@ -1,63 +1,30 @@
--- `sections_fault` meets its contract: a section with no fault leaves it to those after it.
+-- `sections_fault` meets its contract: where links, symbols and variables have no fault, the terms say.
 use borrow.Author.Needs.{needs}
-use Rattle.bundle.proofs.Fields.{links-length, symbols-length, variables-length}
-use Rattle.declarations.specs.Sections.{recordFault}
+use mathlib.Core.Path.{_∙_}
 use Rattle.logic.specs.Checks.{sectionsFault}
-use Rattle.logic.proofs.Firsts.{orElse-on, orElse-here}
+use Rattle.declarations.proofs.Sections.{sections-here, sections-on}
 use Rattle.terms.proofs.sections_fault.Statement.{statement}
 use Rattle.terms.proofs.sections_fault.Tie as tie
 
-section-fault-requires : tie.Need-section-fault-requires
-section-fault-requires c κs = search needs
+sections-fault-requires : tie.Need-sections-fault-requires
+sections-fault-requires c κs = search needs
 
 returns : tie.Need-returns
-unfolding sectionsFault recordFault
-returns c = rw (links-length, ← c .before .before .section-fault .ensures, orElse-here _ _ _ (c .if1 .taken))
-
-section-fault-requires-2 : tie.Need-section-fault-requires-2
-section-fault-requires-2 c κs = search needs
-
-returns-2 : tie.Need-returns-2
-unfolding sectionsFault recordFault
-returns-2 c =
-    let l = c .before .before .before in
-    rw (links-length, ← l .before .before .section-fault .ensures, orElse-on _ _ _ (l .if1 .left))
-    (rw (symbols-length, ← c .before .before .section-fault2 .ensures, orElse-here _ _ _ (c .if2 .taken)))
-
-section-fault-requires-3 : tie.Need-section-fault-requires-3
-section-fault-requires-3 c κs = search needs
-
-returns-3 : tie.Need-returns-3
-unfolding sectionsFault recordFault
-returns-3 c =
-    let s = c .before .before .before in
-    let l = s .before .before .before in
-    rw (links-length, ← l .before .before .section-fault .ensures, orElse-on _ _ _ (l .if1 .left))
-    (rw (symbols-length, ← s .before .before .section-fault2 .ensures, orElse-on _ _ _ (s .if2 .left))
-    (rw (variables-length, ← c .before .before .section-fault3 .ensures, orElse-here _ _ _ (c .if3 .taken))))
+unfolding sectionsFault
+returns c = sections-here _ _ _ (c .before .before .sections-fault .ensures) (c .if1 .taken)
 
 terms-fault-requires : tie.Need-terms-fault-requires
 terms-fault-requires c κs = search needs
 
-returns-4 : tie.Need-returns-4
-unfolding sectionsFault recordFault
-returns-4 c =
-    let v = c .before in
-    let s = v .before .before .before in
-    let l = s .before .before .before in
-    rw (links-length, ← l .before .before .section-fault .ensures, orElse-on _ _ _ (l .if1 .left))
-    (rw (symbols-length, ← s .before .before .section-fault2 .ensures, orElse-on _ _ _ (s .if2 .left))
-    (rw (variables-length, ← v .before .before .section-fault3 .ensures, orElse-on _ _ _ (v .if3 .left)) (c .terms-fault .ensures)))
+returns-2 : tie.Need-returns-2
+unfolding sectionsFault
+returns-2 c = c .terms-fault .ensures ∙ sections-on _ _ _ (c .before .before .before .sections-fault .ensures) (c .before .if1 .left)
 
 pub sections-fault-spec : {M : Type 1} → statement M
 sections-fault-spec =
     tie.close
     (tie.spec
-    section-fault-requires
+    sections-fault-requires
     returns
-    section-fault-requires-2
-    returns-2
-    section-fault-requires-3
-    returns-3
     terms-fault-requires
-    returns-4)
+    returns-2)

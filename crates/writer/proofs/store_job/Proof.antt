@@ -14,8 +14,9 @@ use Rattle.logic.proofs.Headers.{bundle-is}
 use Rattle.expansion.specs.Visit.{visited}
 use Rattle.expansion.specs.Expansion.{longEnough, earlyTests}
 use Rattle.expansion.specs.Demands.{LongEnough}
+use Rattle.expansion.proofs.AreasAfter.{stored-refused}
 use Rattle.placing.specs.Outcomes.{VisitOutcome}
-use Rattle.writer.proofs.Expanding.{header-formed, areas-long, refused-early, refused-late, refused-full, stored-refused, stored-written}
+use Rattle.writer.proofs.Expanding.{header-formed, areas-long, refused-early, refused-late, refused-full, stored-expanded}
 use Rattle.writer.proofs.Expanding.{Begun, job-formed, visit-asks, visit-is, Told, told-done, told-full, right-small, bytes-of}
 use Rattle.writer.proofs.store_job.Statement.{statement}
 use Rattle.writer.proofs.store_job.Tie as tie
@@ -105,8 +106,8 @@ returns : tie.Need-returns
 returns c =
     let a = c .before .before .before .before .before .before .before .before .args in
     let at-tables = c .before .before in
-    stored-refused (a .job .now) (a .out .now) (a .words .now) (a .sets .now) (a .out .now) (a .words .now) (a .sets .now) refl refl refl
-    _ _ (refused-early (a .job .now) (length (a .out .now)) (length (a .words .now)) (length (a .sets .now))
+    stored-refused refl refl refl
+    (refused-early (a .job .now) (length (a .out .now)) (length (a .words .now)) (length (a .sets .now))
     (at-tables .tables-fault .result) (tables at-tables) (c .if1 .taken))
 
 counts-requires : tie.Need-counts-requires
@@ -123,9 +124,8 @@ returns-2 c =
     let at-fault = c .before .before .before in
     let at-else1 = at-fault .before .before .before in
     let a = start at-else1 .args in
-    stored-refused (a .job .now) (a .out .now) (a .words .now) (a .sets .now) (a .out .now) (a .words .now) (at-fault .job-fault .last .1 .1 .0)
-    refl refl (c .before .before .sets .given)
-    _ _ (refused-late (a .job .now) (length (a .out .now)) (length (a .words .now)) (length (a .sets .now)) (none at-else1)
+    stored-refused refl refl (c .before .before .sets .given)
+    (refused-late (a .job .now) (length (a .out .now)) (length (a .words .now)) (length (a .sets .now)) (none at-else1)
     (at-fault .job-fault .result) (late at-fault) (c .if2 .taken))
 
 copy-job-requires : tie.Need-copy-job-requires
@@ -173,10 +173,8 @@ same-length-3 c = sets-kept (c .before .before .before)
 returns-3 : tie.Need-returns-3
 returns-3 c =
     let at-visit = c .before .before .before .before .before .before in
-    let a = visit-start at-visit .args in
-    stored-refused (a .job .now) (a .out .now) (a .words .now) (a .sets .now) (a .out .now) (at-visit .visit-job .last .0) (at-visit .visit-job .last .1 .0)
-    refl (words-kept (c .before .before .before .before .before)) (sets-kept (c .before .before .before))
-    16 0 (refused-full (begun (read at-visit)) (told-full (outcome at-visit) (c .enum-told .given .1)))
+    stored-refused refl (words-kept (c .before .before .before .before .before)) (sets-kept (c .before .before .before))
+    (refused-full (begun (read at-visit)) (told-full (outcome at-visit) (c .enum-told .given .1)))
 
 same-length-4 : tie.Need-same-length-4
 same-length-4 c = c .before .before .out .given
@@ -193,7 +191,7 @@ returns-4 c =
     let at-told = at-store .before .before .before .before in
     let at-visit = at-told .before .before .before .before .before .before in
     let a = visit-start at-visit .args in
-    stored-written (a .job .now) (a .out .now) (a .words .now) (a .sets .now)
+    stored-expanded (a .job .now) (a .out .now) (a .words .now) (a .sets .now)
     (at-store .store-file .last .1 .1 .1 .1 .0) (at-visit .visit-job .last .0) (at-visit .visit-job .last .1 .0)
     (c .before .before .out .given) (words-kept (c .before .before .before .before .before .before .before .before .before .before .before .before))
     (sets-kept (c .before .before .before .before .before .before .before .before .before .before))
