@@ -6,17 +6,22 @@ use mathlib.Core.List.{List, [], _∷_, map}
 use lib.ListN.{length}
 use Rattle.bundle.specs.declared.Bundle.{Bundle as Counts}
 use Rattle.bundle.specs.Bundle.{Bundle}
+use Rattle.bundle.specs.File.{bundleOf}
 use Rattle.bundle.specs.Limits.{limits}
 use Rattle.logic.specs.Symbols.{truthSort}
 use Rattle.logic.specs.Terms.{Binder, binder, numberOf, Term, Terms, letIn, none, more}
 use Rattle.scratch.specs.Scratch.{bundleIn}
 use Rattle.scratch.specs.Stack.{halves}
-use Rattle.placing.specs.Outcomes.{TooMuch, StackKept}
+use Rattle.expansion.specs.File.{countsIn}
+use Rattle.placing.specs.Outcomes.{TooMuch, StandsFor, StackKept}
+use Rattle.grammar.specs.Grammar as grammar
 use Rattle.grammar.specs.Grammar.{Formula, SortedVariable, Lexeme, closes, spell, spellVariables}
 use Rattle.reading.specs.Called.{variableCalled}
 use Rattle.reading.specs.Typing.{nested}
 use Rattle.reading.specs.Local.{headSort, plain}
 use Rattle.reading.specs.Records.{file, fileAll, depth, depthAll}
+use Rattle.reading.specs.Answers.{ReadAs, FitsLimits}
+use Rattle.reading.specs.Demands.{DeclarationsFormed}
 use Rattle.lexing.specs.Lexes.{lexemesAt}
 use Rattle.heads.specs.Places.{Part, spellParts}
 use Rattle.endings.specs.declared.ReadTerm.{ReadTerm}
@@ -124,3 +129,20 @@ abbrev pub ReadsParts : (D : Bundle) (text : List ℕ) (b : Bundle) (h i n : ℕ
 ReadsParts D text b h i n bound known s w′ st′ r =
     (ps : List Part) (rest : List Lexeme) → lexemesAt text i ≡ spellParts bound ps rest
     → PartsOutcome text (termsOf D ps) (map (variableOf D bound) ps) (length ps) (firstSort D known s ps) rest b h n w′ st′ r
+
+-- ---- a whole text
+
+-- r, and the words w after the call, are the records of the term of φ after b; or that term is too large
+pub data TextOutcome (D : Bundle) (φ : Formula) (b : Bundle) (w : List ℕ) (r : ReadTerm) : Type 0 where
+  done : StandsFor w (file (plain D φ) b .bundle) → (e : ℕ)
+      → r ≡ ReadTerm.Done (countsIn (file (plain D φ) b .bundle)) (file (plain D φ) b .term) (headSort D φ) e → TextOutcome D φ b w r
+  full : TooLarge (plain D φ) b 0 (limits .terms) → r ≡ ReadTerm.Full → TextOutcome D φ b w r
+
+abbrev pub ReadsText : (D : Bundle) (text : List ℕ) (b : Bundle) (w : List ℕ) (r : ReadTerm) → Type 0
+ReadsText D text b w r = (φ : Formula) → grammar.Reads text φ → TextOutcome D φ b w r
+
+-- What is too large for the declarations alone does not fit: so the answer is 16 exactly where the text's job is not within the limits.
+abbrev pub TooLargeNeverFits : Type 0
+TooLargeNeverFits =
+    (f text : List ℕ) (φ : Formula)
+    → DeclarationsFormed f → ReadAs (bundleOf f) text φ → TooLarge (plain (bundleOf f) φ) (bundleOf f) 0 (limits .terms) → FitsLimits (bundleOf f) φ → ⊥

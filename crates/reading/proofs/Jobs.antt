@@ -77,7 +77,7 @@ module _ (f text : List ℕ) (φ : Formula) (d : DeclarationsFormed f) (r : Read
       let old : Checked (bundleOf f) = declared-checked f d in
       filed (bundleOf f) (old .formed .tables) (plain (bundleOf f) φ) (bundleOf f) (longer-refl (bundleOf f)) old term-sorted
 
-  not-deep : FitsLimits (bundleOf f) φ → depth (plain (bundleOf f) φ) ≤ 1024
+  pub not-deep : FitsLimits (bundleOf f) φ → depth (plain (bundleOf f) φ) ≤ 1024
   not-deep fit =
       let p : PlacedTerm = filedFor (bundleOf f) φ in
       let low = depth-below (p .bundle) (job-filed .placed .checked .formed .tables) (p .term) (job-filed .placed .is-term) in
