@@ -24,10 +24,12 @@ pub enum Reason {
     Full = 16,
     Open = 17,
     NotBare = 18,
+    Unread = 19,
+    UnknownName = 20,
 }
 
 impl Reason {
-    pub const ALL: [Reason; 18] = [
+    pub const ALL: [Reason; 20] = [
         Reason::Length,
         Reason::Version,
         Reason::Limit,
@@ -46,6 +48,8 @@ impl Reason {
         Reason::Full,
         Reason::Open,
         Reason::NotBare,
+        Reason::Unread,
+        Reason::UnknownName,
     ];
 
     pub fn number(self) -> u32 {
@@ -69,9 +73,11 @@ impl Reason {
             Reason::Rule => "a step that does not follow by its rule",
             Reason::Side => "a side condition of TRANS or BIND",
             Reason::Claim => "the last step is not the claim",
-            Reason::Full => "writer: a section would pass its limit",
+            Reason::Full => "writer, reader: a section would pass its limit",
             Reason::Open => "writer: the rule has a free variable",
-            Reason::NotBare => "writer: contexts, steps or right not 0",
+            Reason::NotBare => "writer: contexts, steps or right not 0; reader: terms or left too",
+            Reason::Unread => "reader: no text of the grammar goes on so",
+            Reason::UnknownName => "reader: a name that is not declared, or of another kind",
         }
     }
 }
@@ -79,8 +85,9 @@ impl Reason {
 #[derive(Clone, Copy, Debug, PartialEq, Eq)]
 pub struct Refusal {
     pub reason: Reason,
-    /// The record in its section, from 1; 0 where the table names none.
-    pub record: u32,
+    /// The record in its section, from 1; 0 where the table names none. For 19 and 20
+    /// the byte of the text, from 0.
+    pub record: u64,
 }
 
 impl Refusal {
@@ -90,12 +97,18 @@ impl Refusal {
     }
 
     pub fn at(reason: Reason, record: u32) -> Self {
-        Refusal { reason, record }
+        Refusal { reason, record: record.into() }
     }
 
-    /// The form in which the proved library answers.
+    /// A refusal of the text at a byte.
+    pub fn at_byte(reason: Reason, byte: usize) -> Self {
+        Refusal { reason, record: byte as u64 }
+    }
+
+    /// The form in which the proved library answers: number * 2^32 + record, also for a
+    /// byte of 2^32 or more.
     pub fn packed(self) -> u64 {
-        u64::from(self.reason.number()) << 32 | u64::from(self.record)
+        (u64::from(self.reason.number()) << 32) + self.record
     }
 
     /// The form in which the programs print it.

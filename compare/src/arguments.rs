@@ -3,7 +3,7 @@
 use std::collections::BTreeMap;
 
 /// Options that take no value.
-const FLAGS: [&str; 2] = ["self", "job"];
+const FLAGS: [&str; 3] = ["self", "job", "text"];
 
 #[derive(Debug, Default)]
 pub struct Arguments {

@@ -3,9 +3,11 @@
 
 use crate::bundle::{MAX_BYTES, MAX_WORDS, Section, counts_of, to_bytes, to_words};
 use crate::compare::Checker;
+use crate::compare_reader::Reader;
 use crate::compare_writer::Writer;
 use crate::expand::{SETS, written};
-use crate::generate::{jobs, large};
+use crate::generate::{jobs, large, texts};
+use crate::read;
 use crate::rng::Rng;
 use std::hint::black_box;
 use std::time::{Duration, Instant};
@@ -211,22 +213,77 @@ pub fn time_writer(
         time
     };
     let (mut proved_times, mut rust_times) = in_turn(once, proved, rust, budget);
-    let mut clear_times = Times::default();
-    while clear_times.total < budget / 8 {
-        let begun = Instant::now();
-        clear(black_box(&mut out), black_box(&mut words), black_box(&mut sets));
-        clear_times.add(begun.elapsed());
-    }
+    let floor = time_clearing(&mut out, &mut words, &mut sets, budget);
     let counts = counts_of(&file).unwrap_or_default();
     Row {
         name: name.into(),
         bytes: file.len(),
         terms: counts[Section::Terms],
         steps: counts[Section::Steps],
-        copy: clear_times.median(),
+        copy: floor,
         proved: proved.map(|_| proved_times.median()),
         rust: rust_times.median(),
     }
+}
+
+/// A text to time, with its declarations.
+#[derive(Clone, Debug)]
+pub struct Typed {
+    pub name: String,
+    pub declarations: Vec<u8>,
+    pub text: Vec<u8>,
+    /// What the reader makes of it.
+    pub job: Vec<u8>,
+}
+
+/// Texts by their size, and the deepest one that fits.
+pub fn texts() -> Vec<Typed> {
+    let sizes = [("text, 1 KB", 1024), ("text, 8 KB", 8 * 1024), ("text, 58 KB", 58 * 1024)];
+    let sized = sizes.into_iter().map(|(name, bytes)| (name, texts::of_size(bytes)));
+    sized
+        .chain([("text, 1,024 deep", texts::deepest())])
+        .map(|(name, (declarations, text))| {
+            let job = read::job(&declarations, &text).expect("the text was made to fit");
+            Typed { name: name.into(), declarations, text, job }
+        })
+        .collect()
+}
+
+/// Times the readers on a text. The floor is the time to clear the areas.
+pub fn time_reader(typed: &Typed, proved: Option<Reader>, rust: Reader, budget: Duration) -> Row {
+    let Typed { name, declarations, text, job } = typed;
+    let (mut out, mut words, mut sets) = (vec![0; MAX_BYTES], vec![0; MAX_WORDS], vec![0; SETS]);
+    let once = |read: Reader| {
+        clear(&mut out, &mut words, &mut sets);
+        let begun = Instant::now();
+        let answer =
+            read(black_box(declarations), black_box(text), &mut out, &mut words, &mut sets);
+        let time = begun.elapsed();
+        assert_eq!(answer, job.len() as u64, "the texts of the benchmark are read");
+        time
+    };
+    let (mut proved_times, mut rust_times) = in_turn(once, proved, rust, budget);
+    let floor = time_clearing(&mut out, &mut words, &mut sets, budget);
+    Row {
+        name: name.clone(),
+        bytes: text.len(),
+        terms: counts_of(job).unwrap_or_default()[Section::Terms],
+        steps: 0,
+        copy: floor,
+        proved: proved.map(|_| proved_times.median()),
+        rust: rust_times.median(),
+    }
+}
+
+/// The median time to clear the areas, in microseconds.
+fn time_clearing(out: &mut [u8], words: &mut [u32], sets: &mut [u64], budget: Duration) -> f64 {
+    let mut times = Times::default();
+    while times.total < budget / 8 {
+        let begun = Instant::now();
+        clear(black_box(&mut *out), black_box(&mut *words), black_box(&mut *sets));
+        times.add(begun.elapsed());
+    }
+    times.median()
 }
 
 /// Times the two in turn, for about `budget` each.
@@ -299,6 +356,24 @@ mod tests {
                 let count = if share == Share::Term { subject.terms } else { subject.steps };
                 assert!((most * 8 / 10..=most).contains(&count), "{count} of {most}");
             }
+        }
+    }
+    /// Sizes of the texts, and a row for each; its times say nothing here.
+    #[test]
+    fn texts_are_what_they_say() {
+        let reader: Reader = &|declarations, text, out, words, sets| {
+            read::read(declarations, text, out, words, sets).map_or(0, |length| length as u64)
+        };
+        let texts = texts();
+        for (typed, kb) in texts.iter().zip([1, 8, 58]) {
+            let size = typed.text.len();
+            assert!((1000 * kb..1024 * kb + 1).contains(&size), "{size} bytes for {kb} KB");
+        }
+        assert_eq!(counts_of(&texts[3].job).unwrap_or_default()[Section::Terms], 1024);
+        for typed in &texts {
+            let row = time_reader(typed, None, reader, Duration::from_micros(1));
+            assert_eq!((row.bytes, row.proved), (typed.text.len(), None));
+            assert!(row.terms > 0 && row.rust > 0.0);
         }
     }
 }

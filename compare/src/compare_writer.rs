@@ -36,26 +36,34 @@ pub struct Areas {
 /// the job's index.
 pub fn lengths(index: u64) -> [[usize; 3]; 2] {
     let (out, words, sets) = (MAX_BYTES, MAX_WORDS, SETS);
-    let other = match index % 6 {
+    let mut rng = Rng::new(index);
+    let mut any = |enough: usize| rng.below(3 * enough as u32) as usize;
+    let other = match index % 7 {
         0 => [out + 7, words + 3, sets + 5],
         1 => [out - 1, words, sets],
         2 => [out, words - 1, sets],
         3 => [out, words, sets - 1],
         4 => [0, 0, 0],
+        5 => [any(out), any(words), any(sets)],
         _ => [out + 1, words, sets],
     };
     [[out, words, sets], other]
 }
 
-/// The answer, and the areas after the call; they held junk before.
-pub fn call(write: Writer, job: &[u8], [out, words, sets]: [usize; 3], junk: u64) -> (u64, Areas) {
+/// Areas of these lengths that hold junk.
+pub fn filled([out, words, sets]: [usize; 3], junk: u64) -> Areas {
     let mut rng = Rng::new(junk);
     let fill = rng.next_u64();
-    let mut areas = Areas {
+    Areas {
         out: (0..out).map(|place| (fill >> (place % 8)) as u8 | 1).collect(),
         words: (0..words as u32).map(|place| fill as u32 ^ place | 1).collect(),
         sets: (0..sets as u64).map(|place| fill ^ place | 1).collect(),
-    };
+    }
+}
+
+/// The answer, and the areas after the call; they held junk before.
+pub fn call(write: Writer, job: &[u8], lengths: [usize; 3], junk: u64) -> (u64, Areas) {
+    let mut areas = filled(lengths, junk);
     let answer = write(job, &mut areas.out, &mut areas.words, &mut areas.sets);
     (answer, areas)
 }
@@ -106,7 +114,9 @@ impl Default for Report {
 /// The numbers a writer can answer.
 pub fn numbers() -> impl Iterator<Item = Reason> {
     let checks_of_steps = Reason::Context..=Reason::Side;
-    Reason::ALL.into_iter().filter(move |reason| !checks_of_steps.contains(reason))
+    Reason::ALL
+        .into_iter()
+        .filter(move |&reason| reason <= Reason::NotBare && !checks_of_steps.contains(&reason))
 }
 
 impl Report {
@@ -163,7 +173,11 @@ impl Report {
 }
 
 /// How two calls differ, if they do.
-fn difference(found: &(u64, Areas), expected: &(u64, Areas), from: &str) -> Option<String> {
+pub(crate) fn difference(
+    found: &(u64, Areas),
+    expected: &(u64, Areas),
+    from: &str,
+) -> Option<String> {
     let (answer, expected_answer) = (Packed(found.0), Packed(expected.0));
     if found.0 != expected.0 {
         return Some(format!("{answer} against {expected_answer} from {from}"));

@@ -29,21 +29,18 @@ impl Rules for Broken {
 }
 
 macro_rules! faults {
-    (checker: { $($name:ident: $text:literal,)* } writer: { $($other:ident: $other_text:literal,)* }) => {
+    ($($party:ident: { $($name:ident: $text:literal,)* })*) => {
         #[derive(Clone, Copy, Debug, PartialEq, Eq)]
         pub enum Fault {
-            $($name,)*
-            $($other,)*
+            $($($name,)*)*
         }
 
         impl Fault {
-            pub const CHECKER: &[Fault] = &[$(Fault::$name,)*];
-            pub const WRITER: &[Fault] = &[$(Fault::$other,)*];
+            $(pub const $party: &[Fault] = &[$(Fault::$name,)*];)*
 
             pub fn text(self) -> &'static str {
                 match self {
-                    $(Fault::$name => $text,)*
-                    $(Fault::$other => $other_text,)*
+                    $($(Fault::$name => $text,)*)*
                 }
             }
         }
@@ -51,7 +48,7 @@ macro_rules! faults {
 }
 
 faults! {
-    checker: {
+    CHECKER: {
         // Areas and header.
         AreaKeptOnRefusal: "the area keeps its old words on refusal",
         AreaTailKept: "the area keeps its old words past the last term",
@@ -145,7 +142,7 @@ faults! {
         ClaimedRightUnread: "the claimed right is not compared",
         NoStepsTaken: "a file without steps is taken",
     }
-    writer: {
+    WRITER: {
         OutputOneShort: "an output one byte too short is taken",
         ScratchKept: "the scratch areas keep their old words",
         OutputTailKept: "the output keeps its old bytes after the file",
@@ -163,5 +160,51 @@ faults! {
         ResultsAfterBody: "the links of a let's results come after its body",
         ImagesKept: "a binder's images stay after it",
         LastArgumentFirst: "arguments are visited from the last",
+    }
+    READER: {
+        // Areas and declarations.
+        ReadSetsOneShort: "sets one word too short are taken",
+        ReadScratchKept: "the scratch areas keep their old words",
+        ReadTailKept: "the output keeps its old bytes after the job",
+        ReadOutputKept: "the output keeps its old bytes on refusal",
+        LeftUnread: "a left word that is not 0 is taken",
+        // Lexemes.
+        CommentPassesReturn: "a comment does not end at byte 13",
+        FormFeedIsWhite: "byte 12 is white space",
+        SlashIsNoSymbolCharacter: "a slash is no symbol character",
+        DigitStartsName: "a name may start with a digit",
+        WordsMayNotGrow: "a word in a name's place is refused at its first byte",
+        SortWordWhole: "a wrong sort word is refused at its first byte",
+        EndIsLastByte: "a text that stops too soon is refused at its last byte",
+        RestUnread: "what follows the formula is not read",
+        // Names.
+        LeadingZeroTaken: "a number may start with 0",
+        NumbersWrap: "numbers of names wrap around",
+        VariableAsHead: "a variable after a bracket is 8",
+        SymbolBound: "a symbol in a variable's place is 8",
+        UnknownAfterUnread: "19 anywhere comes before 20",
+        // Grammar, sorts and limits.
+        EmptyBindersTaken: "a quantifier may list no variable",
+        FewArgumentsAreTyping: "too few arguments of a connective are 8",
+        TypingBeforeUnknown: "8 comes before a later 20",
+        FullBeforeTyping: "16 comes before 8",
+        ItemFormulaTaken: "a formula may be an item",
+        SpareReadArgumentTaken: "more arguments than declared are taken",
+        MissingReadArgumentTaken: "fewer arguments than declared are taken",
+        LetRepeatsTaken: "a let may list a variable twice",
+        BinderRepeatsRefused: "a quantifier may not list a variable twice",
+        BinderSortUnread: "a quantifier's sort words are not compared",
+        ReadBodySortUnread: "a quantifier's body may be an item",
+        BoundSortsUnread: "sorts of a let's variables and terms are not compared",
+        EqualSortsUnread: "the sides of = may differ in sort",
+        TermLimitOneShort: "1,024 terms are full",
+        LinkLimitOnePast: "2,049 links fit",
+        // Records.
+        OneEquality: "equality on items is symbol 7",
+        NestedFromTheRight: "a quantifier's first variable is the innermost",
+        BinderGetsTerm: "a quantifier's variable gets a term",
+        ApplicationsNotShared: "equal applications are written again",
+        LetsNotShared: "equal lets are written again",
+        BoundsBeforeVariables: "a let's bound terms are listed before its variables",
     }
 }

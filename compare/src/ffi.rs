@@ -3,6 +3,7 @@
 #![allow(unsafe_code)]
 
 use crate::compare::Checker;
+use crate::compare_reader::Reader;
 use crate::compare_writer::Writer;
 
 /// The proved library.
@@ -11,13 +12,25 @@ use crate::compare_writer::Writer;
 pub struct Library {
     pub check: Checker<'static>,
     pub expand: Writer<'static>,
+    /// `None` where the archive has no `nezkaldo_read`.
+    pub read: Option<Reader<'static>>,
 }
 
 /// `None` where the library was not there when this was built.
 pub fn library() -> Option<Library> {
     #[cfg(proved)]
-    return Some(Library { check: &check, expand: &expand });
+    return Some(Library { check: &check, expand: &expand, read: reader() });
     #[cfg(not(proved))]
+    None
+}
+
+#[cfg(all(proved, proved_reader))]
+fn reader() -> Option<Reader<'static>> {
+    Some(&read)
+}
+
+#[cfg(all(proved, not(proved_reader)))]
+fn reader() -> Option<Reader<'static>> {
     None
 }
 
@@ -27,6 +40,19 @@ unsafe extern "C" {
     fn nezkaldo_expand(
         job: *const u8,
         job_len: usize,
+        out: *mut u8,
+        out_len: usize,
+        words: *mut u32,
+        words_len: usize,
+        sets: *mut u64,
+        sets_len: usize,
+    ) -> u64;
+    #[cfg(proved_reader)]
+    fn nezkaldo_read(
+        declarations: *const u8,
+        declarations_len: usize,
+        text: *const u8,
+        text_len: usize,
         out: *mut u8,
         out_len: usize,
         words: *mut u32,
@@ -50,6 +76,31 @@ fn expand(job: &[u8], out: &mut [u8], words: &mut [u32], sets: &mut [u64]) -> u6
         nezkaldo_expand(
             job.as_ptr(),
             job.len(),
+            out.as_mut_ptr(),
+            out.len(),
+            words.as_mut_ptr(),
+            words.len(),
+            sets.as_mut_ptr(),
+            sets.len(),
+        )
+    }
+}
+
+#[cfg(all(proved, proved_reader))]
+fn read(
+    declarations: &[u8],
+    text: &[u8],
+    out: &mut [u8],
+    words: &mut [u32],
+    sets: &mut [u64],
+) -> u64 {
+    // SAFETY: as above; the call reads the first two slices and writes the others.
+    unsafe {
+        nezkaldo_read(
+            declarations.as_ptr(),
+            declarations.len(),
+            text.as_ptr(),
+            text.len(),
             out.as_mut_ptr(),
             out.len(),
             words.as_mut_ptr(),

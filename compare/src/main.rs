@@ -5,13 +5,15 @@ mod arguments;
 use arguments::Arguments;
 use nezkaldo_compare::bench::Share;
 use nezkaldo_compare::compare::Checkers;
+use nezkaldo_compare::compare_reader::Readers;
 use nezkaldo_compare::compare_writer::Writers;
 use nezkaldo_compare::ffi::Library;
 use nezkaldo_compare::mutants::Verdict;
 use nezkaldo_compare::report::Results;
+use nezkaldo_compare::vectors::Party;
 use nezkaldo_compare::{
-    answer, bench, check, compare, compare_writer, expand, ffi, generate, mutants, naive,
-    naive_expand, plot, programs, smt,
+    answer, bench, check, compare, compare_reader, compare_writer, expand, ffi, generate, mutants,
+    naive, naive_expand, naive_read, plot, programs, read as reader, smt, vectors,
 };
 use std::io::{self, Read};
 use std::path::{Path, PathBuf};
@@ -21,9 +23,10 @@ use std::{env, fs};
 
 const USAGE: &str = "\
 usage: compare COMMAND [OPTIONS]
-  compare  --files N --seed S   the proved library and the programs against the Rust checker
-                                and writer, and against a second, plain reading
+  compare  --files N --seed S   the proved library and the programs against the Rust checker,
+                                writer and reader, and against a second, plain reading
            [--jobs N]           jobs for the writer (default: files / 10)
+           [--texts N]          texts for the reader (default: files / 10)
            [--least N]          fail if a number was seen less often (default 1)
            [--failures DIR]     where to write files that differ (default: failures)
            [--programs DIR]     where check_bundle and expand_job are (default: ../target/bin)
@@ -34,9 +37,15 @@ usage: compare COMMAND [OPTIONS]
            [--write DIR]        write BENCHMARK.md and benchmark.svg there
   check    [FILE]               judge a file, or standard input
   expand   JOB FILE             write the expansion of a job
+  read     DECLARATIONS TEXT JOB
+                                write the job of a text
+  vectors  FILE                 the library and the Rust programs against cases with answers
+           [--moves FILE --until NN]
+                                with the answers that requests up to NN move
   smt      FILE                 the claim of an accepted file as an SMT-LIB query
-  file     --seed S --index I --out FILE [--job]
-                                write one generated file, or job";
+  file     --seed S --index I --out FILE [--job | --text]
+                                write one generated file, or job, or text (its declarations
+                                into FILE.bin)";
 
 fn main() -> ExitCode {
     let mut words = env::args().skip(1);
@@ -50,6 +59,8 @@ fn main() -> ExitCode {
         "bench" => run_bench(&arguments),
         "check" => run_check(&arguments),
         "expand" => run_expand(&arguments),
+        "read" => run_read(&arguments),
+        "vectors" => run_vectors(&arguments),
         "smt" => run_smt(&arguments),
         "file" => run_file(&arguments),
         other => Err(format!("there is no command {other}\n{USAGE}")),
@@ -79,23 +90,47 @@ fn plain_expand(job: &[u8], out: &mut [u8], words: &mut [u32], sets: &mut [u64])
     compare_writer::packed(naive_expand::expand(job, out, words, sets))
 }
 
+fn exact_read(
+    declarations: &[u8],
+    text: &[u8],
+    out: &mut [u8],
+    words: &mut [u32],
+    sets: &mut [u64],
+) -> u64 {
+    compare_reader::packed(reader::read(declarations, text, out, words, sets))
+}
+
+fn plain_read(
+    declarations: &[u8],
+    text: &[u8],
+    out: &mut [u8],
+    words: &mut [u32],
+    sets: &mut [u64],
+) -> u64 {
+    compare_reader::packed(naive_read::read(declarations, text, out, words, sets))
+}
+
 fn run_compare(arguments: &Arguments) -> Result<ExitCode, String> {
-    arguments.allow(&["files", "seed", "jobs", "least", "failures", "programs", "self"], 0)?;
+    let options = ["files", "seed", "jobs", "texts", "least", "failures", "programs", "self"];
+    arguments.allow(&options, 0)?;
     let files = arguments.number("files", 20_000)?;
     let jobs = arguments.number("jobs", (files / 10).max(1))?;
-    if files == 0 || jobs == 0 {
-        return Err("--files and --jobs are at least 1".into());
+    let texts = arguments.number("texts", (files / 10).max(1))?;
+    if files == 0 || jobs == 0 || texts == 0 {
+        return Err("--files, --jobs and --texts are at least 1".into());
     }
     let run = Run {
         seed: arguments.number("seed", 1)?,
         files,
         jobs,
+        texts,
         least: arguments.number("least", 1)?,
         failures: PathBuf::from(arguments.text("failures").unwrap_or("failures")),
     };
     let alone = arguments.flag("self");
+    let proved_reader = ffi::library().and_then(|library| library.read).filter(|_| !alone);
     let good = if alone {
-        println!("no library: the Rust checker and writer against a second, plain reading");
+        println!("no library: the Rust programs against a second, plain reading");
         let writers = Writers {
             subject: &plain_expand,
             reference: &exact_expand,
@@ -103,9 +138,15 @@ fn run_compare(arguments: &Arguments) -> Result<ExitCode, String> {
             program: None,
             checkers: &[&plain_check, &exact_check],
         };
-        run.compare(Checkers::two(&plain_check, &exact_check), writers)?
+        let readers = Readers {
+            subject: None,
+            reference: &exact_read,
+            plain: Some(&plain_read),
+            checkers: &[&plain_check, &exact_check],
+        };
+        run.compare(Checkers::two(&plain_check, &exact_check), writers, readers)?
     } else {
-        let Some(Library { check, expand }) = ffi::library() else {
+        let Some(Library { check, expand, read }) = ffi::library() else {
             return Err("there is no proved library in this build. Run `rt staticlib nezkaldo` \
                         in the repository's root, or set NEZKALDO_LIB_DIR to the folder of \
                         libnezkaldo.a, and build again; or compare with --self."
@@ -114,7 +155,10 @@ fn run_compare(arguments: &Arguments) -> Result<ExitCode, String> {
         let folder = Path::new(arguments.text("programs").unwrap_or(programs::FOLDER));
         let check_program = programs::program(folder, programs::CHECK)?;
         let expand_program = programs::program(folder, programs::EXPAND)?;
-        println!("the proved library and the programs against the Rust checker and writer");
+        println!("the proved library and the programs against the Rust programs");
+        if read.is_none() {
+            println!("the library has no reader: the Rust reader against the plain reading alone");
+        }
         let checkers = Checkers {
             subject: check,
             reference: &exact_check,
@@ -128,14 +172,21 @@ fn run_compare(arguments: &Arguments) -> Result<ExitCode, String> {
             program: Some(&expand_program),
             checkers: &[check, &exact_check],
         };
-        run.compare(checkers, writers)?
+        let readers = Readers {
+            subject: read,
+            reference: &exact_read,
+            plain: Some(&plain_read),
+            checkers: &[check, &exact_check],
+        };
+        run.compare(checkers, writers, readers)?
     };
     println!(
         "{}",
-        match (good, alone) {
-            (true, false) => "no difference",
-            (true, true) => "no difference, without the library",
-            (false, _) => "FAILED",
+        match (good, alone, proved_reader.is_some()) {
+            (true, false, true) => "no difference",
+            (true, false, false) => "no difference, without the library's reader",
+            (true, true, _) => "no difference, without the library",
+            (false, ..) => "FAILED",
         }
     );
     Ok(if good { ExitCode::SUCCESS } else { ExitCode::FAILURE })
@@ -146,13 +197,19 @@ struct Run {
     seed: u64,
     files: u64,
     jobs: u64,
+    texts: u64,
     least: u64,
     failures: PathBuf,
 }
 
 impl Run {
-    /// Whether nothing differs on files and jobs, and every number was seen.
-    fn compare(&self, checkers: Checkers, writers: Writers) -> Result<bool, String> {
+    /// Whether nothing differs on files, jobs and texts, and every number was seen.
+    fn compare(
+        &self,
+        checkers: Checkers,
+        writers: Writers,
+        readers: Readers,
+    ) -> Result<bool, String> {
         let failures = Some(self.failures.as_path());
         let unwritten = |error| format!("cannot write into {}: {error}", self.failures.display());
         let begun = Instant::now();
@@ -162,6 +219,11 @@ impl Run {
         let begun = Instant::now();
         let report =
             compare_writer::run(writers, self.seed, self.jobs, failures).map_err(unwritten)?;
+        print!("{report}");
+        let good = self.ended(begun, &report.unseen(self.least)) & report.agrees() & good;
+        let begun = Instant::now();
+        let report =
+            compare_reader::run(readers, self.seed, self.texts, failures).map_err(unwritten)?;
         print!("{report}");
         Ok(self.ended(begun, &report.unseen(self.least)) & report.agrees() & good)
     }
@@ -182,8 +244,10 @@ fn run_mutants(arguments: &Arguments) -> Result<ExitCode, String> {
     let seed = arguments.number("seed", 1)?;
     let checkers = mutants::try_checkers(&exact_check, seed, files, false);
     let writers = mutants::try_writers(&exact_expand, seed, files / 10, false);
-    let good =
-        print_verdicts("checker, files", &checkers) & print_verdicts("writer, jobs", &writers);
+    let readers = mutants::try_readers(&exact_read, seed, files / 10, false);
+    let good = print_verdicts("checker, files", &checkers)
+        & print_verdicts("writer, jobs", &writers)
+        & print_verdicts("reader, texts", &readers);
     Ok(if good { ExitCode::SUCCESS } else { ExitCode::FAILURE })
 }
 
@@ -220,6 +284,14 @@ fn run_bench(arguments: &Arguments) -> Result<ExitCode, String> {
             .map(|size| {
                 let proved = proved.map(|library| library.expand);
                 bench::time_writer(size, proved, &exact_expand, budget)
+            })
+            .collect(),
+        readers: bench::texts()
+            .iter()
+            .filter(|typed| typed.name.contains(only))
+            .map(|typed| {
+                let proved = proved.and_then(|library| library.read);
+                bench::time_reader(typed, proved, &exact_read, budget)
             })
             .collect(),
     };
@@ -282,11 +354,79 @@ fn run_expand(arguments: &Arguments) -> Result<ExitCode, String> {
     Ok(ExitCode::SUCCESS)
 }
 
+fn run_read(arguments: &Arguments) -> Result<ExitCode, String> {
+    arguments.allow(&[], 3)?;
+    let [declarations, text, out] = arguments.plain() else {
+        return Err("read needs declarations, a text and the job to write".into());
+    };
+    match reader::job(&read(declarations)?, &read(text)?) {
+        Ok(job) => {
+            write(out, &job)?;
+            println!("written {}", job.len());
+        }
+        Err(refusal) => println!("{refusal}"),
+    }
+    Ok(ExitCode::SUCCESS)
+}
+
+fn run_vectors(arguments: &Arguments) -> Result<ExitCode, String> {
+    arguments.allow(&["moves", "until"], 1)?;
+    let path = arguments.plain().first().ok_or("vectors needs a file")?;
+    let text = read_text(path)?;
+    let name = Path::new(path).file_stem().unwrap_or_default().to_string_lossy();
+    let moved = match arguments.text("moves") {
+        Some(moves) => {
+            let until = arguments.number("until", u64::from(u32::MAX))?;
+            vectors::moves(&read_text(moves)?, &name, until.try_into().unwrap_or(u32::MAX))?
+        }
+        None => Default::default(),
+    };
+    let rust = Party {
+        name: "Rust",
+        check: Some(&exact_check),
+        expand: Some(&exact_expand),
+        read: Some(&exact_read),
+        longest_text: usize::MAX,
+    };
+    let plain = Party {
+        name: "the plain reading",
+        check: Some(&plain_check),
+        expand: Some(&plain_expand),
+        read: Some(&plain_read),
+        longest_text: vectors::SHORT,
+    };
+    let mut parties = vec![rust, plain];
+    match ffi::library() {
+        Some(Library { check, expand, read }) => parties.push(Party {
+            name: "the library",
+            check: Some(check),
+            expand: Some(expand),
+            read,
+            longest_text: usize::MAX,
+        }),
+        None => println!("there is no proved library in this build: Rust alone"),
+    }
+    let report = vectors::run(&text, &moved, &parties);
+    print!("{report}");
+    println!("{}", if report.agrees() { "no difference" } else { "FAILED" });
+    Ok(if report.agrees() { ExitCode::SUCCESS } else { ExitCode::FAILURE })
+}
+
+fn read_text(path: &str) -> Result<String, String> {
+    fs::read_to_string(path).map_err(|error| format!("cannot read {path}: {error}"))
+}
+
 fn run_file(arguments: &Arguments) -> Result<ExitCode, String> {
-    arguments.allow(&["seed", "index", "out", "job"], 0)?;
+    arguments.allow(&["seed", "index", "out", "job", "text"], 0)?;
     let seed = arguments.number("seed", 1)?;
     let index = arguments.number("index", 0)?;
     let out = arguments.text("out").ok_or("file needs --out FILE")?;
+    if arguments.flag("text") {
+        let case = generate::texts::case(seed, index);
+        write(out, &case.text)?;
+        write(&format!("{out}.bin"), &case.declarations)?;
+        return Ok(ExitCode::SUCCESS);
+    }
     let bytes = if arguments.flag("job") {
         generate::jobs::job(seed, index).bytes
     } else {

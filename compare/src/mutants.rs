@@ -1,14 +1,16 @@
-//! Copies of the checker and of the writer with one fault each. The comparison has
-//! to tell every one of them from the exact one by the ordinary files.
+//! Copies of the checker, the writer and the reader with one fault each. The comparison
+//! has to tell every one of them from the exact one by the ordinary files.
 
 use crate::answer::packed;
 use crate::check::check_with;
 use crate::compare::{Checker, areas, call};
+use crate::compare_reader::{self, Reader, Reading};
 use crate::compare_writer::{self, Writer, lengths};
 use crate::expand::expand_with;
 use crate::fault::{Broken, Fault};
-use crate::generate::case;
 use crate::generate::jobs::job;
+use crate::generate::{case, texts};
+use crate::read::read_with;
 
 /// The checker with one fault.
 pub fn broken_checker(fault: Fault) -> impl Fn(&[u8], &mut [u64]) -> u64 {
@@ -20,6 +22,14 @@ pub fn broken_writer(fault: Fault) -> impl Fn(&[u8], &mut [u8], &mut [u32], &mut
     move |job, out, words, sets| {
         compare_writer::packed(expand_with(Broken(fault), job, out, words, sets))
     }
+}
+
+/// The reader with one fault.
+pub fn broken_reader(fault: Fault) -> Box<Reading<'static>> {
+    Box::new(move |declarations, text, out, words, sets| {
+        let rules = Broken(fault);
+        compare_reader::packed(read_with(rules, declarations, text, out, words, sets))
+    })
 }
 
 /// How a broken copy fared.
@@ -91,6 +101,32 @@ pub fn try_writers(exact: Writer, seed: u64, jobs: u64, until_told: bool) -> Vec
                 compare_writer::call(&broken, &job, lengths, index) == *expected
             });
             if !same {
+                verdict.note(index);
+            }
+        }
+    }
+    verdicts
+}
+
+/// The same for the reader.
+pub fn try_readers(exact: Reader, seed: u64, cases: u64, until_told: bool) -> Vec<Verdict> {
+    let mut verdicts = Verdict::all(Fault::READER);
+    for index in 0..cases {
+        if until_told && verdicts.iter().all(|verdict| verdict.first.is_some()) {
+            break;
+        }
+        let case = texts::case(seed, index);
+        let call = |read: Reader| {
+            lengths(index).map(|lengths| {
+                compare_reader::call(read, &case.declarations, &case.text, lengths, index)
+            })
+        };
+        let expected = call(exact);
+        for verdict in &mut verdicts {
+            if until_told && verdict.first.is_some() {
+                continue;
+            }
+            if call(&broken_reader(verdict.fault)) != expected {
                 verdict.note(index);
             }
         }

@@ -73,6 +73,16 @@ pub fn load(file: &[u8], area: usize) -> Result<Plain, Refusal> {
 
 /// A file up to its terms, or one of the refusals 1 to 9.
 pub fn tables(file: &[u8], areas_suffice: impl Fn(&Counts) -> bool) -> Result<Plain, Refusal> {
+    let mut plain = declarations(file, areas_suffice)?;
+    plain.each(file, Section::Terms, Plain::term)?;
+    Ok(plain)
+}
+
+/// A file up to its variables, or one of the refusals 1 to 6.
+pub fn declarations(
+    file: &[u8],
+    areas_suffice: impl Fn(&Counts) -> bool,
+) -> Result<Plain, Refusal> {
     let whole = |reason| Err(Refusal::whole(reason));
     if file.len() < HEADER_BYTES {
         return whole(Reason::Length);
@@ -97,7 +107,6 @@ pub fn tables(file: &[u8], areas_suffice: impl Fn(&Counts) -> bool) -> Result<Pl
     plain.each(file, Section::Links, Plain::link)?;
     plain.each(file, Section::Symbols, Plain::symbol)?;
     plain.each(file, Section::Variables, Plain::variable)?;
-    plain.each(file, Section::Terms, Plain::term)?;
     Ok(plain)
 }
 

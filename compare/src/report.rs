@@ -11,13 +11,19 @@ pub struct Results {
     pub terms: Vec<Row>,
     pub doubling: Vec<Row>,
     pub writers: Vec<Row>,
+    pub readers: Vec<Row>,
 }
 
 const MISSING: &str = "The proved library was not there: Rust alone.";
+const NO_READER: &str = "The proved library had no reader: Rust alone.";
 
 impl Results {
     fn has_proved(&self) -> bool {
         self.checks.iter().any(|row| row.proved.is_some())
+    }
+
+    fn lacks_reader(&self) -> bool {
+        self.has_proved() && self.readers.iter().any(|row| row.proved.is_none())
     }
 
     /// The page for docs/.
@@ -48,7 +54,7 @@ impl Results {
              the time to copy the file's bytes: no checker can be faster than that.\n\n\
              ![time for each file, and time a step](benchmark.svg)\n\n## Checking\n\n",
         );
-        page.push_str(&table(&self.checks, "copy µs", true));
+        page.push_str(&table(&self.checks, Share::Step, "copy µs", true));
         page.push_str(
             "\n## Time a term as terms double\n\nA term on the one before it again and again, and a CONG step for each; nanoseconds of the whole check a term.\n\n",
         );
@@ -58,7 +64,12 @@ impl Results {
         );
         page.push_str(&share_table(&self.doubling, Share::Step, true));
         page.push_str("\n## Writing\n\nThe largest jobs with files of these sizes; \"clear\" is the time to clear the three areas.\n\n");
-        page.push_str(&table(&self.writers, "clear µs", true));
+        page.push_str(&table(&self.writers, Share::Step, "clear µs", true));
+        page.push_str("\n## Reading\n\nTexts of these sizes, with the terms of their jobs; \"clear\" as above.\n\n");
+        page.push_str(&table(&self.readers, Share::Term, "clear µs", true));
+        if self.lacks_reader() {
+            let _ = writeln!(page, "\n{NO_READER}");
+        }
         page.push_str(include_str!("bench_notes.md"));
         page
     }
@@ -69,13 +80,18 @@ impl Results {
         if !self.has_proved() {
             let _ = writeln!(text, "{MISSING}");
         }
-        text.push_str(&table(&self.checks, "copy µs", false));
+        text.push_str(&table(&self.checks, Share::Step, "copy µs", false));
         text.push('\n');
         text.push_str(&share_table(&self.terms, Share::Term, false));
         text.push('\n');
         text.push_str(&share_table(&self.doubling, Share::Step, false));
         text.push('\n');
-        text.push_str(&table(&self.writers, "clear µs", false));
+        text.push_str(&table(&self.writers, Share::Step, "clear µs", false));
+        text.push('\n');
+        text.push_str(&table(&self.readers, Share::Term, "clear µs", false));
+        if self.lacks_reader() {
+            let _ = writeln!(text, "{NO_READER}");
+        }
         for line in self.findings() {
             let _ = writeln!(text, "{line}");
         }
@@ -85,11 +101,13 @@ impl Results {
     /// What the run shows, where the proved library was there.
     fn findings(&self) -> Vec<String> {
         let mut lines = Vec::new();
-        let writers: Vec<f64> = self.writers.iter().filter_map(Row::ratio).collect();
-        if let Some((least, most)) = range(&writers) {
-            lines.push(format!(
-                "The proved writer takes {least:.2} to {most:.2} times as long as the Rust writer."
-            ));
+        for (rows, name) in [(&self.writers, "writer"), (&self.readers, "reader")] {
+            let ratios: Vec<f64> = rows.iter().filter_map(Row::ratio).collect();
+            if let Some((least, most)) = range(&ratios) {
+                lines.push(format!(
+                    "The proved {name} takes {least:.2} to {most:.2} times as long as the Rust {name}."
+                ));
+            }
         }
         for (share, rows, unit) in
             [(Share::Term, &self.terms, "term"), (Share::Step, &self.doubling, "step")]
@@ -117,15 +135,24 @@ fn range(values: &[f64]) -> Option<(f64, f64)> {
     Some((least, most))
 }
 
-fn table(rows: &[Row], floor: &str, markdown: bool) -> String {
+fn unit(share: Share) -> &'static str {
+    match share {
+        Share::Term => "terms",
+        Share::Step => "steps",
+    }
+}
+
+/// A row has its terms or its steps, as `share` says, and the `floor` of its time.
+fn table(rows: &[Row], share: Share, floor: &str, markdown: bool) -> String {
     let proved = rows.iter().any(|row| row.proved.is_some());
-    let mut head = vec!["file", "bytes", "steps", floor];
+    let first = if share == Share::Term { "text" } else { "file" };
+    let mut head = vec![first, "bytes", unit(share), floor];
     head.extend(if proved { vec!["proved µs", "Rust µs", "ratio"] } else { vec!["Rust µs"] });
     let body = rows.iter().map(|row| {
         let mut cells = vec![
             row.name.clone(),
             thousands(row.bytes),
-            thousands(row.steps as usize),
+            thousands(share.count(row) as usize),
             number(row.copy),
         ];
         if let (Some(time), Some(ratio)) = (row.proved, row.ratio()) {
@@ -140,8 +167,7 @@ fn table(rows: &[Row], floor: &str, markdown: bool) -> String {
 
 fn share_table(rows: &[Row], share: Share, markdown: bool) -> String {
     let proved = rows.iter().any(|row| row.proved.is_some());
-    let unit = if share == Share::Term { "terms" } else { "steps" };
-    let mut head = vec!["up to", unit, "bytes"];
+    let mut head = vec!["up to", unit(share), "bytes"];
     head.extend(if proved { vec!["proved ns", "Rust ns", "ratio"] } else { vec!["Rust ns"] });
     let body = rows.iter().map(|row| {
         let count = share.count(row) as usize;
@@ -284,9 +310,9 @@ mod tests {
             proved,
             rust: 2.0,
         };
-        let alone = table(&[row(None)], "copy µs", true);
+        let alone = table(&[row(None)], Share::Step, "copy µs", true);
         assert!(alone.starts_with("| file | bytes | steps | copy µs | Rust µs |\n"));
-        let both = table(&[row(Some(3.0))], "copy µs", true);
+        let both = table(&[row(Some(3.0))], Share::Step, "copy µs", true);
         assert!(both.contains("| ratio |\n") && both.contains("|  1.50 |\n"), "{both}");
     }
 }

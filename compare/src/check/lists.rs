@@ -26,6 +26,10 @@ const EMPTY: Link = Link { value: 0, next: 0, length: 0, smallest: u32::MAX, lar
 pub struct Classes(WordMap<2>);
 
 impl Classes {
+    pub fn with_capacity(lists: usize) -> Self {
+        Classes(WordMap::with_capacity(lists))
+    }
+
     /// The class of the list that has `value` before a list of class `tail`.
     pub fn class(&mut self, value: u32, tail: u32) -> u32 {
         let fresh = self.0.len() as u32 + 1;
@@ -51,7 +55,7 @@ impl Lists {
             if sound { Ok(()) } else { Err(Reason::Link) }
         })?;
 
-        let mut classes = Classes(WordMap::with_capacity(records.len()));
+        let mut classes = Classes::with_capacity(records.len());
         let mut links = vec![EMPTY; records.len() + 1];
         for (index, &[value, next]) in records.iter().enumerate().rev() {
             let number = index as u32 + 1;

@@ -17,7 +17,7 @@ mod word_map;
 
 pub use header::Header;
 pub use lists::Lists;
-pub use signature::{Signature, Sort};
+pub use signature::{Arguments, Profile, Signature, Sort};
 pub use terms::{Quantifier, Term, Terms};
 
 use crate::answer::{Claim, Reason, Refusal};
@@ -68,6 +68,39 @@ fn judge<R: Rules>(rules: R, file: &[u8], area: usize) -> Result<(Terms, Claim),
     Ok((tables.terms, claim))
 }
 
+/// What precedes terms, decoded and found well formed.
+#[derive(Debug)]
+pub struct Declarations {
+    pub header: Header,
+    pub words: Vec<u32>,
+    pub lists: Lists,
+    pub signature: Signature,
+    classes: Classes,
+}
+
+impl Declarations {
+    /// Refusals 1 to 6; `areas_suffice` tells whether the lent areas are long
+    /// enough for a file with these counts.
+    pub fn decode<R: Rules>(
+        rules: R,
+        file: &[u8],
+        areas_suffice: impl Fn(&Counts) -> bool,
+    ) -> Result<Self, Refusal> {
+        let header = Header::read(rules, file, areas_suffice)?;
+        let words = to_words(file);
+        let links = records(&words, &header.counts, Section::Links).as_chunks().0;
+        let symbols = records(&words, &header.counts, Section::Symbols).as_chunks().0;
+        let variables = records(&words, &header.counts, Section::Variables);
+        let (lists, classes) = Lists::decode(rules, links)?;
+        let signature = Signature::decode(rules, symbols, variables, &lists)?;
+        Ok(Declarations { header, words, lists, signature, classes })
+    }
+
+    pub fn section(&self, section: Section) -> &[u32] {
+        records(&self.words, &self.header.counts, section)
+    }
+}
+
 /// What precedes contexts and steps, decoded and found well formed.
 #[derive(Debug)]
 pub struct Tables {
@@ -87,6 +120,11 @@ pub struct Lookup {
 }
 
 impl Lookup {
+    /// Room for so many terms, and for links twice as many.
+    pub fn with_capacity(terms: usize) -> Self {
+        Lookup { classes: Classes::with_capacity(2 * terms), terms: WordMap::with_capacity(terms) }
+    }
+
     /// The class of the list of these values.
     pub fn class_of(&mut self, values: impl DoubleEndedIterator<Item = u32>) -> u32 {
         values.rev().fold(0, |tail, value| self.classes.class(value, tail))
@@ -102,21 +140,15 @@ impl Lookup {
 }
 
 impl Tables {
-    /// Refusals 1 to 9; `areas_suffice` tells whether the lent areas are long
-    /// enough for a file with these counts.
+    /// Refusals 1 to 9.
     pub fn decode<R: Rules>(
         rules: R,
         file: &[u8],
         areas_suffice: impl Fn(&Counts) -> bool,
     ) -> Result<Self, Refusal> {
-        let header = Header::read(rules, file, areas_suffice)?;
-        let words = to_words(file);
-        let links = records(&words, &header.counts, Section::Links).as_chunks().0;
-        let symbols = records(&words, &header.counts, Section::Symbols).as_chunks().0;
-        let variables = records(&words, &header.counts, Section::Variables);
+        let Declarations { header, words, lists, signature, classes } =
+            Declarations::decode(rules, file, areas_suffice)?;
         let terms = records(&words, &header.counts, Section::Terms).as_chunks().0;
-        let (lists, classes) = Lists::decode(rules, links)?;
-        let signature = Signature::decode(rules, symbols, variables, &lists)?;
         let (terms, numbers) = Terms::decode(rules, terms, &signature, &lists)?;
         let lookup = Lookup { classes, terms: numbers };
         Ok(Tables { header, words, lists, signature, terms, lookup })

@@ -268,13 +268,20 @@ pub fn of_size(bytes: usize) -> Vec<u32> {
     b.words(rule, 0)
 }
 
-/// A conjunction of `width` parts, as a job, with its builder and rule.
-fn conjunction(width: u32) -> (Vec<u32>, Builder, u32) {
+/// What a conjunction is made of: twelve items, a function f, a relation p, and the
+/// variables x and y.
+pub fn signature() -> (Builder, Vec<u32>, [u32; 4]) {
     let mut b = Builder::new(Rng::new(1), 0);
     let constants: Vec<u32> = (0..12).map(|_| b.symbol(ITEM, &[])).collect();
     let f = b.symbol(ITEM, &[ITEM]);
     let p = b.symbol(TRUTH, &[ITEM, ITEM]);
     let (x, y) = (b.variable(ITEM), b.variable(ITEM));
+    (b, constants, [f, p, x, y])
+}
+
+/// A conjunction of `width` parts, as a job, with its builder and rule.
+pub fn conjunction(width: u32) -> (Vec<u32>, Builder, u32) {
+    let (mut b, constants, [f, p, x, y]) = signature();
     let (x_term, y_term) = (b.variable_term(x), b.variable_term(y));
     let f_x = b.apply(f, &[x_term]);
     let p_x_y = b.apply(p, &[x_term, y_term]);

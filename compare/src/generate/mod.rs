@@ -7,7 +7,9 @@ pub mod examples;
 pub mod jobs;
 pub mod large;
 pub mod limits;
+pub mod printing;
 mod terms;
+pub mod texts;
 
 use crate::bundle::to_bytes;
 use crate::damage::{Draft, random_bytes, random_words};

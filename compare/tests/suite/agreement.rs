@@ -1,8 +1,9 @@
 //! The comparison on files and jobs: with the proved library and the programs where
 //! they are there, and with the plain readings always.
 
-use crate::{exact, exact_expand, plain, plain_expand};
+use crate::{exact, exact_expand, exact_read, plain, plain_expand, plain_read};
 use nezkaldo_compare::compare::{self, Checkers};
+use nezkaldo_compare::compare_reader::{self, Readers};
 use nezkaldo_compare::compare_writer::{self, Writers};
 use nezkaldo_compare::ffi::{self, Library};
 use nezkaldo_compare::programs::{self, Program};
@@ -11,6 +12,7 @@ use std::path::Path;
 const SEED: u64 = 20;
 const FILES: u64 = 20_000;
 const JOBS: u64 = 3_000;
+const TEXTS: u64 = 4_000;
 
 fn failures() -> Option<&'static Path> {
     Some(Path::new(concat!(env!("CARGO_MANIFEST_DIR"), "/failures")))
@@ -28,6 +30,13 @@ fn check_jobs(writers: Writers) {
     assert_eq!(report.unseen(1), [], "{report}");
 }
 
+fn check_texts(readers: Readers) {
+    let report = compare_reader::run(readers, SEED, TEXTS, failures()).unwrap();
+    assert!(report.agrees(), "{report}");
+    assert_eq!(report.unseen(1), [], "{report}");
+    assert!(report.values > TEXTS / 10, "{report}");
+}
+
 #[test]
 fn the_two_readings_agree_on_files() {
     check_files(Checkers::two(&plain, &exact));
@@ -40,6 +49,16 @@ fn the_two_readings_agree_on_jobs() {
         reference: &exact_expand,
         plain: None,
         program: None,
+        checkers: &[&plain, &exact],
+    });
+}
+
+#[test]
+fn the_two_readings_agree_on_texts() {
+    check_texts(Readers {
+        subject: None,
+        reference: &exact_read,
+        plain: Some(&plain_read),
         checkers: &[&plain, &exact],
     });
 }
@@ -60,7 +79,7 @@ fn the_proved_check_agrees() {
 
 #[test]
 fn the_proved_writer_agrees() {
-    let Some(Library { check, expand }) = ffi::library() else {
+    let Some(Library { check, expand, .. }) = ffi::library() else {
         eprintln!("no proved library in this build: not compared");
         return;
     };
@@ -77,6 +96,20 @@ fn the_proved_writer_agrees() {
     });
 }
 
+#[test]
+fn the_proved_reader_agrees() {
+    let Some(Library { check, read: Some(read), .. }) = ffi::library() else {
+        eprintln!("no proved reader in this build: not compared");
+        return;
+    };
+    check_texts(Readers {
+        subject: Some(read),
+        reference: &exact_read,
+        plain: Some(&plain_read),
+        checkers: &[check, &exact],
+    });
+}
+
 /// A run is repeatable: the same seed gives the same files.
 #[test]
 fn files_are_seeded() {
@@ -86,5 +119,10 @@ fn files_are_seeded() {
             nezkaldo_compare::generate::case(3, index),
         );
         assert_eq!(one.bytes, other.bytes);
+        let (one, other) = (
+            nezkaldo_compare::generate::texts::case(3, index),
+            nezkaldo_compare::generate::texts::case(3, index),
+        );
+        assert_eq!((one.declarations, one.text), (other.declarations, other.text));
     }
 }

@@ -4,13 +4,16 @@ mod agreement;
 mod examples;
 mod limits;
 mod parties;
+mod reader;
 mod teeth;
 mod worlds;
 mod writer;
 
 use nezkaldo_compare::answer::packed;
 use nezkaldo_compare::bundle::{Section, to_bytes};
-use nezkaldo_compare::{check, compare_writer, expand, naive, naive_expand};
+use nezkaldo_compare::{
+    check, compare_reader, compare_writer, expand, naive, naive_expand, naive_read, read,
+};
 
 /// The checker's answer in the library's form.
 pub fn exact(file: &[u8], free: &mut [u64]) -> u64 {
@@ -28,6 +31,26 @@ pub fn exact_expand(job: &[u8], out: &mut [u8], words: &mut [u32], sets: &mut [u
 
 pub fn plain_expand(job: &[u8], out: &mut [u8], words: &mut [u32], sets: &mut [u64]) -> u64 {
     compare_writer::packed(naive_expand::expand(job, out, words, sets))
+}
+
+pub fn exact_read(
+    declarations: &[u8],
+    text: &[u8],
+    out: &mut [u8],
+    words: &mut [u32],
+    sets: &mut [u64],
+) -> u64 {
+    compare_reader::packed(read::read(declarations, text, out, words, sets))
+}
+
+pub fn plain_read(
+    declarations: &[u8],
+    text: &[u8],
+    out: &mut [u8],
+    words: &mut [u32],
+    sets: &mut [u64],
+) -> u64 {
+    compare_reader::packed(naive_read::read(declarations, text, out, words, sets))
 }
 
 /// Number and record of the checker, which the plain reading shares; (0, 0) where

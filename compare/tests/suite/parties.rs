@@ -1,14 +1,15 @@
 //! The plain readings and the programs have a say of their own: one that differs
 //! from an otherwise exact comparison is noticed.
 
-use crate::{exact, exact_expand};
+use crate::{exact, exact_expand, exact_read};
 use nezkaldo_compare::answer::{Claim, Refusal, line};
 use nezkaldo_compare::check::check;
 use nezkaldo_compare::compare::{self, Checkers};
+use nezkaldo_compare::compare_reader::{self, Readers};
 use nezkaldo_compare::compare_writer::{self, Writers};
 use nezkaldo_compare::expand::written;
 use nezkaldo_compare::fault::Fault;
-use nezkaldo_compare::mutants::{broken_checker, broken_writer};
+use nezkaldo_compare::mutants::{broken_checker, broken_reader, broken_writer};
 use nezkaldo_compare::programs::{self, Program};
 use nezkaldo_compare::tally::Sample;
 use std::io::{self, ErrorKind};
@@ -153,6 +154,35 @@ fn another_plain_reading_is_noticed() {
         let report = compare_writer::run(writers, SEED, JOBS, None).unwrap();
         assert!(!report.agrees(), "{fault:?}");
         assert!(report.to_string().contains("the plain reading"), "{report}");
+    }
+}
+
+/// A reader that differs is noticed in the library's place and in the plain reading's;
+/// one that is wrong by itself is noticed by the formulas it was given.
+#[test]
+fn another_reader_is_noticed() {
+    let exact_one =
+        Readers { subject: None, reference: &exact_read, plain: None, checkers: &[&exact] };
+    let said = |readers: Readers| {
+        let report = compare_reader::run(readers, SEED, 1_000, None).unwrap();
+        report.differences.first().map(|difference| difference.text.clone())
+    };
+    assert_eq!(said(exact_one), None);
+    for fault in [Fault::ReadScratchKept, Fault::WordsMayNotGrow, Fault::LetsNotShared] {
+        let broken = broken_reader(fault);
+        let found = said(Readers { subject: Some(&broken), ..exact_one }).unwrap();
+        assert!(found.contains("the Rust reader"), "{fault:?}: {found}");
+        let found = said(Readers { plain: Some(&broken), ..exact_one }).unwrap();
+        assert!(found.contains("the plain reading"), "{fault:?}: {found}");
+    }
+    for (fault, text) in [
+        (Fault::NestedFromTheRight, "not the printed formula"),
+        (Fault::ApplicationsNotShared, "the job is refused 9"),
+        (Fault::CommentPassesReturn, "the text of a formula is refused 19"),
+    ] {
+        let broken = broken_reader(fault);
+        let found = said(Readers { reference: &broken, ..exact_one }).unwrap();
+        assert!(found.contains(text), "{fault:?}: {found}");
     }
 }
 

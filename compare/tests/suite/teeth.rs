@@ -1,11 +1,11 @@
 //! The comparison notices every single fault, by the ordinary files alone.
 
-use crate::{exact, exact_expand};
+use crate::{exact, exact_expand, exact_read};
 use nezkaldo_compare::compare::{self, Checkers};
 use nezkaldo_compare::eval::claim_holds;
 use nezkaldo_compare::fault::Fault;
 use nezkaldo_compare::generate::case;
-use nezkaldo_compare::mutants::{Verdict, broken_checker, try_checkers, try_writers};
+use nezkaldo_compare::mutants::{Verdict, broken_checker, try_checkers, try_readers, try_writers};
 use nezkaldo_compare::naive;
 use nezkaldo_compare::rng::Rng;
 
@@ -29,6 +29,11 @@ fn every_broken_checker_is_told_apart() {
 #[test]
 fn every_broken_writer_is_told_apart() {
     assert_all_told(&try_writers(&exact_expand, SEED, 3_000, true));
+}
+
+#[test]
+fn every_broken_reader_is_told_apart() {
+    assert_all_told(&try_readers(&exact_read, SEED, 6_000, true));
 }
 
 /// An exact copy is not told apart: no fault is no difference.

@@ -34,7 +34,8 @@ pub fn next_link(file: &[u8], b: Bundle, i: usize) -> usize
 // Whether two lists are the same, item by item.
 pub fn same_list(file: &[u8], b: Bundle, first: usize, second: usize) -> bool
     requires { ⌜ Whole (now file) b ⌝ }
-    ensures { λ r. ⌜ r ≡ sameList (items (bundleAt (now (file .entry)) b) first) (items (bundleAt (now (file .entry)) b) second) ⌝ }
+    ensures { λ r. ⌜ (let bundle = bundleAt (now (file .entry)) b in
+        r ≡ sameList (items bundle first) (items bundle second)) ⌝ }
 {
     let mut i = first_link(b, first);
     let mut j = first_link(b, second);

@@ -60,9 +60,9 @@ fn late_fault_in(
     images: &mut [u16],
     moved: &mut [u64],
 ) -> Fault
-    requires { ⌜ Whole (now file) b × Sorted (now file) b (now sorts) × FreeSets (now free) setWords (bundleAt (now file) b)
-        × (limits .variables * (b .contexts + 1) ≤ length (now images)) × (setWords * (b .contexts + 1) ≤ length (now moved))
-        × Images (bundleAt (now file) b) (now images) 1 × MovedSets (bundleAt (now file) b) (now moved) setWords 1 ⌝ }
+    requires { ⌜ (let bundle = bundleAt (now file) b in
+        Whole (now file) b × Sorted (now file) b (now sorts) × FreeSets (now free) setWords bundle × (limits .variables * (b .contexts + 1) ≤ length (now
+        images)) × (setWords * (b .contexts + 1) ≤ length (now moved)) × Images bundle (now images) 1 × MovedSets bundle (now moved) setWords 1) ⌝ }
     ensures { λ r. ⌜ r ≡ lateFault (bundleAt (now (file .entry)) b) ⌝ }
 {
     let in_contexts = contexts::contexts::contexts_fault(
@@ -110,7 +110,8 @@ fn late_fault(file: &[u8], b: Bundle, sorts: &[usize], free: &[u64]) -> Fault
 // What is wrong past the header, where the sorts of all terms are noted; number 0 where nothing is: the area then holds the free sets.
 fn sorted_fault(file: &[u8], b: Bundle, sorts: &[usize], free: &mut [u64]) -> Fault
     requires { ⌜ Whole (now file) b × Sorted (now file) b (now sorts) × (setWords * b .terms ≤ length (now free)) ⌝ }
-    ensures { λ r. ⌜ r ≡ orNext (sectionsFault (bundleAt (now (file .entry)) b)) (lateFault (bundleAt (now (file .entry)) b)) ⌝ }
+    ensures { λ r. ⌜ (let bundle = bundleAt (now (file .entry)) b in
+        r ≡ orNext (sectionsFault bundle) (lateFault bundle)) ⌝ }
     ensures { λ r. ⌜ (r .number ≡ 0 → now (free .exit) ≡ freeArea (bundleAt (now (file .entry)) b) setWords (length (now (free .entry)))) ⌝ }
 {
     let early = terms::sections_fault(file, b, sorts);

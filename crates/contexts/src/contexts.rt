@@ -23,7 +23,8 @@ use logic::Fault;
 use logic::kinds::FIXES;
 use logic::kinds::REPLACES;
 use logic::no_fault;
-use sorting::sorts::lists_agree;
+use sorting::sorts::some_different;
+use sorting::sorts::variables_fit;
 
 // 10: whether the kind of context i is one, its unused field is zero, its lists agree, and it refers to variables, terms and a lower context.
 fn context_refers(file: &[u8], b: Bundle, sorts: &[usize], i: usize) -> bool
@@ -42,8 +43,14 @@ fn context_refers(file: &[u8], b: Bundle, sorts: &[usize], i: usize) -> bool
     if kind == REPLACES {
         let replaced = all_numbers(file, b, first, variables);
         let terms = all_numbers(file, b, second, b.terms);
-        let agree = lists_agree(file, b, sorts, first, second);
-        return (first <= links) & replaced & (second <= links) & terms & agree & (parent < i);
+        let distinct = some_different(file, b, first);
+        let fit = variables_fit(file, b, sorts, first, second);
+        return (first <= links)
+            & replaced
+            & (second <= links)
+            & terms
+            & (distinct & fit)
+            & (parent < i);
     }
     false
 }
@@ -58,8 +65,10 @@ fn all_settled(
     context: usize,
     terms: usize,
 ) -> bool
-    requires { ⌜ Whole (now file) b × FreeSets (now area) n (bundleAt (now file) b) × MovedSets (bundleAt (now file) b) (now moved) n (context + 1) ⌝ }
-    ensures { λ r. ⌜ r ≡ each (settled (bundleAt (now (file .entry)) b) context) (items (bundleAt (now (file .entry)) b) terms) ⌝ }
+    requires { ⌜ (let bundle = bundleAt (now file) b in
+        Whole (now file) b × FreeSets (now area) n bundle × MovedSets bundle (now moved) n (context + 1)) ⌝ }
+    ensures { λ r. ⌜ (let bundle = bundleAt (now (file .entry)) b in
+        r ≡ each (settled bundle context) (items bundle terms)) ⌝ }
 {
     let mut i = first_link(b, terms);
     while i != 0 {
@@ -81,8 +90,8 @@ fn replacements_settled(
     moved: &[u64],
     i: usize,
 ) -> bool
-    requires { ⌜ Whole (now file) b × FreeSets (now area) n (bundleAt (now file) b) × MovedSets (bundleAt (now file) b) (now moved) n i
-        × (contextRefers (bundleAt (now file) b) i ≡ true) ⌝ }
+    requires { ⌜ (let bundle = bundleAt (now file) b in
+        Whole (now file) b × FreeSets (now area) n bundle × MovedSets bundle (now moved) n i × (contextRefers bundle i ≡ true)) ⌝ }
     ensures { λ r. ⌜ r ≡ replacementsSettled (bundleAt (now (file .entry)) b) i ⌝ }
 {
     let kind = context_field(file, b, i, 0);
@@ -104,8 +113,8 @@ fn context_fault(
     moved: &[u64],
     i: usize,
 ) -> usize
-    requires { ⌜ Whole (now file) b × Sorted (now file) b (now sorts) × FreeSets (now area) n (bundleAt (now file) b)
-        × MovedSets (bundleAt (now file) b) (now moved) n i ⌝ }
+    requires { ⌜ (let bundle = bundleAt (now file) b in
+        Whole (now file) b × Sorted (now file) b (now sorts) × FreeSets (now area) n bundle × MovedSets bundle (now moved) n i) ⌝ }
     ensures { λ r. ⌜ r ≡ contextFault (bundleAt (now (file .entry)) b) i ⌝ }
 {
     if !context_refers(file, b, sorts, i) {
@@ -127,12 +136,12 @@ pub fn contexts_fault(
     images: &mut [u16],
     moved: &mut [u64],
 ) -> Fault
-    requires { ⌜ Whole (now file) b × Sorted (now file) b (now sorts) × FreeSets (now area) n (bundleAt (now file) b) × (b .variables ≤ 64 * n)
-        × (limits .variables * (b .contexts + 1) ≤ length (now images)) × (n * (b .contexts + 1) ≤ length (now moved))
-        × Images (bundleAt (now file) b) (now images) 1 × MovedSets (bundleAt (now file) b) (now moved) n 1 ⌝ }
+    requires { ⌜ (let bundle = bundleAt (now file) b in
+        Whole (now file) b × Sorted (now file) b (now sorts) × FreeSets (now area) n bundle × (b .variables ≤ 64 * n) × (limits .variables * (b .contexts + 1)
+        ≤ length (now images)) × (n * (b .contexts + 1) ≤ length (now moved)) × Images bundle (now images) 1 × MovedSets bundle (now moved) n 1) ⌝ }
     ensures { λ r. ⌜ r ≡ contextsFault (bundleAt (now (file .entry)) b) ⌝ }
-    ensures { λ r. ⌜ (r .number ≡ 0 → Images (bundleAt (now (file .entry)) b) (now (images .exit)) (b .contexts + 1)
-        × MovedSets (bundleAt (now (file .entry)) b) (now (moved .exit)) n (b .contexts + 1)) ⌝ }
+    ensures { λ r. ⌜ (let bundle = bundleAt (now (file .entry)) b in
+        (r .number ≡ 0 → Images bundle (now (images .exit)) (b .contexts + 1) × MovedSets bundle (now (moved .exit)) n (b .contexts + 1))) ⌝ }
 {
     let contexts = b.contexts;
     let mut i = 1;

@@ -33,7 +33,8 @@ fn is_sort(s: usize) -> bool
 // Whether each item of a list is a sort.
 fn all_sorts(file: &[u8], b: Bundle, list: usize) -> bool
     requires { ⌜ Whole (now file) b ⌝ }
-    ensures { λ r. ⌜ r ≡ each (isSort (bundleAt (now (file .entry)) b)) (items (bundleAt (now (file .entry)) b) list) ⌝ }
+    ensures { λ r. ⌜ (let bundle = bundleAt (now (file .entry)) b in
+        r ≡ each (isSort bundle) (items bundle list)) ⌝ }
 {
     let mut i = first_link(b, list);
     while i != 0 {

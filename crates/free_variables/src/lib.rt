@@ -43,9 +43,8 @@ fn remove_list(file: &[u8], b: Bundle, area: &mut [u64], n: usize, at: usize, li
 // Writes the free set of term t, but for the terms of its list, from the sets of the terms below it. Gives that list, 0 where it has none.
 fn free_own(file: &[u8], b: Bundle, area: &mut [u64], n: usize, t: usize, at: usize) -> usize
     requires { ⌜ Whole (now file) b × SetRoom (now area) n t at × (b .variables ≤ 64 * n) ⌝ }
-    ensures { λ r. ⌜ (r ≡ listOf (termOf (bundleAt (now (file .entry)) b) t))
-        × Put (now (area .entry)) (now (area .exit)) n at
-        (ownBy (bundleAt (now (file .entry)) b) (setBelow (now (area .entry)) n t) (termOf (bundleAt (now (file .entry)) b) t)) ⌝ }
+    ensures { λ r. ⌜ (let bundle = bundleAt (now (file .entry)) b in
+        (r ≡ listOf (termOf bundle t)) × Put (now (area .entry)) (now (area .exit)) n at (ownBy bundle (setBelow (now (area .entry)) n t) (termOf bundle t))) ⌝ }
 {
     let kind = term_field(file, b, t, 0);
     let first = term_field(file, b, t, 1);
@@ -85,10 +84,10 @@ fn free_term(
     lists: &mut [u64],
     marks: &mut [u16],
 )
-    requires { ⌜ Whole (now file) b × SetRoom (now area) n t at × (b .variables ≤ 64 * n) × SetsBelow (now area) n t (bundleAt (now file) b)
-        × Unions (bundleAt (now file) b) n t (now lists) (now marks) ⌝ }
-    ensures { λ _. ⌜ Put (now (area .entry)) (now (area .exit)) n at
-        (freeBy (bundleAt (now (file .entry)) b) (setBelow (now (area .entry)) n t) (termOf (bundleAt (now (file .entry)) b) t)) ⌝ }
+    requires { ⌜ (let bundle = bundleAt (now file) b in
+        Whole (now file) b × SetRoom (now area) n t at × (b .variables ≤ 64 * n) × SetsBelow (now area) n t bundle × Unions bundle n t (now lists) (now marks)) ⌝ }
+    ensures { λ _. ⌜ (let bundle = bundleAt (now (file .entry)) b in
+        Put (now (area .entry)) (now (area .exit)) n at (freeBy bundle (setBelow (now (area .entry)) n t) (termOf bundle t))) ⌝ }
     ensures { λ _. ⌜ Unions (bundleAt (now (file .entry)) b) n t (now (lists .exit)) (now (marks .exit)) ⌝ }
 {
     let list = free_own(file, b, area, n, t, at);

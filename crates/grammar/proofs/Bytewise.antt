@@ -2,13 +2,13 @@
 --     feed-append, steps-append     one run after another
 --     refused        where no word that is due starts so, nothing is read
 --     agrees         THE LAW: bytes and lexemes give the same
-use Prim.Native.Nat.{ℕ, suc}
-use mathlib.Core.Path.{_≡_, refl, sym, ap, _∙_}
-use mathlib.Core.Bool.{Bool, true, false, cond, _||_, true≢false, false≢true}
+use Prim.Native.Nat.{ℕ}
+use mathlib.Core.Path.{_≡_, refl, sym, _∙_}
+use mathlib.Core.Bool.{Bool, true, false, cond, true≢false}
 use mathlib.Core.List.{List, [], _∷_, _++_}
 use mathlib.Core.Option.{Option, none, some}
 use Rattle.grammar.specs.Bytes.{Class, space, lineEnd, semicolon, opening, closing, digit, symbol, other, classOf, wordOf, bytes}
-use Rattle.grammar.specs.Grammar.{Lexeme, opens, closes, word, stray, Mode, between, comment, within, bracket, ends, outside, onwards, last, lexemesFrom}
+use Rattle.grammar.specs.Grammar.{Lexeme, word, Mode, between, comment, within, ends, onwards, last, lexemesFrom}
 use Rattle.grammar.specs.Parser.{Due, formula, formulas, inside, opener, closer, sorted, sorteds, bound, bounds, variable, sortName, Fill}
 use Rattle.grammar.specs.Parser.{Stack, andThen, advance, takes, feed, complete, run, starts, mayGrow, viable, State, enter, step, steps}
 use Rattle.grammar.specs.Parser.{finish}

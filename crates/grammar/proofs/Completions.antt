@@ -1,18 +1,17 @@
 -- Whatever is due can be supplied: every state of the parser is on the way to a text in the grammar.
 --     supplied       from between lexemes
 --     goes-on        THE LAW: from every viable state
-use Prim.Native.Nat.{ℕ, suc}
-use mathlib.Core.Path.{_≡_, refl, sym, ap, ap₂, _∙_}
-use mathlib.Core.Bool.{Bool, true, false, cond, _&&_, _||_, true≢false, false≢true}
+use Prim.Native.Nat.{ℕ}
+use mathlib.Core.Path.{_≡_, refl, ap, ap₂, _∙_}
+use mathlib.Core.Bool.{Bool, true, false, _&&_, _||_, false≢true}
 use mathlib.Core.List.{List, [], _∷_, _++_, append-assoc, append-nil}
-use mathlib.Core.Option.{Option, none, some}
+use mathlib.Core.Option.{some}
 use lib.Dec.{eqb}
 use borrow.Author.Tests.{eqb-true}
-use Rattle.logic.specs.Terms.{Binder, forAll, exists}
-use Rattle.grammar.specs.Bytes.{Class, space, lineEnd, semicolon, opening, closing, digit, symbol, other, SortWord, bool, item, classOf, wordOf}
-use Rattle.grammar.specs.Bytes.{bytes, Word, sort, name, wordAmong, twelve}
-use Rattle.grammar.specs.Grammar.{declares, Formula, called, denies, noFormula, noBinding, Lexeme, opens, closes, word, stray, Mode, between}
-use Rattle.grammar.specs.Grammar.{comment, within, bracket, ends, outside, onwards, last, lexemesFrom, spell, spellVariable, spellVariables}
+use Rattle.grammar.specs.Bytes.{symbol, SortWord, bool, item, classOf, wordOf}
+use Rattle.grammar.specs.Bytes.{bytes, sort, name}
+use Rattle.grammar.specs.Grammar.{declares, called, denies, noFormula, noBinding, word, Mode, between}
+use Rattle.grammar.specs.Grammar.{comment, within, bracket, ends, outside, onwards, last, lexemesFrom}
 use Rattle.grammar.specs.Parser.{Due, formula, formulas, inside, opener, closer, sorted, sorteds, bound, bounds, variable, sortName, One, Fill}
 use Rattle.grammar.specs.Parser.{Stack, andThen, advance, takes, push, feed, complete, run, starts, mayGrow, viable, onFormula, onFormulas}
 use Rattle.grammar.specs.Parser.{onInside, onVariable, onSort}

@@ -3,12 +3,12 @@
 use Prim.Native.Nat.{ℕ, suc}
 use mathlib.Core.Path.{_≡_, refl, sym, ap, _∙_}
 use mathlib.Core.Bool.{Bool, true, false, cond}
-use mathlib.Core.List.{List, [], _∷_, _++_}
+use mathlib.Core.List.{List, [], _∷_}
 use mathlib.Core.Option.{Option, none, some}
 use Rattle.grammar.specs.Bytes.{classOf}
 use Rattle.grammar.specs.Grammar.{Formula, Lexeme, Mode, ends, onwards, last, InGrammar, Unread}
-use Rattle.grammar.specs.Parser.{Due, Fill, Move, Stack, split, andThen, push, advance, takes, feed, complete, run, viable, State, enter, step}
-use Rattle.grammar.specs.Parser.{finish, Outcome, read, unread, onRead, onStep, parseFrom, start, parse, stackOf, startOfScan, judged}
+use Rattle.grammar.specs.Parser.{Due, Fill, Move, Stack, andThen, push, advance, takes, feed, complete, run, viable, State, enter, step}
+use Rattle.grammar.specs.Parser.{finish, Outcome, read, unread, onRead, onStep, parseFrom, start, parse, startOfScan, judged}
 use Rattle.grammar.specs.Statements.{JudgedExactly}
 use Rattle.grammar.proofs.Exact.{read-exactly, unread-exactly, apart}
 

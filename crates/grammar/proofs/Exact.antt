@@ -1,23 +1,23 @@
 -- THE THEOREMS: the parser reads exactly the texts in the grammar, and its byte of "unread" is the one that Req 01 names.
 --     one-reading, read-exactly, unread-exactly
-use Prim.Native.Nat.{ℕ, zero, suc, _+_, _≤_, _<_}
+use Prim.Native.Nat.{ℕ, suc, _+_, _≤_, _<_}
 use native.Mathlib.Omega.{arith}
 use native.Mathlib.Decide.{decLt}
-use mathlib.Core.Path.{_≡_, refl, sym, ap, _∙_, subst}
-use mathlib.Core.Bool.{Bool, true, false, cond, true≢false, false≢true}
+use mathlib.Core.Path.{_≡_, refl, sym, ap, _∙_}
+use mathlib.Core.Bool.{Bool, true, false, cond, true≢false}
 use mathlib.Core.List.{List, [], _∷_, _++_, append-assoc, append-nil}
 use mathlib.Core.Option.{Option, none, some, Option·none-ne-some, Option·some-injective}
 use lib.ListN.{length, take, drop, take-append-drop}
 use lib.Seq.{take-take}
 use Rattle.grammar.specs.Bytes.{classOf}
-use Rattle.grammar.specs.Grammar.{Formula, spelling, Mode, between, ends, onwards, lexemes, lexemesFrom, Reads, InGrammar, Continues, Unread}
+use Rattle.grammar.specs.Grammar.{Formula, Mode, ends, onwards, lexemes, Reads, InGrammar, Continues, Unread}
 use Rattle.grammar.specs.Grammar.{breaks, stops}
-use Rattle.grammar.specs.Parser.{Due, Stack, andThen, feed, run, viable, State, enter, step, steps, finish, Outcome, read, unread, onRead}
+use Rattle.grammar.specs.Parser.{Stack, andThen, feed, run, viable, State, enter, step, steps, finish, Outcome, read, unread, onRead}
 use Rattle.grammar.specs.Parser.{onStep, parseFrom, start, parse}
-use Rattle.grammar.specs.Statements.{SpellingInjective, OneReading, ReadExactly, UnreadExactly}
+use Rattle.grammar.specs.Statements.{OneReading, ReadExactly, UnreadExactly}
 use Rattle.grammar.proofs.Machine.{reads-spelling, spelling-injective, spelled}
 use Rattle.grammar.proofs.Bytewise.{steps-append, agrees}
-use Rattle.grammar.proofs.Completions.{GoesOn, goes-on}
+use Rattle.grammar.proofs.Completions.{goes-on}
 
 pub one-reading : OneReading
 one-reading text φ ψ r s = spelling-injective φ ψ (sym r ∙ s)

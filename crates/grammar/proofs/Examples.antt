@@ -1,5 +1,5 @@
 -- The examples are right, by computation.
-use mathlib.Core.Path.{_≡_, refl}
+use mathlib.Core.Path.{refl}
 use Rattle.grammar.specs.Bytes.{bytes}
 use Rattle.grammar.specs.Grammar.{lexemes}
 use Rattle.grammar.specs.Parser.{judged}

@@ -2,7 +2,6 @@
 --     moves       a move puts one lexeme before what its parts spell
 --     sound       what the machine reads is spelled by the lexemes
 --     reads       THE THEOREM: it reads every formula from its spelling; so spellings are different
-use Prim.Native.Nat.{ℕ}
 use mathlib.Core.Path.{_≡_, refl, sym, ap, _∙_}
 use mathlib.Core.List.{List, [], _∷_, _++_}
 use mathlib.Core.Option.{Option, none, some, Option·none-ne-some, Option·some-injective}

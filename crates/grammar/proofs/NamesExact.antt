@@ -1,22 +1,19 @@
 -- THE THEOREMS of names.
 --     resolved-exactly, unread-first, unknown-first
-use Prim.Native.Nat.{ℕ, zero, suc, _+_, _-_, _≤_, _<_}
+use Prim.Native.Nat.{ℕ, _<_}
 use native.Mathlib.Omega.{arith}
 use mathlib.Core.Path.{_≡_, refl, sym, ap, _∙_}
-use mathlib.Core.Bool.{Bool, true, false, cond, _&&_, true≢false, false≢true}
-use mathlib.Core.List.{List, [], _∷_, _++_, append-assoc, append-nil}
-use mathlib.Core.Option.{Option, none, some, Option·none-ne-some, Option·some-injective}
-use lib.ListN.{length, take, drop, length-append}
-use Rattle.grammar.specs.Bytes.{Class, space, lineEnd, semicolon, opening, closing, digit, symbol, other, Word, constant, negation, connective}
-use Rattle.grammar.specs.Bytes.{quantifier, letting, sort, name, classOf, wordOf}
-use Rattle.grammar.specs.Grammar.{Formula, Mode, between, comment, within, outside, onwards, ends, lexemes, lexemesFrom, Reads, InGrammar}
-use Rattle.grammar.specs.Grammar.{Continues, Unread, breaks, stops}
-use Rattle.grammar.specs.Parser.{Due, Fill, Stack, andThen, feed, run, viable, State, enter, step, steps, finish, Outcome, read, unread, onRead}
-use Rattle.grammar.specs.Parser.{onStep, parseFrom, start, parse}
-use Rattle.grammar.specs.Names.{Place, Name, names, nameAt, wordAt, metAt, Located, locate, calledOf, endsAt, endedBy, whileSteps, metFrom, met}
-use Rattle.grammar.specs.Names.{Every, EndsRun, StandsIn, firstUnknown, allKnown, Resolved, resolved, unreadAt, unknownAt, otherwise, orUnknown}
+use mathlib.Core.Bool.{Bool, true, false, cond, _&&_, false≢true}
+use mathlib.Core.List.{List, [], _∷_}
+use mathlib.Core.Option.{Option, none, some, Option·none-ne-some}
+use Rattle.grammar.specs.Grammar.{Formula, Reads}
+use Rattle.grammar.specs.Grammar.{Unread}
+use Rattle.grammar.specs.Parser.{Outcome, read, unread}
+use Rattle.grammar.specs.Parser.{parse}
+use Rattle.grammar.specs.Names.{Name, names, Located, calledOf, met}
+use Rattle.grammar.specs.Names.{firstUnknown, allKnown, Resolved, resolved, unreadAt, unknownAt, otherwise, orUnknown}
 use Rattle.grammar.specs.Names.{resolve}
-use Rattle.grammar.specs.Statements.{NamesMet, NamesStand, NamesBefore, NamesDue, ResolvedExactly, UnreadFirst, UnknownFirst}
+use Rattle.grammar.specs.Statements.{ResolvedExactly, UnreadFirst, UnknownFirst}
 use Rattle.grammar.proofs.Exact.{read-exactly, unread-exactly}
 use Rattle.grammar.proofs.NamesMet.{names-met}
 

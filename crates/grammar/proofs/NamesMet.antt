@@ -4,20 +4,20 @@
 --     met-agrees      THE LAW: bytes and lexemes give the same names
 use Prim.Native.Nat.{ℕ, suc, _-_}
 use mathlib.Core.Path.{_≡_, refl, sym, ap, ap₂, _∙_}
-use mathlib.Core.Bool.{Bool, true, false, cond, true≢false, false≢true}
+use mathlib.Core.Bool.{Bool, true, false, cond, true≢false}
 use mathlib.Core.List.{List, [], _∷_, _++_, append-assoc, append-nil}
 use mathlib.Core.Option.{Option, none, some}
 use lib.ListN.{length}
 use Rattle.grammar.specs.Bytes.{Class, space, lineEnd, semicolon, opening, closing, digit, symbol, other, Word, constant, negation, connective}
-use Rattle.grammar.specs.Bytes.{quantifier, letting, sort, name, classOf, wordOf, bytes}
+use Rattle.grammar.specs.Bytes.{quantifier, letting, sort, name, classOf, wordOf}
 use Rattle.grammar.specs.Grammar.{SortedVariable, declares, Formula, called, truth, bracketed, Bracketed, denies, connects, applies, quantifies}
 use Rattle.grammar.specs.Grammar.{lets, Formulas, noFormula, andFormula, Bindings, noBinding, andBinding, Lexeme, opens, closes, word, stray}
 use Rattle.grammar.specs.Grammar.{spell, spellVariable, spellVariables, spellBracketed, spellFormulas, spellBindings, spelling, Mode, between}
-use Rattle.grammar.specs.Grammar.{comment, within, bracket, ends, outside, onwards, last, lexemesFrom, lexemes, Reads}
+use Rattle.grammar.specs.Grammar.{comment, within, bracket, ends, onwards, last, lexemesFrom, lexemes, Reads}
 use Rattle.grammar.specs.Parser.{Due, formula, formulas, inside, opener, closer, sorted, sorteds, bound, bounds, variable, sortName, One, Fill}
-use Rattle.grammar.specs.Parser.{Stack, andThen, push, advance, onFormula, onFormulas, onInside, onVariable, onSort, takes, feed, complete, run}
-use Rattle.grammar.specs.Parser.{mayGrow, viable, State, enter, step, steps, finish, start}
-use Rattle.grammar.specs.Names.{Place, either, symbolOnly, variableOnly, Name, variableNames, names, namesInside, namesOfAll, namesBound}
+use Rattle.grammar.specs.Parser.{Stack, andThen, push, advance, onFormula, onFormulas, onInside, onVariable, onSort, takes, feed}
+use Rattle.grammar.specs.Parser.{mayGrow, viable, State, enter, step, start}
+use Rattle.grammar.specs.Names.{symbolOnly, variableOnly, Name, variableNames, names, namesInside, namesOfAll, namesBound}
 use Rattle.grammar.specs.Names.{nameAt, wordAt, metAt, Located, locate, calledOf, endsAt, endedBy, whileSteps, metFrom, met}
 use Rattle.grammar.proofs.Words.{grown}
 use Rattle.grammar.proofs.Bytewise.{refuses}
@@ -74,7 +74,7 @@ module _ {A : Type 0} where
   first-traced (bracketed b) ls σ k = refl
 
   mutual
-    unfolding spell spellVariable spellVariables trace onStack metIn metAt wordAt nameAt takes andThen push advance onFormula onFormulas onInside onVariable onSort names
+    unfolding spell spellVariables trace onStack metIn metAt wordAt nameAt takes andThen push advance onFormula onFormulas onInside onVariable onSort names
         variableNames
 
     pub traces : (φ : Formula) (ls : List Lexeme) (σ : List Due) (k : Fill (formula ∷ σ) → A)

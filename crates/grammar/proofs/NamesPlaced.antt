@@ -2,27 +2,26 @@
 --     names-stand     whole, from their first bytes on
 --     names-before    before the byte where the text is unread
 --     names-due       as the first names of a formula that the text can still become
-use Prim.Native.Nat.{ℕ, zero, suc, _+_, _-_, _≤_, _<_}
+use Prim.Native.Nat.{ℕ, suc, _+_, _-_, _≤_, _<_}
 use native.Mathlib.Omega.{arith}
-use mathlib.Core.Path.{_≡_, refl, sym, ap, ap₂, _∙_}
-use mathlib.Core.Bool.{Bool, true, false, cond, true≢false, false≢true}
+use mathlib.Core.Path.{_≡_, refl, sym, ap, _∙_}
+use mathlib.Core.Bool.{Bool, true, false, cond, false≢true}
 use mathlib.Core.List.{List, [], _∷_, _++_, append-assoc, append-nil}
 use mathlib.Core.Logic.{_⊎_, inl, inr}
 use mathlib.Core.Option.{Option, none, some, Option·none-ne-some, Option·some-injective}
-use lib.ListN.{length, take, drop, length-append}
+use lib.ListN.{length, take, length-append}
 use Rattle.grammar.specs.Bytes.{Class, space, lineEnd, semicolon, opening, closing, digit, symbol, other, Word, constant, negation, connective}
-use Rattle.grammar.specs.Bytes.{quantifier, letting, sort, name, Reserved, wordAmong, twelve, classOf, wordOf}
-use Rattle.grammar.specs.Grammar.{Formula, word, bracket, Mode, between, comment, within, outside, onwards, ends, lexemes, lexemesFrom, Reads}
-use Rattle.grammar.specs.Grammar.{InGrammar, Continues, Unread, breaks, stops}
+use Rattle.grammar.specs.Bytes.{quantifier, letting, sort, name, twelve, classOf, wordOf}
+use Rattle.grammar.specs.Grammar.{word, bracket, Mode, between, comment, within, outside, onwards, ends, lexemesFrom}
 use Rattle.grammar.specs.Parser.{Due, formula, formulas, inside, opener, closer, sorted, sorteds, bound, bounds, variable, sortName, Fill}
 use Rattle.grammar.specs.Parser.{Stack, Move, advance, onFormula, onFormulas, onInside, onVariable, push, takes, mayGrow, andThen, feed, run}
-use Rattle.grammar.specs.Parser.{viable, State, enter, step, steps, finish, Outcome, read, unread, onRead, onStep, parseFrom, start, parse}
-use Rattle.grammar.specs.Names.{Place, Name, names, nameAt, wordAt, metAt, Located, locate, calledOf, endsAt, endedBy, whileSteps, metFrom, met}
+use Rattle.grammar.specs.Parser.{viable, State, enter, step, steps, finish, unread, onRead, onStep, parseFrom, start, parse}
+use Rattle.grammar.specs.Names.{Place, Name, nameAt, wordAt, metAt, Located, locate, calledOf, endsAt, endedBy, whileSteps, metFrom, met}
 use Rattle.grammar.specs.Names.{Every, inRun, EndsRun, StandsIn}
 use Rattle.grammar.specs.Statements.{NamesStand, NamesBefore, NamesDue}
-use Rattle.grammar.proofs.Exact.{read-exactly, unread-exactly, accepted, apart, Viable, stays}
+use Rattle.grammar.proofs.Exact.{unread-exactly, accepted, apart, Viable, stays}
 use Rattle.grammar.proofs.Bytewise.{agrees}
-use Rattle.grammar.proofs.Completions.{GoesOn, goes-on, supplied}
+use Rattle.grammar.proofs.Completions.{goes-on, supplied}
 use Rattle.grammar.proofs.NamesMet.{called-append, names-met}
 use Rattle.grammar.proofs.Words.{among}
 

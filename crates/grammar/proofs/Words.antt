@@ -2,17 +2,16 @@
 --     among          what holds of a name and of each reserved word that is spelled so holds of the word
 --     grows-name     a run that ends in '~' is a name
 --     not-sort       a run that starts neither "Bool" nor "Item" is no sort
-use Prim.Native.Nat.{ℕ, suc}
-use mathlib.Core.Path.{_≡_, refl, sym, ap, _∙_}
-use mathlib.Core.Bool.{Bool, true, false, cond, not, _&&_, _||_, true≢false, false≢true}
+use Prim.Native.Nat.{ℕ}
+use mathlib.Core.Path.{_≡_, refl, sym, _∙_}
+use mathlib.Core.Bool.{Bool, true, false, cond, _&&_, _||_, true≢false, false≢true}
 use mathlib.Core.List.{List, [], _∷_, _++_}
-use mathlib.Core.Option.{Option, none, some}
+use mathlib.Core.Option.{none}
 use lib.Dec.{eqb}
-use borrow.Author.Tests.{eqb-true, eq-eqb}
 use Rattle.bundle.specs.Lists.{sameList, has}
 use Rattle.grammar.specs.Bytes.{bytes, Word, Reserved, name, twelve, wordAmong, wordOf}
-use Rattle.grammar.specs.Parser.{Due, formula, formulas, inside, opener, closer, sorted, sorteds, bound, bounds, variable, sortName, Fill}
-use Rattle.grammar.specs.Parser.{onSort, starts, mayGrow, takes, advance, andThen}
+use Rattle.grammar.specs.Parser.{Due, formula, formulas, inside, opener, closer, sorted, sorteds, bound, bounds, variable, sortName}
+use Rattle.grammar.specs.Parser.{onSort, starts, mayGrow}
 
 abbrev pub Each : (Reserved → Type 0) → List Reserved → Type 0
 Each P [] = Unit {0}

@@ -6,11 +6,10 @@ use mathlib.Core.Bool.{Bool, true, false, cond, _&&_}
 use mathlib.Core.List.{List, [], _∷_, _++_}
 use mathlib.Core.Option.{Option, none, some}
 use lib.ListN.{length}
-use Rattle.logic.specs.Terms.{Binder}
 use Rattle.grammar.specs.Bytes.{Class, space, lineEnd, semicolon, opening, closing, digit, symbol, other, Word, constant, negation, connective}
 use Rattle.grammar.specs.Bytes.{quantifier, letting, sort, name, classOf, wordOf}
 use Rattle.grammar.specs.Grammar.{SortedVariable, declares, Formula, called, truth, bracketed, Bracketed, denies, connects, applies, quantifies}
-use Rattle.grammar.specs.Grammar.{lets, Formulas, noFormula, andFormula, Bindings, noBinding, andBinding, Lexeme, opens, closes, word, stray}
+use Rattle.grammar.specs.Grammar.{lets, Formulas, noFormula, andFormula, Bindings, noBinding, andBinding}
 use Rattle.grammar.specs.Grammar.{Mode, between, comment, within}
 use Rattle.grammar.specs.Parser.{Due, formula, formulas, inside, opener, closer, sorted, sorteds, bound, bounds, variable, sortName, State}
 use Rattle.grammar.specs.Parser.{step, Outcome, read, unread, start, parse}

@@ -4,8 +4,7 @@ use mathlib.Core.Bool.{Bool, true, false, cond, _&&_, _||_}
 use mathlib.Core.List.{List, [], _∷_, _++_}
 use mathlib.Core.Option.{Option, none, some}
 use lib.Dec.{eqb}
-use Rattle.logic.specs.Terms.{Binder}
-use Rattle.grammar.specs.Bytes.{SortWord, Connective, Word, constant, negation, connective, quantifier, letting, sort, name, classOf, wordOf, bytes}
+use Rattle.grammar.specs.Bytes.{SortWord, Word, constant, negation, connective, quantifier, letting, sort, name, classOf, bytes}
 use Rattle.grammar.specs.Grammar.{SortedVariable, declares, Formula, called, truth, bracketed, Bracketed, denies, connects, applies, quantifies}
 use Rattle.grammar.specs.Grammar.{lets, Formulas, noFormula, andFormula, Bindings, noBinding, andBinding, Lexeme, opens, closes, word, stray}
 use Rattle.grammar.specs.Grammar.{Mode, between, comment, within, ends, onwards, last, spell, spellVariable, spellVariables, spellBracketed}

@@ -9,7 +9,7 @@ use Prim.Native.Nat.{_<_}
 use mathlib.Core.List.{_++_, []}
 use mathlib.Core.Option.{some}
 use Rattle.grammar.specs.Grammar.{Formula, spelling, Reads, InGrammar, Unread}
-use Rattle.grammar.specs.Names.{Name, names, Located, calledOf, met, Every, StandsIn, firstUnknown, allKnown, Resolved, resolved, unreadAt}
+use Rattle.grammar.specs.Names.{Name, names, calledOf, met, Every, StandsIn, firstUnknown, allKnown, resolved, unreadAt}
 use Rattle.grammar.specs.Names.{unknownAt, resolve}
 use Rattle.grammar.specs.Parser.{read, unread, parse, judged}
 

@@ -45,9 +45,10 @@ fn inherit(
     parent: usize,
 )
     requires { ⌜ Whole (now file) b × RowRoom (now images) (now moved) n k × (parent < k) ⌝ }
-    ensures { λ _. ⌜ Untouched (now (images .entry)) (now (moved .entry)) (now (images .exit)) (now (moved .exit)) n k
-        × ((x : ℕ) → mentionIn (bundleAt (now (file .entry)) b) (now (images .exit)) k x ≡ mentionIn (bundleAt (now (file .entry)) b) (now (images .entry))
-        parent x) × ((x : ℕ) → member (now (moved .exit)) (n * k) n x ≡ member (now (moved .entry)) (n * parent) n x) ⌝ }
+    ensures { λ _. ⌜ (let bundle = bundleAt (now (file .entry)) b in
+        Untouched (now (images .entry)) (now (moved .entry)) (now (images .exit)) (now (moved .exit)) n k × ((x : ℕ) → mentionIn bundle (now (images .exit)) k
+        x ≡ mentionIn bundle (now (images .entry)) parent x) × ((x : ℕ) → member (now (moved .exit)) (n * k) n x ≡ member (now (moved .entry)) (n * parent) n
+        x)) ⌝ }
 {
     let count = b.variables;
     copy_row(
@@ -72,8 +73,9 @@ fn set_image(
     t: usize,
     moves: bool,
 )
-    requires { ⌜ Whole (now file) b × RowRoom (now images) (now moved) n k × (1 ≤ x) × (x ≤ b .variables) × (b .variables ≤ 64 * n) × (t ≤ fixedPlace)
-        × (moves ≡ movedBy (bundleAt (now file) b) (asImage (asMention t)) x) × Agrees (bundleAt (now file) b) (now images) (now moved) n k ⌝ }
+    requires { ⌜ (let bundle = bundleAt (now file) b in
+        Whole (now file) b × RowRoom (now images) (now moved) n k × (1 ≤ x) × (x ≤ b .variables) × (b .variables ≤ 64 * n) × (t ≤ fixedPlace) × (moves ≡
+        movedBy bundle (asImage (asMention t)) x) × Agrees bundle (now images) (now moved) n k) ⌝ }
     ensures { λ _. ⌜ Entered (bundleAt (now (file .entry)) b) (now (images .entry)) (now (moved .entry)) (now (images .exit)) (now (moved .exit)) n k
         (λ y m. cond (eqb x y) (asMention t) m) ⌝ }
 {
@@ -96,12 +98,12 @@ fn replace(
     variables: usize,
     terms: usize,
 )
-    requires { ⌜ Whole (now file) b × RowRoom (now images) (now moved) n k × (b .variables ≤ 64 * n)
-        × (each (numbers (b .variables)) (items (bundleAt (now file) b) variables) ≡ true)
-        × (each (numbers (b .terms)) (items (bundleAt (now file) b) terms) ≡ true) × (different (items (bundleAt (now file) b) variables) ≡ true)
-        × Agrees (bundleAt (now file) b) (now images) (now moved) n k ⌝ }
-    ensures { λ _. ⌜ Entered (bundleAt (now (file .entry)) b) (now (images .entry)) (now (moved .entry)) (now (images .exit)) (now (moved .exit)) n k
-        (λ x m. orAbove (lookup (items (bundleAt (now (file .entry)) b) variables) (items (bundleAt (now (file .entry)) b) terms) x) m) ⌝ }
+    requires { ⌜ (let bundle = bundleAt (now file) b in
+        Whole (now file) b × RowRoom (now images) (now moved) n k × (b .variables ≤ 64 * n) × (each (numbers (b .variables)) (items bundle variables) ≡ true)
+        × (each (numbers (b .terms)) (items bundle terms) ≡ true) × (different (items bundle variables) ≡ true) × Agrees bundle (now images) (now moved) n k) ⌝ }
+    ensures { λ _. ⌜ (let bundle = bundleAt (now (file .entry)) b in
+        Entered bundle (now (images .entry)) (now (moved .entry)) (now (images .exit)) (now (moved .exit)) n k (λ x m. orAbove (lookup (items bundle
+        variables) (items bundle terms) x) m)) ⌝ }
 {
     let mut i = first_link(b, variables);
     let mut j = first_link(b, terms);
@@ -120,10 +122,12 @@ fn replace(
 
 // Writes what is known of context k, where that of the lower ones is written.
 pub fn enter(file: &[u8], b: Bundle, images: &mut [u16], moved: &mut [u64], n: usize, k: usize)
-    requires { ⌜ Whole (now file) b × Images (bundleAt (now file) b) (now images) k × MovedSets (bundleAt (now file) b) (now moved) n k
-        × RowRoom (now images) (now moved) n k × (b .variables ≤ 64 * n) × (contextRefers (bundleAt (now file) b) k ≡ true) ⌝ }
-    ensures { λ _. ⌜ (length (now (images .exit)) ≡ length (now (images .entry))) × (length (now (moved .exit)) ≡ length (now (moved .entry)))
-        × Images (bundleAt (now (file .entry)) b) (now (images .exit)) (k + 1) × MovedSets (bundleAt (now (file .entry)) b) (now (moved .exit)) n (k + 1) ⌝ }
+    requires { ⌜ (let bundle = bundleAt (now file) b in
+        Whole (now file) b × Images bundle (now images) k × MovedSets bundle (now moved) n k × RowRoom (now images) (now moved) n k × (b .variables ≤ 64 * n)
+        × (contextRefers bundle k ≡ true)) ⌝ }
+    ensures { λ _. ⌜ (let bundle = bundleAt (now (file .entry)) b in
+        (length (now (images .exit)) ≡ length (now (images .entry))) × (length (now (moved .exit)) ≡ length (now (moved .entry))) × Images bundle (now (images
+        .exit)) (k + 1) × MovedSets bundle (now (moved .exit)) n (k + 1)) ⌝ }
 {
     let kind = context_field(file, b, k, 0);
     let first = context_field(file, b, k, 1);

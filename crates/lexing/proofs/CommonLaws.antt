@@ -1,10 +1,10 @@
 -- Laws of runs compared with words.
 --     shared-start, shared-on, shared-differ, shared-other, shared-run     the loop of `runs::in_common`
 --     same-common, starts-common     sameness and starts, by what is in common
-use Prim.Native.Nat.{ℕ, zero, suc, _+_, _≤_, _<_}
+use Prim.Native.Nat.{ℕ, suc, _+_, _≤_, _<_}
 use native.Mathlib.Omega.{arith}
 use native.Mathlib.Numerals.{add-one}
-use mathlib.Core.Path.{_≡_, refl, sym, ap, ap₂, _∙_}
+use mathlib.Core.Path.{_≡_, refl, ap₂, _∙_}
 use mathlib.Core.Bool.{Bool, true, false, cond, _&&_}
 use mathlib.Core.List.{List, [], _∷_}
 use lib.ListN.{length, getD, drop, drop-of-length-le}
@@ -32,7 +32,8 @@ common-nil (x ∷ u) = refl
 pub shared-on : (u v : List ℕ) (j : ℕ) → Shared u v j → j < length u → j < length v → getD u j 0 ≡ getD v j 0 → Shared u v (j + 1)
 unfolding common
 shared-on u v j h l k e =
-    let one : common (drop j u) (drop j v) ≡ suc (common (drop (suc j) u) (drop (suc j) v)) = rw (drop-cons u j 0 l, drop-cons v j 0 k, eq-eqb (getD u j 0) (getD v j 0) e) in
+    let one : common (drop j u) (drop j v) ≡ suc (common (drop (suc j) u) (drop (suc j) v)) = rw
+    (drop-cons u j 0 l, drop-cons v j 0 k, eq-eqb (getD u j 0) (getD v j 0) e) in
     rw (add-one j) (record { in-run = l; in-other = k; rest = omega (arith, h .rest) })
 
 pub shared-differ : (u v : List ℕ) (j : ℕ) → Shared u v j → j < length u → j < length v → (getD u j 0 ≡ getD v j 0 → ⊥) → j ≡ common u v

@@ -84,7 +84,9 @@ module _ (w : List ℕ) (l : length w ≡ 0 → ⊥) where
 
   pub word-exists : getD w 0 0 ≡ 101 → One w (bytes "exists") 6
   unfolding wordCode wordOf wordAmong twelve bytes sameList
-  word-exists e = first (λ w. One w (bytes "exists") 6) w 101 l e (λ u. sym (code-cond (sameList (101 ∷ u) (bytes "exists")) (quantifier exists) (name (101 ∷ u))))
+  word-exists e =
+      first (λ w. One w (bytes "exists") 6) w 101 l e
+      (λ u. sym (code-cond (sameList (101 ∷ u) (bytes "exists")) (quantifier exists) (name (101 ∷ u))))
 
   pub word-let : getD w 0 0 ≡ 108 → One w (bytes "let") 7
   unfolding wordCode wordOf wordAmong twelve bytes sameList
@@ -98,7 +100,22 @@ module _ (w : List ℕ) (l : length w ≡ 0 → ⊥) where
   unfolding wordCode wordOf wordAmong twelve bytes sameList
   word-item e = first (λ w. One w (bytes "Item") 8) w 73 l e (λ u. sym (code-cond (sameList (73 ∷ u) (bytes "Item")) (sort item) (name (73 ∷ u))))
 
-  pub word-other : (getD w 0 0 ≡ 116 → ⊥) → (getD w 0 0 ≡ 102 → ⊥) → (getD w 0 0 ≡ 110 → ⊥) → (getD w 0 0 ≡ 97 → ⊥) → (getD w 0 0 ≡ 111 → ⊥) → (getD w 0 0 ≡ 61 → ⊥) → (getD w 0 0 ≡ 101 → ⊥) → (getD w 0 0 ≡ 108 → ⊥) → (getD w 0 0 ≡ 66 → ⊥) → (getD w 0 0 ≡ 73 → ⊥) → 9 ≡ wordCode (wordOf w)
+  pub word-other : (getD w 0 0 ≡ 116 → ⊥) → (getD w 0 0 ≡ 102 → ⊥) → (getD w 0 0 ≡ 110 → ⊥) → (getD w 0 0 ≡ 97 → ⊥) → (getD w 0 0 ≡ 111 → ⊥)
+      → (getD w 0 0 ≡ 61 → ⊥) → (getD w 0 0 ≡ 101 → ⊥) → (getD w 0 0 ≡ 108 → ⊥) → (getD w 0 0 ≡ 66 → ⊥) → (getD w 0 0 ≡ 73 → ⊥)
+      → 9 ≡ wordCode (wordOf w)
   unfolding wordCode wordOf wordAmong twelve bytes sameList
   word-other n116 n102 n110 n97 n111 n61 n101 n108 n66 n73 =
-      rw (drop-cons w 0 0 (some-byte w l), ne-eqb (getD w 0 0) 116 n116, ne-eqb (getD w 0 0) 102 n102, ne-eqb (getD w 0 0) 110 n110, ne-eqb (getD w 0 0) 97 n97, ne-eqb (getD w 0 0) 111 n111, ne-eqb (getD w 0 0) 61 n61, ne-eqb (getD w 0 0) 101 n101, ne-eqb (getD w 0 0) 108 n108, ne-eqb (getD w 0 0) 66 n66, ne-eqb (getD w 0 0) 73 n73)
+      let x = getD w 0 0 in
+      rw (
+        drop-cons w 0 0 (some-byte w l),
+        ne-eqb x 116 n116,
+        ne-eqb x 102 n102,
+        ne-eqb x 110 n110,
+        ne-eqb x 97 n97,
+        ne-eqb x 111 n111,
+        ne-eqb x 61 n61,
+        ne-eqb x 101 n101,
+        ne-eqb x 108 n108,
+        ne-eqb x 66 n66,
+        ne-eqb x 73 n73,
+      )

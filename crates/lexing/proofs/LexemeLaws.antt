@@ -5,14 +5,14 @@ use Prim.Native.Nat.{ℕ, suc, _+_, _-_, _≤_, _<_}
 use native.Mathlib.Omega.{arith}
 use native.Mathlib.Numerals.{add-one}
 use mathlib.Core.Path.{_≡_, refl, sym, ap, _∙_}
-use mathlib.Core.List.{List, [], _∷_, _++_}
+use mathlib.Core.List.{List, _∷_, _++_}
 use lib.ListN.{length, getD, drop}
 use borrow.Author.Tests.{ne-eqb}
 use Rattle.grammar.specs.Bytes.{Class, space, lineEnd, semicolon, opening, closing, digit, symbol, other, Word, constant, negation, connective}
 use Rattle.grammar.specs.Bytes.{quantifier, letting, sort, name, classOf, wordOf}
 use Rattle.grammar.specs.Grammar.{Lexeme, opens, closes, word, stray, between, bracket, ends, outside, onwards, last, lexemesFrom}
 use Rattle.lexing.specs.Codes.{wordCode, lexemeCode, classCode}
-use Rattle.lexing.specs.Lexes.{part, lexemesAt, Skipped, RunEnds, lexemeOf, Found, Lexes}
+use Rattle.lexing.specs.Lexes.{part, lexemesAt, Skipped, RunEnds, lexemeOf, Lexes}
 use Rattle.lexing.specs.declared.lexemes.Lexed.{Lexed}
 use Rattle.lexing.proofs.SkipLaws.{step, past}
 
@@ -95,7 +95,7 @@ module _ (text : List ℕ) (i s : ℕ) (h : Skipped text i s) where
         off : c ≡ 10 → ⊥
         off z = omega arith
 
-    pub lexes-bracket : k < 5 → Lexes text i (lexed (k - 3) s (s + 1))
+    pub lexes-bracket : k ≤ 4 → Lexes text i (lexed (k - 3) s (s + 1))
     unfolding classCode lexemeCode lexemeOf ends onwards bracket outside
     lexes-bracket low = go (classOf (getD text s 0)) refl (h .starts l) isClass
       where

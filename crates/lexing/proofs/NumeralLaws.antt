@@ -5,7 +5,7 @@
 --     nothing-low, counted                                 the run's end
 --     known-symbol, known-variable, known-either           the kind due, by its number
 --     counts-suffice                                       THE LAW: the counts of a bundle say as much as the bundle
-use Prim.Native.Nat.{ℕ, zero, suc, _+_, _-_, _*_, _≤_, _<_}
+use Prim.Native.Nat.{ℕ, suc, _+_, _-_, _*_, _≤_, _<_}
 use native.Mathlib.Omega.{arith}
 use native.Mathlib.Numerals.{add-one}
 use mathlib.Core.Path.{_≡_, refl, sym, ap, _∙_}
@@ -15,11 +15,10 @@ use lib.ListN.{length, getD, drop, drop-of-length-le}
 use lib.Seq.{drop-cons}
 use lib.Dec.{eqb, leb, ltb}
 use borrow.Author.Tests.{eq-eqb, ne-eqb, le-leb, lt-leb}
-use Rattle.bundle.specs.Bundle.{Bundle}
 use Rattle.bundle.specs.Lists.{each}
 use Rattle.grammar.specs.Names.{Place, either, symbolOnly, variableOnly}
 use Rattle.reading.specs.Called.{decimal, isDigit, isNumeral, numberAfter, variableCalled, symbolCalled, knownAs}
-use Rattle.lexing.specs.Counted.{numberWithin, variableAmong, symbolAmong, placeOf, knownAmong, CountsName, CountsSuffice}
+use Rattle.lexing.specs.Counted.{numberWithin, variableAmong, symbolAmong, placeOf, knownAmong, CountsSuffice}
 
 and-false : (p : Bool) → (p && false) ≡ false
 and-false true = refl

@@ -189,11 +189,14 @@ run-start text s l e =
     one : part text s (suc s) ≡ getD text s 0 ∷ []
     one = let q : suc s - s ≡ 1 = omega arith in rw (q, drop-cons text s 0 l)
 
-    first : (k : Class) → k ≡ symbol → ends between k ++ lexemesFrom (onwards between (getD text s 0) k) (drop (suc s) text) ≡ lexemesFrom (within (part text s (suc s))) (drop (suc s) text)
+    first : (k : Class) → k ≡ symbol
+        → ends between k ++ lexemesFrom (onwards between (getD text s 0) k) (drop (suc s) text)
+        ≡ lexemesFrom (within (part text s (suc s))) (drop (suc s) text)
     first k e = rw (e, one)
 
 -- a byte that goes on a run; one that ends it
-grows : (w : List ℕ) (c : ℕ) (k : Class) (cs : List ℕ) → 5 ≤ classCode k → (classCode k ≡ 7 → ⊥) → ends (within w) k ++ lexemesFrom (onwards (within w) c k) cs ≡ lexemesFrom (within (w ++ (c ∷ []))) cs
+grows : (w : List ℕ) (c : ℕ) (k : Class) (cs : List ℕ) → 5 ≤ classCode k → (classCode k ≡ 7 → ⊥)
+    → ends (within w) k ++ lexemesFrom (onwards (within w) c k) cs ≡ lexemesFrom (within (w ++ (c ∷ []))) cs
 unfolding ends onwards classCode
 grows w c space cs l ne = absurd (omega arith)
 grows w c lineEnd cs l ne = absurd (omega arith)

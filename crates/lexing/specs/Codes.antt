@@ -5,7 +5,7 @@ use Rattle.grammar.specs.Bytes.{Class, space, lineEnd, semicolon, opening, clos
 use Rattle.grammar.specs.Bytes.{quantifier, letting, sort, name}
 use Rattle.grammar.specs.Grammar.{Lexeme, opens, closes, word, stray}
 
--- the numbers of lexemes
+-- the number of a word, by what may stand where it does; of a lexeme
 unfoldable pub wordCode : Word → ℕ
 wordCode (constant v) = 3
 wordCode negation = 4
@@ -22,6 +22,7 @@ lexemeCode closes = 1
 lexemeCode stray = 2
 lexemeCode (word w) = wordCode w
 
+-- the number of a class of bytes
 unfoldable pub classCode : Class → ℕ
 classCode space = 0
 classCode lineEnd = 1
@@ -32,7 +33,7 @@ classCode digit = 5
 classCode symbol = 6
 classCode other = 7
 
--- the classes of bytes
+-- the numbers of the classes of the bytes 0 to 255
 abbrev pub classes : List ℕ
 classes =
     7 ∷ 7 ∷ 7 ∷ 7 ∷ 7 ∷ 7 ∷ 7 ∷ 7 ∷ 7 ∷ 0 ∷ 1 ∷ 7 ∷ 7 ∷ 1 ∷ 7 ∷ 7 ∷ 7 ∷ 7 ∷ 7 ∷ 7 ∷ 7 ∷ 7 ∷ 7 ∷ 7 ∷ 7 ∷ 7 ∷ 7 ∷ 7 ∷ 7 ∷ 7 ∷ 7 ∷ 7

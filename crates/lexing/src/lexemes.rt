@@ -82,16 +82,13 @@ pub fn next_lexeme(text: &[u8], i: usize) -> Lexed
         return Lexed { code, start, end };
     }
     let end = start + 1;
-    if class < 5 {
+    if class > 4 {
         return Lexed {
-            code: class - 3,
+            code: 2,
             start,
             end,
         };
     }
-    Lexed {
-        code: 2,
-        start,
-        end,
-    }
+    let code = class - 3;
+    Lexed { code, start, end }
 }

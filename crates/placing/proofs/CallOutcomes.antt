@@ -79,7 +79,8 @@ module _ {b : Bundle} {vs w : List ℕ} {a : Recorded} {c : Counts} {s : ℕ} (o
         subst (λ (n : ℕ). OpenOutcome (opened (addList b vs) (record { kind = 2; a = x; b = n; parent = p })) w′ r) (k .1)
         (subst (λ (B : Bundle). OpenOutcome (opened B (record { kind = 2; a = x; b = s; parent = p })) w′ r) (k .0 .bundle) h)
 
-    pub term-on : {r : Recorded} (f : ℕ → TermRecord) → PlaceOutcome (termed (bundleIn w c) (f s)) w′ r → PlaceOutcome (termed (addList b vs) (f (listStart b vs))) w′ r
+    pub term-on : {r : Recorded} (f : ℕ → TermRecord) → PlaceOutcome (termed (bundleIn w c) (f s)) w′ r
+        → PlaceOutcome (termed (addList b vs) (f (listStart b vs))) w′ r
     term-on {r} f h =
         let k = add-done o e in
         subst (λ (p : PlacedTerm). PlaceOutcome p w′ r) (λ i. termed (k .0 .bundle i) (f (k .1 i))) h
@@ -116,23 +117,20 @@ pub plain-is : (b : Bundle) (r : TermRecord) (n m : ℕ) → m ≡ n → m ≡ 0
 plain-is b r n m e z {w} {a} h =
     new-is b (addList b []) r n m e z (subst (λ (B : Bundle). PlaceOutcome (placed b B r 0) w a) (sym (add-none b)) h)
 
--- the let of the lists vs and ts, where the lookup found n
-abbrev letPlaced : Bundle → List ℕ → List ℕ → ℕ → ℕ → PlacedTerm
-letPlaced b vs ts t = placed b (addList (addList b vs) ts) (record { kind = 5; a = listStart b vs; b = listStart (addList b vs) ts; c = t })
-
 -- m is what the lookup found: 0. Where the list of variables was done, w, c and s are what it left.
-module _ (b : Bundle) (vs ts : List ℕ) (t n m : ℕ) (d : m ≡ n) (z : m ≡ 0) {w : List ℕ} {a : Recorded} (o : AddOutcome b vs w a) {w′ : List ℕ} where
-  pub let-full : a ≡ Recorded.Full → PlaceOutcome (letPlaced b vs ts t n) w′ Recorded.Full
+module _ (b : Bundle) (vs ts : List ℕ) (t m : ℕ) (d : m ≡ seek (sameLet b vs ts t) (b .terms)) (z : m ≡ 0) {w : List ℕ} {a : Recorded}
+    (o : AddOutcome b vs w a) {w′ : List ℕ} where
+  pub let-full : a ≡ Recorded.Full → PlaceOutcome (placeLet b vs ts t) w′ Recorded.Full
   let-full e =
-      new-is _ _ _ n m d z
+      new-is _ _ _ _ m d z
       (PlaceOutcome.full (longer-over (longer-trans (list-longer (addList b vs) ts) (terms-longer (addList (addList b vs) ts) _)) (add-full o e)) refl)
 
   pub let-on : {c : Counts} {s : ℕ} → a ≡ Recorded.Done c s → {r : Recorded}
       → PlaceOutcome (termed (addList (bundleIn w c) ts) (record { kind = 5; a = s; b = listStart (bundleIn w c) ts; c = t })) w′ r
-      → PlaceOutcome (letPlaced b vs ts t n) w′ r
+      → PlaceOutcome (placeLet b vs ts t) w′ r
   let-on e {r} h =
       let k = add-done o e in
-      new-is _ _ _ n m d z
+      new-is _ _ _ _ m d z
       (subst (λ (p : PlacedTerm). PlaceOutcome p w′ r)
       (λ i. termed (addList (k .0 .bundle i) ts) (record { kind = 5; a = k .1 i; b = listStart (k .0 .bundle i) ts; c = t })) h)
 

@@ -127,7 +127,8 @@ pub fn add_term(
     d: usize,
 ) -> Recorded
     requires { ⌜ Ready (now words) c × (kind ≤ 4294967295) × (first ≤ 4294967295) × (second ≤ 4294967295) × (third ≤ 4294967295)
-        × Indexed (bundleIn (now words) c) (now index) × (d < digests) × Digested (bundleIn (now words) c) (record { kind = kind; a = first; b = second; c = third }) d ⌝ }
+        × Indexed (bundleIn (now words) c) (now index) × (d < digests)
+        × Digested (bundleIn (now words) c) (record { kind = kind; a = first; b = second; c = third }) d ⌝ }
     ensures { λ r. ⌜ (length (now (words .exit)) ≡ length (now (words .entry)))
         × PlaceOutcome
         (record {

@@ -76,8 +76,8 @@ pub fn all_prove(
     premises: usize,
 ) -> bool
     requires { ⌜ Whole (now file) b ⌝ }
-    ensures { λ x. ⌜ x ≡ allProveBy (stepIn (bundleAt (now (file .entry)) b) (now (bed .entry))) body context (items (bundleAt (now (file .entry)) b) lefts)
-        (items (bundleAt (now (file .entry)) b) rights) (items (bundleAt (now (file .entry)) b) premises) ⌝ }
+    ensures { λ x. ⌜ (let bundle = bundleAt (now (file .entry)) b in
+        x ≡ allProveBy (stepIn bundle (now (bed .entry))) body context (items bundle lefts) (items bundle rights) (items bundle premises)) ⌝ }
 {
     let mut i = first_link(b, lefts);
     let mut j = first_link(b, rights);
@@ -109,27 +109,28 @@ fn key(context: usize, i: usize, j: usize) -> u32
     ((context * (Bundle::LINKS + 1) + i) * (Bundle::LINKS + 1) + j) as u32
 }
 
-// The same with no premise more, for the batch check. `carried` has at a premise's link the key at which the premises from there on were last found to carry
-// the
-// terms: there the walk ends. A key is written before the rest is known; where the rest fails, so does the step, and no key is read again.
-pub fn all_carried(
+// Whether the premises from link `premises` on carry the terms from `lefts` on to those from `rights` on, and no premise more is there: up to a
+// link where that is noted. `carried` has at a premise's link the key at which the premises from there on were last found to carry the terms. A key
+// is written before the rest is known; where the rest fails, so does the step, and no key is read again.
+fn far_carried(
     file: &[u8],
     b: Bundle,
     bed: &[u32],
-    carried: &mut [u32; Bundle::LINKS + 1],
+    carried: &mut [u32],
     context: usize,
     lefts: usize,
     rights: usize,
     premises: usize,
 ) -> bool
-    requires { ⌜ Whole (now file) b × Carried (now file) b (now bed) (now carried) × (context ≤ limits .contexts) ⌝ }
-    ensures { λ x. ⌜ x ≡ allProveBy (stepIn (bundleAt (now (file .entry)) b) (now (bed .entry))) false context (items (bundleAt (now (file .entry)) b) lefts)
-        (items (bundleAt (now (file .entry)) b) rights) (items (bundleAt (now (file .entry)) b) premises) ⌝ }
+    requires { ⌜ Whole (now file) b × Carried (now file) b (now bed) (now carried) × (context ≤ limits .contexts) × (lefts ≤ b .links)
+        × (rights ≤ b .links) × (premises ≤ b .links) ⌝ }
+    ensures { λ x. ⌜ (let bundle = bundleAt (now (file .entry)) b in
+        x ≡ allProveBy (stepIn bundle (now (bed .entry))) false context (items bundle lefts) (items bundle rights) (items bundle premises)) ⌝ }
     ensures { λ x. ⌜ (x ≡ true → Carried (now (file .entry)) b (now (bed .entry)) (now (carried .exit))) ⌝ }
 {
-    let mut i = first_link(b, lefts);
-    let mut j = first_link(b, rights);
-    let mut k = first_link(b, premises);
+    let mut i = lefts;
+    let mut j = rights;
+    let mut k = premises;
     while i != 0 {
         if (j == 0) | (k == 0) {
             return false;
@@ -150,4 +151,50 @@ pub fn all_carried(
         k = next_link(file, b, k);
     }
     (j == 0) & (k == 0)
+}
+
+// The same with no premise more, for the batch check. Most lists have one item: the first is looked at with no key, the rest by what is noted.
+pub fn all_carried(
+    file: &[u8],
+    b: Bundle,
+    bed: &[u32],
+    carried: &mut [u32],
+    context: usize,
+    lefts: usize,
+    rights: usize,
+    premises: usize,
+) -> bool
+    requires { ⌜ Whole (now file) b × Carried (now file) b (now bed) (now carried) × (context ≤ limits .contexts) ⌝ }
+    ensures { λ x. ⌜ (let bundle = bundleAt (now (file .entry)) b in
+        x ≡ allProveBy (stepIn bundle (now (bed .entry))) false context (items bundle lefts) (items bundle rights) (items bundle premises)) ⌝ }
+    ensures { λ x. ⌜ (x ≡ true → Carried (now (file .entry)) b (now (bed .entry)) (now (carried .exit))) ⌝ }
+{
+    let i = first_link(b, lefts);
+    let j = first_link(b, rights);
+    let k = first_link(b, premises);
+    if i == 0 {
+        return (j == 0) & (k == 0);
+    }
+    if (j == 0) | (k == 0) {
+        return false;
+    }
+    let l = link_field(file, b, i, 0);
+    let r = link_field(file, b, j, 0);
+    let p = link_field(file, b, k, 0);
+    if !step_carries(file, b, bed, p, context, l, r) {
+        return false;
+    }
+    let more_lefts = next_link(file, b, i);
+    let more_rights = next_link(file, b, j);
+    let more_premises = next_link(file, b, k);
+    far_carried(
+        file,
+        b,
+        bed,
+        carried,
+        context,
+        more_lefts,
+        more_rights,
+        more_premises,
+    )
 }

@@ -3,16 +3,14 @@
 --     sorted-job, unsorted-job           the answer to a formula that is well sorted and Bool, and to one that is not
 --     answers-exactly                    THE THEOREM: an answer is given exactly where it means what it says
 use Prim.Native.Nat.{ℕ}
-use native.Mathlib.Omega.{arith}
 use mathlib.Core.Path.{_≡_, refl, sym, ap, _∙_, subst}
 use mathlib.Core.Logic.{_↔_}
-use mathlib.Core.Bool.{Bool, true, false, cond, _&&_, true≢false, false≢true}
+use mathlib.Core.Bool.{Bool, true, false, cond, true≢false}
 use mathlib.Core.List.{List, [], _∷_, _++_}
 use mathlib.Core.Option.{Option, none, some, Option·none-ne-some, Option·some-injective}
 use lib.Dec.{eqb}
-use borrow.Author.Tests.{eqb-true, eqb-false, eq-eqb}
+use borrow.Author.Tests.{eqb-true, eqb-false}
 use Rattle.bundle.specs.Bundle.{Bundle}
-use Rattle.bundle.specs.Limits.{Within, withinOf}
 use Rattle.bundle.proofs.Limits.{within-all, within-true}
 use Rattle.logic.specs.Lists.{All}
 use Rattle.logic.specs.Symbols.{truthSort}

@@ -1,37 +1,42 @@
 -- THE DEMANDS on the reader.
---     written-where, refused-where     written and refused, by the fault of the declarations and the answer to the text
+--     written-so                       what is known where a job is written
 --     read-exactly                     a text is read exactly when it is in the grammar, its names declared, well sorted, Bool, and its job fits
 --     one-reading                      it has one reading
 --     refused-exactly                  where each refusal is given
 --     read-formed                      the job that is written is well formed, and its left stands for the formula's term
 --     areas-left                       what is left in the areas besides the job: zeros
+--     read-expanded                    the three calls in a row: what is read, expanded and checked
 use Prim.Native.Nat.{ℕ, zero, suc, _-_, _≤_}
 use native.Mathlib.Omega.{arith}
 use mathlib.Core.Path.{_≡_, refl, sym, ap, _∙_, subst}
 use mathlib.Core.Logic.{_↔_, _⊎_, inl, inr}
-use mathlib.Core.Bool.{Bool, true, false, true≢false, false≢true}
+use mathlib.Core.Bool.{Bool, true, false, false≢true}
 use mathlib.Core.List.{List}
 use lib.ListN.{length, take, replicate}
 use lib.Seq.{drop-append-seam}
 use Rattle.bundle.specs.Bundle.{Bundle}
-use Rattle.bundle.specs.Limits.{headerWords, Within}
+use Rattle.bundle.specs.Limits.{headerWords}
 use Rattle.bundle.specs.File.{bundleOf}
 use Rattle.logic.specs.declared.Fault.{Fault}
 use Rattle.logic.specs.Tests.{fault}
+use Rattle.logic.specs.Terms.{tree}
+use Rattle.logic.specs.Free.{Closed}
+use Rattle.logic.proofs.Kept.{tree-kept}
 use Rattle.judgement.specs.Order.{FirstFailing}
 use Rattle.judgement.proofs.Order.{first-fails, fails-first, failing-number}
 use Rattle.expansion.specs.declared.Answer.the-variants.{Written, Refused}
-use Rattle.expansion.specs.File.{countsIn, fileOf}
-use Rattle.expansion.specs.Expansion.{Outcome}
+use Rattle.expansion.specs.File.{fileOf}
+use Rattle.expansion.specs.Expansion.{expansion}
 use Rattle.expansion.specs.Demands.{Bytes, LongEnough, ZerosLeft}
-use Rattle.expansion.proofs.Files.{file-length, file-cut}
+use Rattle.expansion.proofs.Files.{file-length, file-bytes, file-cut}
+use Rattle.expansion.proofs.Demands.{expansion-right}
 use Rattle.grammar.specs.Grammar.{Formula}
 use Rattle.grammar.proofs.Exact.{one-reading as one-spelling}
 use Rattle.reading.specs.Reader.{Answer, job, refused, jobOf, readText}
 use Rattle.reading.specs.Answers.{ReadAs, filedFor, FitsLimits, Answered, unread, unknown, missorted, full, read}
 use Rattle.reading.specs.Reading.{declarationsFault, answerAfter, leaves, reading}
 use Rattle.reading.specs.ReadOrder.{declarationChecks}
-use Rattle.reading.specs.Demands.{DeclarationsFormed, ReadExactly, OneReading, RefusedExactly, ReadWell, ReadFormed, AreasLeft}
+use Rattle.reading.specs.Demands.{DeclarationsFormed, ReadExactly, OneReading, RefusedExactly, ReadWell, ReadFormed, AreasLeft, ReadExpanded}
 use Rattle.reading.proofs.Answers.{answers-exactly}
 use Rattle.reading.proofs.ReadOrder.{declarations-find, declarations-exactly}
 use Rattle.reading.proofs.Jobs.{job-well}
@@ -173,16 +178,26 @@ one-reading b text φ ψ r s = one-spelling text φ ψ (r .named .reads) (s .nam
 pub refused-exactly : RefusedExactly
 refused-exactly f text out words sets n i = (refused-there f text out words sets n i, refused-back f text out words sets n i)
 
+-- the output up to the answered length is the job's file, and so a string of bytes
+module _ (f text : List ℕ) (out words sets n : ℕ) where
+  out-is : (s : ReadSo f text out words sets n) → take n (reading f text out words sets .out) ≡ fileOf (jobOf (filedFor (bundleOf f) (s .formula)))
+  unfolding reading leaves
+  out-is s =
+      let j : Bundle = jobOf (filedFor (bundleOf f) (s .formula)) in
+      ap (λ (a : Answer). take n (leaves a out words sets .out)) (s .answers)
+      ∙ ap (λ (k : ℕ). take k (leaves (job j) out words sets .out)) (sym (s .size))
+      ∙ file-cut j (replicate (out - length (fileOf j)) 0)
+
+  read-bytes : reading f text out words sets .answer ≡ Written n → Bytes (take n (reading f text out words sets .out))
+  read-bytes e = let s = written-so f text out words sets n e in subst Bytes (sym (out-is s)) (file-bytes (jobOf (filedFor (bundleOf f) (s .formula))))
+
 pub read-formed : ReadFormed
-unfolding reading leaves
 read-formed f text out words sets n bytes e =
-    let s : ReadSo f text out words sets n = written-so f text out words sets n e in
-    let j : Bundle = jobOf (filedFor (bundleOf f) (s .formula)) in
-    let out-is : take n (reading f text out words sets .out) ≡ fileOf j =
-    ap (λ (a : Answer). take n (leaves a out words sets .out)) (s .answers)
-    ∙ ap (λ (k : ℕ). take k (leaves (job j) out words sets .out)) (sym (s .size))
-    ∙ file-cut j (replicate (out - length (fileOf j)) 0) in
-    (s .formula, s .reads, subst (ReadWell f (s .formula)) (sym out-is) (job-well f text (s .formula) (s .formed) (s .reads) bytes (s .fits)))
+    let s : ReadSo f text out words sets n = written-so f text out words sets n e in (
+      s .formula,
+      s .reads,
+      subst (ReadWell f (s .formula)) (sym (out-is f text out words sets n s)) (job-well f text (s .formula) (s .formed) (s .reads) bytes (s .fits)),
+    )
 
 -- ---- what is left
 
@@ -217,3 +232,28 @@ areas-left f text out words sets =
     let s : ReadSo f text out words sets n = written-so f text out words sets n (ap (λ (a : Answer). leaves a out words sets .answer) e) in
     let room = job-room (bundleOf f) (s .formula) out words sets (s .fits) (s .long) in
     omega (arith, room, s .size))
+
+-- ---- the three calls in a row
+
+pub read-expanded : ReadExpanded
+read-expanded f text out words sets n bytes e φ r closed g is fits =
+    let b : Bundle = bundleOf f in
+    let s : ReadSo f text out words sets n = written-so f text out words sets n e in
+    let (ψ, q, well) = read-formed f text out words sets n bytes e in
+    let there : ReadWell f ψ g = subst (ReadWell f ψ) (sym is) well in
+    let good : ReadWell f φ g = subst (λ (χ : Formula). ReadWell f χ g) (one-reading b text ψ φ q r) there in
+    let shut : Closed (tree (bundleOf g) (bundleOf g .left)) = subst Closed (sym (good .left)) closed in
+    let job-bytes : Bytes g = subst Bytes (sym is) (read-bytes f text out words sets n e) in
+    let (m, answers, right) = expansion-right g out words sets job-bytes (good .formed) shut fits (s .long) in
+    let h : List ℕ = take m (expansion g out words sets .out) in
+    let old : tree (bundleOf h) (bundleOf g .left) ≡ tree (bundleOf g) (bundleOf g .left) =
+    tree-kept (right .records) (good .formed .tables) (bundleOf g .left) (good .formed .left .1) in (
+      m,
+      answers,
+      record {
+        accepted = right .accepted;
+        left = ap (tree (bundleOf h)) (right .left) ∙ old ∙ good .left;
+        right = right .plain;
+        equal = right .equal;
+      },
+    )

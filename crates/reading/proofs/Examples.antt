@@ -1,11 +1,13 @@
 -- The examples are right, by computation.
-use mathlib.Core.Path.{_≡_, refl}
+use mathlib.Core.Path.{refl}
+use Rattle.expansion.specs.File.{fileOf}
+use Rattle.grammar.specs.Bytes.{bytes}
 use Rattle.reading.specs.Reader.{readText}
 use Rattle.reading.specs.Reading.{reading}
-use Rattle.reading.specs.Examples.{readRows, unreadRows, moreUnreadRows, unknownRows, missortedRows, crowdedRows, calls, ExamplesRight}
+use Rattle.reading.specs.Examples.{readRows, unreadRows, moreUnreadRows, unknownRows, missortedRows, crowdedRows, refusedCalls, ExamplesRight}
 
 pub examples-right : ExamplesRight
-unfolding readRows unreadRows moreUnreadRows unknownRows missortedRows crowdedRows calls readText reading
+unfolding readRows unreadRows moreUnreadRows unknownRows missortedRows crowdedRows refusedCalls bytes fileOf readText reading
 examples-right = record {
   read = (refl, (refl, (refl, (refl, (refl, (refl, (refl, (refl, (refl, (refl, (refl, (refl, (refl, tt)))))))))))));
   unread = (refl, (refl, (refl, (refl, (refl, (refl, (refl, (refl, (refl, (refl, (refl, (refl, tt))))))))))));
@@ -13,5 +15,6 @@ examples-right = record {
   unknown = (refl, (refl, (refl, (refl, (refl, (refl, (refl, (refl, (refl, (refl, (refl, (refl, (refl, (refl, (refl, (refl, tt))))))))))))))));
   missorted = (refl, (refl, (refl, (refl, (refl, (refl, (refl, (refl, (refl, (refl, tt))))))))));
   crowded = (refl, (refl, (refl, (refl, (refl, tt)))));
-  calls = (refl, (refl, (refl, (refl, (refl, (refl, (refl, (refl, (refl, (refl, (refl, (refl, (refl, (refl, (refl, (refl, (refl, tt)))))))))))))))));
+  written = refl;
+  refused = (refl, (refl, (refl, (refl, (refl, (refl, (refl, (refl, (refl, (refl, (refl, (refl, (refl, (refl, (refl, (refl, tt))))))))))))))));
 }

@@ -3,25 +3,25 @@
 --     job-filed            the formula's records: the bundle stays well formed, the number stands for the formula's term
 --     deep-never-fits      THE THEOREM: what is nested too deep does not fit
 --     job-well             THE THEOREM: the file of a job within the limits is a well-formed job whose left stands for the formula's term
-use Prim.Native.Nat.{ℕ, _≤_, _<_}
+use Prim.Native.Nat.{ℕ, _≤_}
 use native.Mathlib.Omega.{arith}
 use mathlib.Core.Path.{_≡_, refl, sym, ap, _∙_, subst}
 use mathlib.Core.List.{List, []}
 use lib.ListN.{length}
 use Rattle.bundle.specs.Bundle.{Bundle}
 use Rattle.bundle.specs.Limits.{headerWords}
-use Rattle.bundle.specs.File.{countsOf, bundleBy, bundleOf}
+use Rattle.bundle.specs.File.{bundleBy, bundleOf}
 use Rattle.logic.specs.Lists.{Number}
 use Rattle.logic.specs.Symbols.{truthSort}
-use Rattle.logic.specs.Terms.{Term, tree}
+use Rattle.logic.specs.Terms.{tree}
 use Rattle.logic.specs.WellFormed.{HeaderFormed, TablesFormed}
 use Rattle.logic.specs.Longer.{Longer}
 use Rattle.logic.proofs.Longer.{longer-refl, longer-trans}
 use Rattle.logic.proofs.Kept.{tree-kept}
 use Rattle.expansion.specs.Placed.{PlacedTerm}
 use Rattle.expansion.specs.Visit.{claiming}
-use Rattle.expansion.specs.File.{countsIn, fileOf}
-use Rattle.expansion.specs.Demands.{Bytes, JobFormed}
+use Rattle.expansion.specs.File.{fileOf}
+use Rattle.expansion.specs.Demands.{Bytes}
 use Rattle.expansion.proofs.Grown.{claiming-longer}
 use Rattle.expansion.proofs.AppendedChecked.{Checked, claiming-checked}
 use Rattle.expansion.proofs.SmallNumbers.{SmallBundle}
@@ -30,9 +30,9 @@ use Rattle.expansion.proofs.SmallWords.{SmallPlaced, file-small}
 use Rattle.grammar.specs.Grammar.{Formula}
 use Rattle.grammar.specs.Names.{names}
 use Rattle.reading.specs.Local.{plain}
-use Rattle.reading.specs.Records.{file, depth}
+use Rattle.reading.specs.Records.{depth}
 use Rattle.reading.specs.Reader.{jobOf}
-use Rattle.reading.specs.Answers.{Named, ReadAs, filedFor, FitsLimits}
+use Rattle.reading.specs.Answers.{ReadAs, filedFor, FitsLimits}
 use Rattle.reading.specs.Demands.{DeclarationsFormed, ReadWell, DeepNeverFits}
 use Rattle.reading.proofs.TermSorts.{TermSorted, formula-sorted}
 use Rattle.reading.proofs.Records.{SameDeclared, file-declares, FiledAs, filed, depth-below}

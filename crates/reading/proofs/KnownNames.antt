@@ -3,7 +3,7 @@
 --     known-exactly       THE LAW: a name passes the test exactly where it is a declared one of the kind due
 --     variable-number     what a variable's name names is a variable
 --     symbol-signature    what a symbol's name names has a signature
-use Prim.Native.Nat.{ℕ, zero, suc, _+_, _-_, _≤_, _<_}
+use Prim.Native.Nat.{ℕ, _+_, _-_, _≤_, _<_}
 use native.Mathlib.Omega.{arith}
 use mathlib.Core.Path.{_≡_, refl, sym, ap, _∙_}
 use mathlib.Core.Logic.{_↔_, _⊎_, inl, inr}
@@ -16,10 +16,10 @@ use Rattle.bundle.specs.Bundle.{Bundle}
 use Rattle.bundle.specs.Lists.{numbers, each}
 use Rattle.logic.specs.declared.Signature.the-variants.{Declared, Unknown}
 use Rattle.logic.specs.Lists.{All, Number}
-use Rattle.logic.specs.Symbols.{symbolKind, kindOfSymbol, signature, signatureOf, declared}
+use Rattle.logic.specs.Symbols.{symbolKind, kindOfSymbol, signature, signatureOf}
 use Rattle.logic.proofs.Tests.{and-left, and-right, and-both, or-cases, or-left, or-right, not-of, numbers-of, numbers-in}
 use Rattle.logic.proofs.Exactly.{each-exactly}
-use Rattle.grammar.specs.Names.{Place, either, symbolOnly, variableOnly, Name}
+use Rattle.grammar.specs.Names.{Place, either, symbolOnly, variableOnly}
 use Rattle.reading.specs.Called.{decimal, isDigit, isNumeral, numberAfter, variableCalled, symbolCalled, knownAs, knownIn, Digit, Numeral, Spells}
 use Rattle.reading.specs.Called.{VariableName, SymbolName, DeclaredAs, KnownExactly, CalledExactly}
 
@@ -75,7 +75,11 @@ module _ (b : Bundle) (w : List ℕ) where
 
   symbol-called : (f : ℕ) → Spells 102 w f → 33 ≤ f → f ≤ 32 + length (b .symbols) → symbolCalled b w ≡ f
   unfolding symbolCalled
-  symbol-called f h lo hi = rw (spells-after 102 w f h, le-leb 33 f lo, le-leb f (32 + length (b .symbols)) hi)
+  symbol-called f h lo hi =
+      let m : ℕ = numberAfter 102 w in
+      let e : m ≡ f = spells-after 102 w f h in
+      let within = and-both (leb 33 m) (leb m (32 + length (b .symbols))) (le-leb 33 m (omega arith)) (le-leb m (32 + length (b .symbols)) (omega arith)) in
+      ap (λ (p : Bool). cond p m 0) within ∙ e
 
   variable-name : (n : ℕ) → variableCalled b w ≡ n → 1 ≤ n → VariableName b w × Number (length (b .variables)) n
   unfolding variableCalled

@@ -1,17 +1,15 @@
 -- THE THEOREM: sorts can be judged node by node, in any order, with no stack.
 --     sorts-local
 use Prim.Native.Nat.{ℕ, zero, suc}
-use mathlib.Core.Path.{_≡_, refl, sym, ap, _∙_}
-use mathlib.Core.Bool.{Bool, true, false, cond, _&&_}
-use mathlib.Core.List.{List, [], _∷_}
-use mathlib.Core.Option.{Option, none, some}
+use mathlib.Core.Path.{_≡_, refl}
+use mathlib.Core.Bool.{Bool, true, false, _&&_}
+use mathlib.Core.Option.{Option, some}
 use Rattle.bundle.specs.Bundle.{Bundle}
-use Rattle.logic.specs.Terms.{Terms}
-use Rattle.grammar.specs.Grammar.{Formula, called, truth, bracketed, Bracketed, denies, connects, applies, quantifies, lets, Formulas, noFormula}
+use Rattle.grammar.specs.Grammar.{called, truth, bracketed, Bracketed, denies, connects, applies, quantifies, lets, Formulas, noFormula}
 use Rattle.grammar.specs.Grammar.{andFormula, Bindings, noBinding, andBinding}
 use Rattle.grammar.specs.Parser.{andThen}
 use Rattle.reading.specs.Called.{variableCalled, symbolCalled}
-use Rattle.reading.specs.Typing.{Typed, TypedList, TypedBindings, only, applied, connectiveSymbol, alone, quantified, letting, sorts}
+use Rattle.reading.specs.Typing.{TypedList, TypedBindings, only, applied, alone, quantified, letting, sorts}
 use Rattle.reading.specs.Typing.{sortsInside, sortsAll, sortsBound}
 use Rattle.reading.specs.Local.{aloneSort, aloneTerm, aloneFine, accepts, headSort, insideSort, headSorts, boundSorts, boundNames, plain}
 use Rattle.reading.specs.Local.{plainInside, plainAll, plainBound, fine, fineInside, fineAll, fineBound, typed, SortsLocal}

@@ -1,10 +1,10 @@
 -- A formula's term is nested at least as deep as the formula.
 --     nesting-depth     THE LAW
-use Prim.Native.Nat.{ℕ, zero, suc, _≤_, max}
+use Prim.Native.Nat.{ℕ, zero, suc, _≤_}
 use native.Mathlib.Omega.{arith}
 use mathlib.Core.List.{List, [], _∷_}
 use Rattle.bundle.specs.Bundle.{Bundle}
-use Rattle.logic.specs.Terms.{Binder, Term, Terms, app}
+use Rattle.logic.specs.Terms.{Binder, Term}
 use Rattle.grammar.specs.Grammar.{SortedVariable, declares, Formula, called, truth, bracketed, Bracketed, denies, connects, applies, quantifies, lets}
 use Rattle.grammar.specs.Grammar.{Formulas, noFormula, andFormula, Bindings, noBinding, andBinding}
 use Rattle.reading.specs.Called.{variableCalled, symbolCalled}

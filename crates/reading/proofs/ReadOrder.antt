@@ -1,7 +1,7 @@
 -- The checks of declarations.
 --     declarations-find        of all of them, the first failing one is `declarationsFault`
 --     declarations-exactly     none fails exactly with well-formed declarations and long enough areas
-use Prim.Native.Nat.{ℕ, _≤_}
+use Prim.Native.Nat.{ℕ}
 use native.Mathlib.Omega.{arith}
 use mathlib.Core.Path.{_≡_, refl, ap, subst}
 use mathlib.Core.Logic.{_↔_}

@@ -2,7 +2,7 @@
 --     SameDeclared, file-declares   no section but terms and links is longer
 --     FiledAs, filed                THE LAW: the bundle stays well formed, and the term's number stands for it
 --     depth-below                   a term's number is at least its depth
-use Prim.Native.Nat.{ℕ, zero, suc, _+_, _≤_, _<_, max}
+use Prim.Native.Nat.{ℕ, zero, suc, _≤_, _<_}
 use native.Mathlib.Omega.{arith}
 use mathlib.Core.Path.{_≡_, refl, sym, ap, ap₂, _∙_, subst}
 use mathlib.Core.List.{List, [], _∷_, map}
@@ -10,10 +10,10 @@ use lib.ListN.{length}
 use Rattle.bundle.specs.Bundle.{Bundle, TermRecord, sortOfVariable}
 use Rattle.logic.specs.declared.Signature.the-variants.{Unknown}
 use Rattle.logic.specs.Lists.{All, Number}
-use Rattle.logic.specs.Symbols.{truthSort, signatureOf, argumentSorts}
+use Rattle.logic.specs.Symbols.{signatureOf}
 use Rattle.logic.specs.Terms.{Binder, Term, Terms, var, app, bind, letIn, none, more, gather, tree}
 use Rattle.logic.specs.Sorts.{sort}
-use Rattle.logic.specs.WellFormed.{sortOfTerm, ListsFormed, Lower, TablesFormed}
+use Rattle.logic.specs.WellFormed.{sortOfTerm, Lower, TablesFormed}
 use Rattle.logic.specs.Longer.{Longer, addList}
 use Rattle.logic.specs.Lookup.{seek, sameVariable, sameApplication, sameBinder, sameLet}
 use Rattle.logic.proofs.Images.{sortsOf, sorts-gather}

@@ -1,10 +1,10 @@
 -- All numbers of the records of a well-sorted term are words of 32 bits, where the counts are within the limits.
 --     known-small      a symbol that there is
 --     term-small       THE LAW
-use Prim.Native.Nat.{ℕ, _+_, _≤_, _<_, _^_}
+use Prim.Native.Nat.{ℕ, _+_, _≤_, _<_}
 use native.Mathlib.Omega.{arith}
 use native.Mathlib.Decide.{decLe}
-use mathlib.Core.Path.{_≡_, refl}
+use mathlib.Core.Path.{_≡_}
 use mathlib.Core.List.{List, [], _∷_}
 use lib.ListN.{length}
 use borrow.Author.Tests.{lt-leb}
@@ -13,7 +13,7 @@ use Rattle.bundle.specs.Limits.{Within}
 use Rattle.logic.specs.declared.Signature.the-variants.{Unknown}
 use Rattle.logic.specs.Lists.{All, Number}
 use Rattle.logic.specs.Symbols.{symbolKind, kindOfSymbol, signature, signatureOf}
-use Rattle.logic.specs.Terms.{Binder, binder, Term, Terms, var, app, bind, letIn, none, more, numberOf}
+use Rattle.logic.specs.Terms.{Binder, Term, Terms, var, app, bind, letIn, none, more}
 use Rattle.logic.specs.WellFormed.{TablesFormed}
 use Rattle.logic.specs.Longer.{Longer, addList}
 use Rattle.logic.specs.Lookup.{seek, sameVariable, sameApplication, sameBinder, sameLet}

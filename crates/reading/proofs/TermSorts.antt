@@ -2,17 +2,16 @@
 --     TermSorted, TermsSorted     what is to hold of a term and of its parts
 --     formula-sorted              THE LAW: the term of a well-sorted formula with declared names is well sorted, of the formula's sort
 --     sort-in, sorts-in           its sort is the same in a longer bundle
-use Prim.Native.Nat.{ℕ, zero, suc, _≤_}
+use Prim.Native.Nat.{ℕ, zero, suc}
 use native.Mathlib.Omega.{arith}
 use mathlib.Core.Path.{_≡_, refl, sym, ap, ap₂, _∙_, subst}
-use mathlib.Core.Logic.{_⊎_, inl, inr}
-use mathlib.Core.Bool.{Bool, true, false, cond, _&&_, _||_}
+use mathlib.Core.Bool.{Bool, true, false, cond, _||_}
 use mathlib.Core.List.{List, [], _∷_, map}
 use lib.ListN.{length}
 use lib.Dec.{eqb, ltb}
 use borrow.Author.Tests.{lt-ltb}
 use Rattle.bundle.specs.Bundle.{Bundle, sortOfVariable}
-use Rattle.logic.specs.declared.Signature.the-variants.{BuiltIn, Unknown}
+use Rattle.logic.specs.declared.Signature.the-variants.{Unknown}
 use Rattle.logic.specs.Lists.{All, Different, Number}
 use Rattle.logic.specs.Symbols.{truthSort, symbolKind, kindOfSymbol, signature, signatureOf, argumentSorts, resultSort}
 use Rattle.logic.specs.Terms.{Binder, forAll, exists, Term, Terms, var, app, bind, letIn, none, more}
@@ -28,7 +27,7 @@ use Rattle.grammar.specs.Names.{either, symbolOnly, variableOnly, Name, variabl
 use Rattle.reading.specs.Called.{variableCalled, symbolCalled, knownAs, knownIn}
 use Rattle.reading.specs.Typing.{connectiveSymbol, nested}
 use Rattle.reading.specs.Local.{aloneTerm, headSort, boundNames, plain, plainInside, plainAll, plainBound}
-use Rattle.reading.specs.WellSorted.{Takes, AloneSorted, Joins, WellSorted, InsideSorted, AllSorted, BoundSorted}
+use Rattle.reading.specs.WellSorted.{AloneSorted, Joins, WellSorted, InsideSorted, AllSorted, BoundSorted}
 use Rattle.reading.proofs.KnownNames.{variable-number, symbol-signature}
 use Rattle.reading.proofs.TypingExactly.{sorted-fine, join-sorts, join-result}
 

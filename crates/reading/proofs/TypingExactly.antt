@@ -2,18 +2,16 @@
 --     fine-sorted, sorted-fine     where every node's test passes, and where a formula is well sorted
 --     typing-exactly               THE THEOREM: a formula has a term exactly where it is well sorted
 use Prim.Native.Nat.{ℕ, zero, suc}
-use native.Mathlib.Omega.{arith}
 use mathlib.Core.Path.{_≡_, refl, sym, ap, ap₂, _∙_, subst}
-use mathlib.Core.Logic.{_↔_, _⊎_, inl, inr}
+use mathlib.Core.Logic.{inl, inr}
 use mathlib.Core.Bool.{Bool, true, false, cond, _&&_}
 use mathlib.Core.List.{List, [], _∷_, map}
-use mathlib.Core.Option.{Option, none, some, Option·none-ne-some, Option·some-injective}
+use mathlib.Core.Option.{some, Option·none-ne-some, Option·some-injective}
 use lib.Dec.{eqb}
-use borrow.Author.Tests.{eqb-true, eqb-false, eq-eqb, ne-eqb}
+use borrow.Author.Tests.{eqb-true, eq-eqb}
 use Rattle.bundle.specs.Bundle.{Bundle, sortOfVariable}
 use Rattle.bundle.specs.Lists.{sameList, different}
-use Rattle.logic.specs.Lists.{Different}
-use Rattle.logic.specs.Symbols.{truthSort, itemSort, symbolKind, kindOfSymbol, signature, signatureOf, argumentSorts, resultSort}
+use Rattle.logic.specs.Symbols.{truthSort, symbolKind, kindOfSymbol, signature, signatureOf, argumentSorts, resultSort}
 use Rattle.logic.proofs.Tests.{and-left, and-right, and-both, same-list, list-same}
 use Rattle.logic.proofs.Exactly.{different-exactly}
 use Rattle.grammar.specs.Bytes.{Connective, conjunction, disjunction, implication, equality}
@@ -23,7 +21,7 @@ use Rattle.reading.specs.Called.{variableCalled, symbolCalled}
 use Rattle.reading.specs.Typing.{Typed, only, connectiveSymbol, sortNumber, sortsDeclared, sorts}
 use Rattle.reading.specs.Local.{aloneSort, accepts, aloneFine, headSort, insideSort, headSorts, boundSorts, boundNames, plain, fine, fineInside, fineAll}
 use Rattle.reading.specs.Local.{fineBound, typed}
-use Rattle.reading.specs.WellSorted.{Takes, AloneSorted, Joins, WithDeclaredSorts, WellSorted, InsideSorted, AllSorted, BoundSorted, TypingExactly}
+use Rattle.reading.specs.WellSorted.{AloneSorted, Joins, WithDeclaredSorts, WellSorted, InsideSorted, AllSorted, BoundSorted, TypingExactly}
 use Rattle.reading.proofs.LocalSorts.{sorts-local}
 
 first-same : {x y : ℕ} {xs ys : List ℕ} → (x ∷ xs) ≡ (y ∷ ys) → x ≡ y

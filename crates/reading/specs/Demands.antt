@@ -1,19 +1,26 @@
 -- THE DEMANDS on the reader, as types. proofs/ has each under the same name.
-use Prim.Native.Nat.{ℕ, _<_}
+use Prim.Native.Nat.{ℕ, _*_, _≤_, _<_}
+use mathlib.Core.Bool.{false}
 use mathlib.Core.Path.{_≡_}
 use mathlib.Core.Logic.{_↔_, _⊎_}
 use mathlib.Core.List.{List, []}
 use lib.ListN.{length, take}
 use Rattle.bundle.specs.Bundle.{Bundle}
-use Rattle.bundle.specs.Limits.{limits}
-use Rattle.bundle.specs.File.{bundleOf}
+use Rattle.bundle.specs.Limits.{limits, setWords}
+use Rattle.bundle.specs.File.{countsOf, bundleOf}
 use Rattle.logic.specs.Lists.{Number}
 use Rattle.logic.specs.Terms.{tree}
+use Rattle.logic.specs.Free.{Closed}
+use Rattle.logic.specs.Lets.{holdsLet}
+use Rattle.logic.specs.Values.{EqualValues}
 use Rattle.logic.specs.WellFormed.{HeaderFormed, LinkFormed, SymbolFormed, VariableFormed}
 use Rattle.logic.specs.Longer.{Longer}
+use Rattle.judgement.specs.declared.Answer.the-variants.{Accepted}
+use Rattle.judgement.specs.Judge.{acceptance, judge}
 use Rattle.judgement.specs.Order.{FirstFailing}
 use Rattle.expansion.specs.declared.Answer.the-variants.{Written, Refused}
-use Rattle.expansion.specs.Demands.{Bytes, JobFormed, LongEnough, ZerosLeft}
+use Rattle.expansion.specs.Expansion.{expansion}
+use Rattle.expansion.specs.Demands.{Bytes, JobFormed, Fits, LongEnough, ZerosLeft}
 use Rattle.grammar.specs.Grammar.{Formula}
 use Rattle.reading.specs.Local.{plain}
 use Rattle.reading.specs.Records.{nesting}
@@ -80,3 +87,21 @@ AreasLeft = (f text : List ℕ) (out words sets : ℕ) → ZerosLeft out words s
 abbrev pub DeepNeverFits : Type 0
 DeepNeverFits =
     (f text : List ℕ) (φ : Formula) → DeclarationsFormed f → ReadAs (bundleOf f) text φ → limits .terms < nesting φ → FitsLimits (bundleOf f) φ → ⊥
+
+-- What is to hold of the file h that is written for the job of the formula φ beside the declarations f:
+pub record RuleExpanded (f : List ℕ) (φ : Formula) (h : List ℕ) : Type 0 where
+  -- it is accepted, where the checker is lent what its T asks,
+  pub accepted : (m : ℕ) → setWords * countsOf h .terms ≤ m → judge h m ≡ Accepted (acceptance (bundleOf h))
+  -- its left is the formula's term, its right holds no let, and both have equal value in every world.
+  pub left : tree (bundleOf h) (bundleOf h .left) ≡ plain (bundleOf f) φ
+  pub right : holdsLet (tree (bundleOf h) (bundleOf h .right)) ≡ false
+  pub equal : EqualValues (bundleOf h) (bundleOf h .left) (bundleOf h .right)
+
+-- The three calls in a row: where a text is read, its formula is closed and the derivation of its job fits, the job is expanded, with the same
+-- areas, to a file that is as it is to be.
+abbrev pub ReadExpanded : Type 0
+ReadExpanded =
+    (f text : List ℕ) (out words sets n : ℕ) → Bytes f → reading f text out words sets .answer ≡ Written n
+    → (φ : Formula) → ReadAs (bundleOf f) text φ → Closed (plain (bundleOf f) φ)
+    → (g : List ℕ) → g ≡ take n (reading f text out words sets .out) → Fits g
+    → (m : ℕ) × (expansion g out words sets .answer ≡ Written m) × RuleExpanded f φ (take m (expansion g out words sets .out))

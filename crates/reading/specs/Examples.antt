@@ -1,4 +1,4 @@
--- WORKED EXAMPLES: texts read beside these declarations, with their answers; and whole calls, with all that is left in the lent areas.
+-- WORKED EXAMPLES: texts read beside these declarations, with their answers; a whole call, with all that is left in the lent areas; refused calls.
 --     ExamplesRight     THE STATEMENT: every row is right; proofs/ has it under the name `examples-right`
 use Prim.Native.Nat.{ℕ}
 use mathlib.Core.Path.{_≡_}
@@ -9,7 +9,6 @@ use Rattle.bundle.specs.Words.{encode}
 use Rattle.logic.specs.Lists.{All}
 use Rattle.expansion.specs.declared.Answer.the-variants.{Written, Refused}
 use Rattle.expansion.specs.File.{fileOf}
-use Rattle.expansion.specs.Expansion.{Outcome}
 use Rattle.grammar.specs.Bytes.{bytes}
 use Rattle.reading.specs.Reader.{Answer, job, refused, readText}
 use Rattle.reading.specs.Reading.{reading}
@@ -188,53 +187,43 @@ crowdedRows =
 
 -- ---- calls
 
--- declarations and a text, by their bytes, and how many bytes of output, words of 32 bits and words of 64 bits are lent with them; the answer, and
--- those bytes and words after the call
-pub record Call : Type 0 where
+-- The job, and zeros after it; scratch ends zero.
+abbrev pub WrittenCall : Type 0
+WrittenCall =
+    reading (fileOf (declaredWith [] [] 0)) (bytes "true") 58148 14537 1024
+    ≡ record {
+      answer = Written 120;
+      out = fileOf (declaredWith (term 2 1 0 0 ∷ []) [] 1) ++ replicate 58028 0;
+      words = replicate 14537 0;
+      sets = replicate 1024 0;
+    }
+
+-- declarations and a text, by their bytes, and how many bytes of output, words of 32 bits and words of 64 bits are lent with them: refused with this
+-- number and record
+pub record RefusedCall : Type 0 where
   pub declarations : List ℕ
   pub text : List ℕ
   pub out : ℕ
   pub words : ℕ
   pub sets : ℕ
-  pub outcome : Outcome
+  pub number : ℕ
+  pub «record» : ℕ
 
-abbrev pub CallRight : Call → Type 0
-CallRight c = reading (c .declarations) (c .text) (c .out) (c .words) (c .sets) ≡ c .outcome
+abbrev pub RefusedRight : RefusedCall → Type 0
+RefusedRight c = reading (c .declarations) (c .text) (c .out) (c .words) (c .sets) .answer ≡ Refused (c .number) (c .«record»)
 
--- refused: all is zero
-abbrev refusedCall : List ℕ → List ℕ → ℕ → ℕ → ℕ → ℕ → ℕ → Call
-refusedCall f t o w s n i = record {
-  declarations = f;
-  text = t;
-  out = o;
-  words = w;
-  sets = s;
-  outcome = record { answer = Refused n i; out = replicate o 0; words = replicate w 0; sets = replicate s 0 };
-}
+abbrev refusedCall : List ℕ → List ℕ → ℕ → ℕ → ℕ → ℕ → ℕ → RefusedCall
+refusedCall f t o w s n i = record { declarations = f; text = t; out = o; words = w; sets = s; number = n; «record» = i }
 
 -- the declarations of words, beside "true", with areas of the least lengths
-abbrev refusedDeclarations : List ℕ → ℕ → ℕ → Call
+abbrev refusedDeclarations : List ℕ → ℕ → ℕ → RefusedCall
 refusedDeclarations ws n i = refusedCall (encode ws) (bytes "true") 58148 14537 1024 n i
 
-unfoldable pub calls : List Call
+unfoldable pub refusedCalls : List RefusedCall
 unfolding bytes encode fileOf
-calls =
-    -- the job, and zeros after it
-    record {
-      declarations = fileOf (declaredWith [] [] 0);
-      text = bytes "true";
-      out = 58148;
-      words = 14537;
-      sets = 1024;
-      outcome = record {
-        answer = Written 120;
-        out = fileOf (declaredWith (term 2 1 0 0 ∷ []) [] 1) ++ replicate 58028 0;
-        words = replicate 14537 0;
-        sets = replicate 1024 0;
-      };
-    }
+refusedCalls =
     -- 1: no header; a byte too many
-    ∷ refusedCall [] (bytes "true") 58148 14537 1024 1 0
+    refusedCall [] (bytes "true") 58148 14537 1024 1 0
     ∷ refusedCall (fileOf (declaredWith [] [] 0) ++ (0 ∷ [])) (bytes "true") 58148 14537 1024 1 0
     -- 2: another version
     ∷ refusedDeclarations (2 ∷ 0 ∷ 0 ∷ 0 ∷ 0 ∷ 0 ∷ 0 ∷ 0 ∷ 0 ∷ []) 2 0
@@ -268,4 +257,5 @@ pub record ExamplesRight : Type 0 where
   pub unknown : All (Right (declaredWith [] [] 0)) unknownRows
   pub missorted : All (Right (declaredWith [] [] 0)) missortedRows
   pub crowded : All (Right crowded) crowdedRows
-  pub calls : All CallRight calls
+  pub written : WrittenCall
+  pub refused : All RefusedRight refusedCalls

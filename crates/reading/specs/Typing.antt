@@ -1,14 +1,13 @@
 -- The term that a formula stands for, where it is well sorted (else 8).
-use Prim.Native.Nat.{ℕ, zero, suc, _+_}
-use mathlib.Core.Bool.{Bool, true, false, cond, not, _&&_, _||_}
+use Prim.Native.Nat.{ℕ, zero, suc}
+use mathlib.Core.Bool.{Bool, true, cond, _&&_}
 use mathlib.Core.List.{List, [], _∷_, map}
 use mathlib.Core.Option.{Option, none, some}
-use lib.ListN.{length}
-use lib.Dec.{eqb, leb, ltb}
+use lib.Dec.{eqb}
 use Rattle.bundle.specs.Bundle.{Bundle, sortOfVariable}
 use Rattle.bundle.specs.Lists.{sameList, different}
 use Rattle.logic.specs.Terms.{Binder, Term, Terms, var, app, bind, letIn}
-use Rattle.logic.specs.Symbols.{truthSort, itemSort, isSort, signatureOf, argumentSorts, resultSort}
+use Rattle.logic.specs.Symbols.{truthSort, itemSort, signatureOf, argumentSorts, resultSort}
 use Rattle.grammar.specs.Bytes.{SortWord, bool, item, Connective, conjunction, disjunction, implication, equality}
 use Rattle.grammar.specs.Grammar.{SortedVariable, declares, Formula, called, truth, bracketed, Bracketed, denies, connects, applies, quantifies, lets}
 use Rattle.grammar.specs.Grammar.{Formulas, noFormula, andFormula, Bindings, noBinding, andBinding}

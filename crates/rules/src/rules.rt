@@ -23,6 +23,7 @@ use images::images::image_of;
 use images::images::is_free;
 use images::images::is_settled;
 use images::images::is_variable;
+use images::images::next_free;
 use logic::Image;
 use logic::kinds::APPLICATION;
 use logic::kinds::FIXES;
@@ -97,7 +98,8 @@ pub fn cong_holds(file: &[u8], b: Bundle, s: StepWords, proved: bool) -> bool
 
 pub fn trans_holds(file: &[u8], b: Bundle, bed: &[u32], s: StepWords) -> bool
     requires { ⌜ Whole (now file) b ⌝ }
-    ensures { λ r. ⌜ r ≡ passed (transTestsBy (stepIn (bundleAt (now (file .entry)) b) (now (bed .entry))) (bundleAt (now (file .entry)) b) (asStep s)) ⌝ }
+    ensures { λ r. ⌜ (let bundle = bundleAt (now (file .entry)) b in
+        r ≡ passed (transTestsBy (stepIn bundle (now (bed .entry))) bundle (asStep s))) ⌝ }
 {
     let context = s.context;
     let left = s.left;
@@ -121,8 +123,8 @@ pub fn trans_side(
     s: StepWords,
 ) -> bool
     requires { ⌜ Whole (now file) b × (n * b .terms ≤ length (now area)) × (n * (b .contexts + 1) ≤ length (now moved)) × (s .context ≤ b .contexts) ⌝ }
-    ensures { λ r. ⌜ r ≡ transSideBy (allSettledIn b (now (area .entry)) (now (moved .entry)) n) (stepIn (bundleAt (now (file .entry)) b) (now (bed .entry)))
-        (bundleAt (now (file .entry)) b) (asStep s) ⌝ }
+    ensures { λ r. ⌜ (let bundle = bundleAt (now (file .entry)) b in
+        r ≡ transSideBy (allSettledIn b (now (area .entry)) (now (moved .entry)) n) (stepIn bundle (now (bed .entry))) bundle (asStep s)) ⌝ }
 {
     let context = s.context;
     let premises = s.premises;
@@ -136,7 +138,8 @@ pub fn trans_side(
 // The terms: quantifiers of one kind, and a premise that carries the one body to the other.
 pub fn bind_terms(file: &[u8], b: Bundle, bed: &[u32], s: StepWords) -> bool
     requires { ⌜ Whole (now file) b ⌝ }
-    ensures { λ r. ⌜ r ≡ passed (bindTermsBy (stepIn (bundleAt (now (file .entry)) b) (now (bed .entry))) (bundleAt (now (file .entry)) b) (asStep s)) ⌝ }
+    ensures { λ r. ⌜ (let bundle = bundleAt (now (file .entry)) b in
+        r ≡ passed (bindTermsBy (stepIn bundle (now (bed .entry))) bundle (asStep s))) ⌝ }
 {
     let left = s.left;
     let right = s.right;
@@ -157,7 +160,8 @@ pub fn bind_terms(file: &[u8], b: Bundle, bed: &[u32], s: StepWords) -> bool
 // The contexts: the premise's replaces x alone by y, its parent fixes y, whose parent is the step's.
 pub fn bind_contexts(file: &[u8], b: Bundle, bed: &[u32], s: StepWords) -> bool
     requires { ⌜ Whole (now file) b ⌝ }
-    ensures { λ r. ⌜ r ≡ passed (bindContextsBy (stepIn (bundleAt (now (file .entry)) b) (now (bed .entry))) (bundleAt (now (file .entry)) b) (asStep s)) ⌝ }
+    ensures { λ r. ⌜ (let bundle = bundleAt (now (file .entry)) b in
+        r ≡ passed (bindContextsBy (stepIn bundle (now (bed .entry))) bundle (asStep s))) ⌝ }
 {
     let context = s.context;
     let left = s.left;
@@ -221,24 +225,25 @@ pub fn bind_sides(
     if is_free(b, area, n, left, y) {
         return false;
     }
-    let mut z = b.variables;
-    while z != 0 {
-        if is_free(b, area, n, left, z) {
-            let image = image_of(b, images, context, z);
-            if free_in_image(b, area, n, image, z, y) {
-                return false;
-            }
+    let mut z = 0;
+    loop {
+        z = next_free(b, area, n, left, z + 1);
+        if z == 0 {
+            return true;
         }
-        z -= 1;
+        let image = image_of(b, images, context, z);
+        if free_in_image(b, area, n, image, z, y) {
+            return false;
+        }
     }
-    true
 }
 
 // ---- LET
 
 pub fn let_holds(file: &[u8], b: Bundle, bed: &[u32], s: StepWords) -> bool
     requires { ⌜ Whole (now file) b ⌝ }
-    ensures { λ r. ⌜ r ≡ passed (letTestsBy (stepIn (bundleAt (now (file .entry)) b) (now (bed .entry))) (bundleAt (now (file .entry)) b) (asStep s)) ⌝ }
+    ensures { λ r. ⌜ (let bundle = bundleAt (now (file .entry)) b in
+        r ≡ passed (letTestsBy (stepIn bundle (now (bed .entry))) bundle (asStep s))) ⌝ }
 {
     let context = s.context;
     let left = s.left;

@@ -3,6 +3,8 @@
 --     bit-pow                      2 ^ j has bit j and no other
 --     bit-with, bit-without        one bit set, one bit cleared
 --     bit-none                     0 has no bit
+--     bit-shift                    bit j of a word shifted right by k is bit k + j
+--     trailing-below, trailing-here     the trailing zeros of a word stand below its lowest bit that is set
 --     bits-same                    two numbers below 2 ^ n with the same n lowest bits are equal
 use mathlib.Core.Path.{_≡_, refl, sym, ap, _∙_}
 use mathlib.Core.Bool.{Bool, true, false, not, _&&_, _||_, false≢true}
@@ -13,6 +15,7 @@ use native.Mathlib.Decide.{decLt, ℕ-discrete}
 use lib.Dec.{eqb}
 use lib.Arith.{digits-mod}
 use lib.Pow.{pow-lt, pow-add, shl-shr}
+use lib.Count.{under, trailingZeros}
 use lib.Bits.{bitAnd, bitOr, bitXor, differ, and-step, or-step, xor-step, and-shr, or-shr, xor-shr, shifted-even}
 use borrow.Author.Tests.{eq-eqb, ne-eqb}
 use Rattle.sets.specs.Sets.{bitAt, withBit, withoutBit}
@@ -104,6 +107,35 @@ bit-none k = rw (zero-div (2 ^ k))
 -- bit k of the half is bit k + 1
 pub bit-half : (x k : ℕ) → bitAt (x / 2) k ≡ bitAt x (suc k)
 bit-half x k = rw (div-div-eq-div-mul x 2 (2 ^ k), pow-succ' 2 k)
+
+pub bit-shift : (x k j : ℕ) → bitAt (x / 2 ^ k) j ≡ bitAt x (k + j)
+bit-shift x k j = rw (div-div-eq-div-mul x (2 ^ k) (2 ^ j), pow-add 2 k j)
+
+-- the lowest bit
+bit-low : (x d : ℕ) → x % 2 ≡ d → bitAt x 0 ≡ eqb d 1
+bit-low x d e = rw (div-one x, e)
+
+pub trailing-below : (k x j : ℕ) → j < trailingZeros k x → bitAt x j ≡ false
+unfolding trailingZeros
+trailing-below zero x j h = absurd (omega arith)
+trailing-below (suc k) x j h = go (x % 2) refl j h (trailing-below k (x / 2))
+  where
+    go : (d : ℕ) → x % 2 ≡ d → (j : ℕ) → j < under d (trailingZeros k (x / 2)) → ((i : ℕ) → i < trailingZeros k (x / 2) → bitAt (x / 2) i ≡ false)
+        → bitAt x j ≡ false
+    go zero e zero l ih = bit-low x 0 e
+    go zero e (suc i) l ih = sym (bit-half x i) ∙ ih i (omega arith)
+    go (suc d) e i l ih = absurd (omega arith)
+
+pub trailing-here : (k x : ℕ) → trailingZeros k x < k → bitAt x (trailingZeros k x) ≡ true
+unfolding trailingZeros
+trailing-here zero x h = absurd (omega arith)
+trailing-here (suc k) x h = go (x % 2) refl (mod-lt x (omega arith)) h (trailing-here k (x / 2))
+  where
+    go : (d : ℕ) → x % 2 ≡ d → d < 2 → under d (trailingZeros k (x / 2)) < suc k
+        → (trailingZeros k (x / 2) < k → bitAt (x / 2) (trailingZeros k (x / 2)) ≡ true) → bitAt x (under d (trailingZeros k (x / 2))) ≡ true
+    go zero e m l ih = sym (bit-half x (trailingZeros k (x / 2))) ∙ ih (omega arith)
+    go (suc zero) e m l ih = bit-low x 1 e
+    go (suc (suc d)) e m l ih = absurd (omega arith)
 
 same-digit : (x y : ℕ) → odd x ≡ odd y → x % 2 ≡ y % 2
 same-digit x y = go (x % 2) (y % 2) (mod-lt x (omega arith)) (mod-lt y (omega arith))

@@ -1,6 +1,7 @@
 -- Sets of variables in words of 64 bits. The set at `at` of n words stands in the words at, at + 1, .. at + n - 1. Variable v, counted from 1,
 -- is bit (v - 1) % 64 of word (v - 1) / 64 of the set. A number that has no bit there, 0 among them, is no member.
-use Prim.Native.Nat.{ℕ, zero, suc, _+_, _-_, _/_, _%_, _^_}
+use Prim.Native.Nat.{ℕ, zero, suc, _+_, _-_, _/_, _%_, _^_, _≤_, _<_}
+use mathlib.Core.Path.{_≡_}
 use mathlib.Core.List.{List}
 use mathlib.Core.Bool.{Bool, true, false, cond, _&&_}
 use lib.ListN.{getD, set}
@@ -17,6 +18,12 @@ withBit x k = bitOr x (2 ^ k)
 
 abbrev pub withoutBit : ℕ → ℕ → ℕ
 withoutBit x k = bitXor x (bitAnd x (2 ^ k))
+
+-- r is the least bit of x from k on that is set; 64 or more where none of the 64 is
+pub record LeastBit (x k r : ℕ) : Type 0 where
+  pub from : k ≤ r
+  pub below : (j : ℕ) → k ≤ j → j < r → bitAt x j ≡ false
+  pub here : r < 64 → bitAt x r ≡ true
 
 -- a set of n words has a bit for v
 unfoldable pub holds : ℕ → ℕ → Bool
@@ -54,3 +61,8 @@ united w to from n = filled (λ k. bitOr (getD w (to + k) 0) (getD w (from + k) 
 unfoldable pub disjointOf : List ℕ → ℕ → List ℕ → ℕ → ℕ → Bool
 disjointOf w first v second zero = true
 disjointOf w first v second (suc k) = eqb (bitAnd (getD w (first + k) 0) (getD v (second + k) 0)) 0 && disjointOf w first v second k
+
+-- r is the least number from v to `last` that passes the test p, such as the least member of a set; 0 where none of them does
+pub data Least (p : ℕ → Bool) (v last r : ℕ) : Type 0 where
+  none-is : r ≡ 0 → ((x : ℕ) → v ≤ x → x ≤ last → p x ≡ false) → Least p v last r
+  least-is : v ≤ r → r ≤ last → p r ≡ true → ((x : ℕ) → v ≤ x → x < r → p x ≡ false) → Least p v last r

@@ -2,7 +2,7 @@
 ghost use mathlib.Core.Path.{_≡_};
 ghost use Prim.Native.Nat.{_+_, _^_, _≤_, _<_};
 ghost use lib.ListN.{length};
-ghost use Rattle.sets.specs.Sets.{bitAt, withBit, withoutBit, member, inserted, removed, cleared, united, disjointOf};
+ghost use Rattle.sets.specs.Sets.{bitAt, withBit, withoutBit, member, inserted, removed, cleared, united, disjointOf, LeastBit, Least};
 
 // ---- One word
 
@@ -26,6 +26,14 @@ fn without_bit(x: u64, k: usize) -> u64
     ensures { λ r. ⌜ r ≡ withoutBit x k ⌝ }
 {
     x ^ (x & (1u64 << k))
+}
+
+// The least bit of x from k on that is set, 64 or more where there is none.
+fn lowest_bit(x: u64, k: usize) -> usize
+    requires { ⌜ k < 64 ⌝ }
+    ensures { λ r. ⌜ LeastBit x k r ⌝ }
+{
+    k + u64::trailing_zeros(x >> k) as usize
 }
 
 // ---- Sets: the n words of `area` from `at` on
@@ -114,4 +122,32 @@ pub fn disjoint(area: &[u64], first: usize, other: &[u64], second: usize, n: usi
         }
     }
     true
+}
+
+// The least member from v to `last`, 0 where there is none. No number above `last` is made, so that none can wrap.
+pub fn next_member(area: &[u64], at: usize, n: usize, v: usize, last: usize) -> usize
+    requires { ⌜ at + n ≤ length (now area) ⌝ }
+    ensures { λ r. ⌜ Least (member (now (area .entry)) at n) v last r ⌝ }
+{
+    let mut u = v;
+    if u != 0 {
+        u -= 1;
+    }
+    let mut k = u / 64;
+    let mut j = u % 64;
+    while k < n {
+        let i = lowest_bit(area[at + k], j);
+        if i < 64 {
+            if k > last / 64 {
+                return 0;
+            }
+            if i >= last - 64 * k {
+                return 0;
+            }
+            return 64 * k + i + 1;
+        }
+        k += 1;
+        j = 0;
+    }
+    0
 }

@@ -6,6 +6,7 @@ use bundle::lists::all_different;
 use bundle::lists::all_numbers;
 use bundle::lists::first_link;
 use bundle::records::term_field;
+use duplicates::same_term;
 use logic::kinds::APPLICATION;
 use logic::kinds::LET;
 use logic::kinds::TERM_KINDS;
@@ -17,7 +18,6 @@ use show_tables::tables::no_list;
 use show_tables::tables::not_lower;
 use show_tables::tables::not_to;
 use show_text::out;
-use terms::duplicates::same_term;
 
 fn bad_variable_term(b: Bundle, v: usize) {
     if !is_number(v, b.variables) {

@@ -20,7 +20,8 @@ use logic::kinds::VARIABLE;
 // The sort of term t by its record, from the sorts of the terms below it.
 fn sort_by(file: &[u8], b: Bundle, sorts: &[usize], t: usize) -> usize
     requires { ⌜ Whole (now file) b ⌝ }
-    ensures { λ r. ⌜ r ≡ sortBy (bundleAt (now (file .entry)) b) (λ i. getD (now (sorts .entry)) i 0) (termOf (bundleAt (now (file .entry)) b) t) ⌝ }
+    ensures { λ r. ⌜ (let bundle = bundleAt (now (file .entry)) b in
+        r ≡ sortBy bundle (λ i. getD (now (sorts .entry)) i 0) (termOf bundle t)) ⌝ }
 {
     let kind = term_field(file, b, t, 0);
     if kind == VARIABLE {

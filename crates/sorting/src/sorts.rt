@@ -1,18 +1,18 @@
 // Signatures of symbols, sorts of terms, and lists of sorts compared.
 ghost use mathlib.Core.Path.{_≡_};
-ghost use mathlib.Core.Bool.{true};
+ghost use mathlib.Core.Bool.{true, _&&_};
 ghost use mathlib.Core.List.{map};
 ghost use lib.ListN.{replicate, getD};
 ghost use Prim.Native.Nat.{_≤_};
 ghost use Rattle.bundle.specs.Limits.{limits};
 ghost use Rattle.bundle.specs.Bundle.{sortOfVariable};
 ghost use Rattle.bundle.specs.Links.{items};
-ghost use Rattle.bundle.specs.Lists.{sameList};
+ghost use Rattle.bundle.specs.Lists.{sameList, different};
 ghost use Rattle.bundle.specs.File.{Whole, bundleAt};
 ghost use Rattle.logic.specs.declared.Signature.the-variants.{BuiltIn};
 ghost use Rattle.logic.specs.Symbols.{truthSort, symbolKind, signature, known, argumentSorts, resultSort};
 ghost use Rattle.logic.specs.Sorts.{sortAt};
-ghost use Rattle.logic.specs.Checks.{listsAgree};
+ghost use Rattle.logic.specs.Checks.{notEmpty};
 ghost use Rattle.sorting.specs.Notes.{Sorted, Fitting};
 use bundle::Bundle;
 use bundle::halves::wide;
@@ -112,7 +112,8 @@ fn all_of_sort(
     terms: usize,
 ) -> bool
     requires { ⌜ Whole (now file) b × Sorted (now file) b (now sorts) ⌝ }
-    ensures { λ r. ⌜ r ≡ sameList (replicate count sort) (map (sortAt (bundleAt (now (file .entry)) b)) (items (bundleAt (now (file .entry)) b) terms)) ⌝ }
+    ensures { λ r. ⌜ (let bundle = bundleAt (now (file .entry)) b in
+        r ≡ sameList (replicate count sort) (map (sortAt bundle) (items bundle terms))) ⌝ }
 {
     let mut left = count;
     let mut i = first_link(b, terms);
@@ -142,10 +143,8 @@ fn far_sorts(
     terms: usize,
 ) -> bool
     requires { ⌜ Whole (now file) b × Sorted (now file) b (now sorts) × Fitting (now file) b (now fitting) × (list ≤ b .links) × (terms ≤ b .links) ⌝ }
-    ensures { λ r. ⌜
-        (r ≡ sameList (items (bundleAt (now (file .entry)) b) list)
-        (map (sortAt (bundleAt (now (file .entry)) b)) (items (bundleAt (now (file .entry)) b) terms)))
-        × (r ≡ true → Fitting (now (file .entry)) b (now (fitting .exit))) ⌝ }
+    ensures { λ r. ⌜ (let bundle = bundleAt (now (file .entry)) b in
+        (r ≡ sameList (items bundle list) (map (sortAt bundle) (items bundle terms))) × (r ≡ true → Fitting (now (file .entry)) b (now (fitting .exit)))) ⌝ }
 {
     let mut i = list;
     let mut j = terms;
@@ -179,10 +178,8 @@ fn same_sorts(
     terms: usize,
 ) -> bool
     requires { ⌜ Whole (now file) b × Sorted (now file) b (now sorts) × Fitting (now file) b (now fitting) ⌝ }
-    ensures { λ r. ⌜
-        (r ≡ sameList (items (bundleAt (now (file .entry)) b) list)
-        (map (sortAt (bundleAt (now (file .entry)) b)) (items (bundleAt (now (file .entry)) b) terms)))
-        × (r ≡ true → Fitting (now (file .entry)) b (now (fitting .exit))) ⌝ }
+    ensures { λ r. ⌜ (let bundle = bundleAt (now (file .entry)) b in
+        (r ≡ sameList (items bundle list) (map (sortAt bundle) (items bundle terms))) × (r ≡ true → Fitting (now (file .entry)) b (now (fitting .exit)))) ⌝ }
 {
     let mut i = first_link(b, list);
     let mut j = first_link(b, terms);
@@ -217,10 +214,8 @@ pub fn arguments_fit(
     terms: usize,
 ) -> bool
     requires { ⌜ Whole (now file) b × Sorted (now file) b (now sorts) × Fitting (now file) b (now fitting) ⌝ }
-    ensures { λ r. ⌜
-        (r ≡ sameList (argumentSorts (bundleAt (now (file .entry)) b) s)
-        (map (sortAt (bundleAt (now (file .entry)) b)) (items (bundleAt (now (file .entry)) b) terms)))
-        × (r ≡ true → Fitting (now (file .entry)) b (now (fitting .exit))) ⌝ }
+    ensures { λ r. ⌜ (let bundle = bundleAt (now (file .entry)) b in
+        (r ≡ sameList (argumentSorts bundle s) (map (sortAt bundle) (items bundle terms))) × (r ≡ true → Fitting (now (file .entry)) b (now (fitting .exit)))) ⌝ }
 {
     match s {
         Signature::BuiltIn {
@@ -237,10 +232,16 @@ pub fn arguments_fit(
 }
 
 // Whether the terms of a list have the sorts of the variables of another, one each.
-fn variables_fit(file: &[u8], b: Bundle, sorts: &[usize], variables: usize, terms: usize) -> bool
+pub fn variables_fit(
+    file: &[u8],
+    b: Bundle,
+    sorts: &[usize],
+    variables: usize,
+    terms: usize,
+) -> bool
     requires { ⌜ Whole (now file) b × Sorted (now file) b (now sorts) ⌝ }
-    ensures { λ r. ⌜ r ≡ sameList (map (sortOfVariable (bundleAt (now (file .entry)) b)) (items (bundleAt (now (file .entry)) b) variables))
-        (map (sortAt (bundleAt (now (file .entry)) b)) (items (bundleAt (now (file .entry)) b) terms)) ⌝ }
+    ensures { λ r. ⌜ (let bundle = bundleAt (now (file .entry)) b in
+        r ≡ sameList (map (sortOfVariable bundle) (items bundle variables)) (map (sortAt bundle) (items bundle terms))) ⌝ }
 {
     let mut i = first_link(b, variables);
     let mut j = first_link(b, terms);
@@ -261,14 +262,16 @@ fn variables_fit(file: &[u8], b: Bundle, sorts: &[usize], variables: usize, term
     j == 0
 }
 
-// Whether the lists of a let or of a replacing context agree: at least one variable, all different, as many terms, of the same sorts.
-pub fn lists_agree(file: &[u8], b: Bundle, sorts: &[usize], variables: usize, terms: usize) -> bool
-    requires { ⌜ Whole (now file) b × Sorted (now file) b (now sorts) ⌝ }
-    ensures { λ r. ⌜ r ≡ listsAgree (bundleAt (now (file .entry)) b) (items (bundleAt (now (file .entry)) b) variables)
-        (items (bundleAt (now (file .entry)) b) terms) ⌝ }
+// The lists of a let or of a replacing context agree where the variables are some and all different, and the terms fit them. Two tests, each small
+// enough to be part of its callers' loops.
+
+// Whether there is at least one variable, and all are different.
+pub fn some_different(file: &[u8], b: Bundle, variables: usize) -> bool
+    requires { ⌜ Whole (now file) b ⌝ }
+    ensures { λ r. ⌜ (let bundle = bundleAt (now (file .entry)) b in
+        r ≡ (notEmpty (items bundle variables) && different (items bundle variables))) ⌝ }
 {
     let some = first_link(b, variables) != 0;
     let different = all_different(file, b, variables);
-    let fit = variables_fit(file, b, sorts, variables, terms);
-    some & different & fit
+    some & different
 }

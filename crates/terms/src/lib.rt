@@ -5,7 +5,6 @@ ghost use Rattle.bundle.specs.File.{Whole, bundleAt};
 ghost use Rattle.logic.specs.Checks.{sectionsFault, tablesFault};
 ghost use Rattle.sorting.specs.Notes.{Sorted};
 
-pub mod duplicates; // duplicates.rt: 9
 pub mod terms; // terms.rt: 7, 8, and all of a term
 
 use bundle::Bundle;

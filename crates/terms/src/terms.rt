@@ -8,16 +8,20 @@ ghost use Rattle.bundle.specs.Lists.{numbers};
 ghost use Rattle.bundle.specs.File.{Whole, bundleAt};
 ghost use Rattle.bundle.specs.LinkNotes.{Zeros, LowerNoted};
 ghost use Rattle.bundle.specs.Filed.{digests};
-ghost use Rattle.logic.specs.Checks.{refers, sorted, termFault, termsFault};
-ghost use Rattle.terms.specs.Digests.{termDigest, FiledBelow};
+ghost use Rattle.logic.specs.Terms.{kindOf};
+ghost use Rattle.logic.specs.Tests.{passed};
+ghost use Rattle.logic.specs.Checks.{refersAs, sortedAs, termFault, termsFault};
+ghost use Rattle.duplicates.specs.TermWords.{asTerm};
+ghost use Rattle.duplicates.specs.Digests.{termDigest, FiledBelow};
 ghost use Rattle.sorting.specs.Notes.{Sorted, Fitting};
-use super::duplicates::digest;
-use super::duplicates::is_new;
 use bundle::Bundle;
 use bundle::digests::DIGESTS;
 use bundle::lists::all_numbers;
 use bundle::notes::all_lower;
 use bundle::records::term_field;
+use duplicates::TermWords;
+use duplicates::digest;
+use duplicates::is_new;
 use logic::Fault;
 use logic::kinds::APPLICATION;
 use logic::kinds::LET;
@@ -26,9 +30,23 @@ use logic::kinds::is_binder;
 use logic::no_fault;
 use sorting::sorts::arguments_fit;
 use sorting::sorts::is_known;
-use sorting::sorts::lists_agree;
 use sorting::sorts::signature_of;
+use sorting::sorts::some_different;
 use sorting::sorts::sort_in;
+use sorting::sorts::variables_fit;
+
+// The words of term i.
+fn term_words(file: &[u8], b: Bundle, i: usize) -> TermWords
+    requires { ⌜ Whole (now file) b ⌝ }
+    ensures { λ r. ⌜ asTerm r ≡ termOf (bundleAt (now (file .entry)) b) i ⌝ }
+{
+    TermWords {
+        kind: term_field(file, b, i, 0),
+        first: term_field(file, b, i, 1),
+        second: term_field(file, b, i, 2),
+        third: term_field(file, b, i, 3),
+    }
+}
 
 // Whether x is a record's number in a section of n.
 fn is_number(n: usize, x: usize) -> bool
@@ -37,15 +55,16 @@ fn is_number(n: usize, x: usize) -> bool
     (0 < x) & (x <= n)
 }
 
-// 7: whether the kind of term i is one, its unused fields are zero, and it refers to variables, symbols, links and lower terms.
-pub fn term_refers(file: &[u8], b: Bundle, lower: &mut [u8], i: usize) -> bool
+// 7: whether the kind of term i, by its words, is one, its unused fields are zero, and it refers to variables, symbols, links and lower terms.
+pub fn term_refers(file: &[u8], b: Bundle, lower: &mut [u8], w: TermWords, i: usize) -> bool
     requires { ⌜ Whole (now file) b × LowerNoted (now file) b (i - 1) (now lower) × (1 ≤ i) ⌝ }
-    ensures { λ r. ⌜ (r ≡ refers (bundleAt (now (file .entry)) b) i) × (r ≡ true → LowerNoted (now (file .entry)) b (i - 1) (now (lower .exit))) ⌝ }
+    ensures { λ r. ⌜ (r ≡ passed (refersAs (bundleAt (now (file .entry)) b) (kindOf (w .kind)) i (asTerm w)))
+        × (r ≡ true → LowerNoted (now (file .entry)) b (i - 1) (now (lower .exit))) ⌝ }
 {
-    let kind = term_field(file, b, i, 0);
-    let first = term_field(file, b, i, 1);
-    let second = term_field(file, b, i, 2);
-    let third = term_field(file, b, i, 3);
+    let kind = w.kind;
+    let first = w.first;
+    let second = w.second;
+    let third = w.third;
     let links = b.links;
     let variables = b.variables;
     let below = i - 1;
@@ -67,14 +86,21 @@ pub fn term_refers(file: &[u8], b: Bundle, lower: &mut [u8], i: usize) -> bool
     (first <= links) & bound & (second <= links) & terms & is_number(below, third)
 }
 
-// 8: whether the counts and sorts of term i are right.
-pub fn term_sorted(file: &[u8], b: Bundle, sorts: &[usize], fitting: &mut [u16], i: usize) -> bool
+// 8: whether the counts and sorts of a term are right, by its words.
+pub fn term_sorted(
+    file: &[u8],
+    b: Bundle,
+    sorts: &[usize],
+    fitting: &mut [u16],
+    w: TermWords,
+) -> bool
     requires { ⌜ Whole (now file) b × Sorted (now file) b (now sorts) × Fitting (now file) b (now fitting) ⌝ }
-    ensures { λ r. ⌜ (r ≡ sorted (bundleAt (now (file .entry)) b) i) × (r ≡ true → Fitting (now (file .entry)) b (now (fitting .exit))) ⌝ }
+    ensures { λ r. ⌜ (r ≡ sortedAs (bundleAt (now (file .entry)) b) (kindOf (w .kind)) (asTerm w))
+        × (r ≡ true → Fitting (now (file .entry)) b (now (fitting .exit))) ⌝ }
 {
-    let kind = term_field(file, b, i, 0);
-    let first = term_field(file, b, i, 1);
-    let second = term_field(file, b, i, 2);
+    let kind = w.kind;
+    let first = w.first;
+    let second = w.second;
     if kind == APPLICATION {
         return arguments_fit(file, b, sorts, fitting, signature_of(b, first), second);
     }
@@ -82,12 +108,14 @@ pub fn term_sorted(file: &[u8], b: Bundle, sorts: &[usize], fitting: &mut [u16],
         return sort_in(sorts, second) == 0;
     }
     if kind == LET {
-        return lists_agree(file, b, sorts, first, second);
+        let distinct = some_different(file, b, first);
+        let fit = variables_fit(file, b, sorts, first, second);
+        return distinct & fit;
     }
     true
 }
 
-// What is wrong with term i, where the terms below it are filed, and d is its digest. A later test is made where the earlier ones hold.
+// What is wrong with term i, where the terms below it are filed, w are its words and d is its digest. A later test is made where the earlier ones hold.
 fn term_fault(
     file: &[u8],
     b: Bundle,
@@ -96,19 +124,21 @@ fn term_fault(
     fitting: &mut [u16],
     heads: &[u16; DIGESTS],
     next: &[u16],
+    w: TermWords,
     i: usize,
     d: usize,
 ) -> usize
     requires { ⌜ Whole (now file) b × Sorted (now file) b (now sorts) × LowerNoted (now file) b (i - 1) (now lower) × Fitting (now file) b (now fitting) ⌝ }
-    requires { ⌜ FiledBelow (bundleAt (now file) b) (now heads) (now next) i × (1 ≤ i) × (i < length (now next)) × (d < digests)
-        × (d ≡ termDigest (bundleAt (now file) b) (termOf (bundleAt (now file) b) i)) ⌝ }
+    requires { ⌜ (let bundle = bundleAt (now file) b in
+        FiledBelow bundle (now heads) (now next) i × (1 ≤ i) × (i < length (now next)) × (d < digests) × (d ≡ termDigest bundle (termOf bundle i)) × (asTerm w
+        ≡ termOf bundle i)) ⌝ }
     ensures { λ r. ⌜ (r ≡ termFault (bundleAt (now (file .entry)) b) i)
         × (r ≡ 0 → LowerNoted (now (file .entry)) b (i - 1) (now (lower .exit)) × Fitting (now (file .entry)) b (now (fitting .exit))) ⌝ }
 {
-    if !term_refers(file, b, lower, i) {
+    if !term_refers(file, b, lower, w, i) {
         return 7;
     }
-    if !term_sorted(file, b, sorts, fitting, i) {
+    if !term_sorted(file, b, sorts, fitting, w) {
         return 8;
     }
     if !is_new(file, b, heads, next, i, d) {
@@ -134,8 +164,9 @@ fn noted_fault(
     let mut heads = [0u16; DIGESTS];
     let mut i = 1;
     while i <= terms {
-        let d = digest(file, b, i);
-        let number = term_fault(file, b, sorts, lower, fitting, &heads, next, i, d);
+        let w = term_words(file, b, i);
+        let d = digest(file, b, w);
+        let number = term_fault(file, b, sorts, lower, fitting, &heads, next, w, i, d);
         if number != 0 {
             return Fault { number, record: i };
         }

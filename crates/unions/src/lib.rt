@@ -66,8 +66,8 @@ fn unite_first(
     list: usize,
 ) -> usize
     requires { ⌜ Whole (now file) b × SetRoom (now area) n t at ⌝ }
-    ensures { λ r. ⌜ (r ≤ b .links) × Partly (now (area .entry)) (now (area .exit)) n t at (items (bundleAt (now (file .entry)) b) list)
-        (items (bundleAt (now (file .entry)) b) r) ⌝ }
+    ensures { λ r. ⌜ (let bundle = bundleAt (now (file .entry)) b in
+        (r ≤ b .links) × Partly (now (area .entry)) (now (area .exit)) n t at (items bundle list) (items bundle r)) ⌝ }
 {
     let mut left = SHORT;
     let mut i = first_link(b, list);
@@ -155,8 +155,8 @@ fn learn_link(
     marks: &mut [u16],
     k: usize,
 ) -> usize
-    requires { ⌜ Whole (now file) b × SetsBelow (now area) n t (bundleAt (now file) b) × Unions (bundleAt (now file) b) n t (now lists) (now marks) × (1 ≤ k)
-        × (k ≤ b .links) ⌝ }
+    requires { ⌜ (let bundle = bundleAt (now file) b in
+        Whole (now file) b × SetsBelow (now area) n t bundle × Unions bundle n t (now lists) (now marks) × (1 ≤ k) × (k ≤ b .links)) ⌝ }
     ensures { λ r. ⌜ (r < k) × Unions (bundleAt (now (file .entry)) b) n t (now (lists .exit)) (now (marks .exit)) ⌝ }
 {
     let term = link_field(file, b, k, 0);
@@ -187,8 +187,8 @@ fn walk_back(
     marks: &mut [u16],
     last: usize,
 )
-    requires { ⌜ Whole (now file) b × SetsBelow (now area) n t (bundleAt (now file) b) × Unions (bundleAt (now file) b) n t (now lists) (now marks)
-        × (last ≤ b .links) ⌝ }
+    requires { ⌜ (let bundle = bundleAt (now file) b in
+        Whole (now file) b × SetsBelow (now area) n t bundle × Unions bundle n t (now lists) (now marks) × (last ≤ b .links)) ⌝ }
     ensures { λ _. ⌜ Unions (bundleAt (now (file .entry)) b) n t (now (lists .exit)) (now (marks .exit)) ⌝ }
 {
     let mut k = last;
@@ -210,8 +210,8 @@ fn unite_met(
     lists: &mut [u64],
     marks: &mut [u16],
 )
-    requires { ⌜ Whole (now file) b × SetRoom (now area) n t at × SetsBelow (now area) n t (bundleAt (now file) b)
-        × Unions (bundleAt (now file) b) n t (now lists) (now marks) × (i ≤ b .links) ⌝ }
+    requires { ⌜ (let bundle = bundleAt (now file) b in
+        Whole (now file) b × SetRoom (now area) n t at × SetsBelow (now area) n t bundle × Unions bundle n t (now lists) (now marks) × (i ≤ b .links)) ⌝ }
     ensures { λ _. ⌜ Put (now (area .entry)) (now (area .exit)) n at
         (λ x. member (now (area .entry)) at n x || freesOf (setBelow (now (area .entry)) n t) (items (bundleAt (now (file .entry)) b) i) x) ⌝ }
     ensures { λ _. ⌜ Unions (bundleAt (now (file .entry)) b) n t (now (lists .exit)) (now (marks .exit)) ⌝ }
@@ -247,8 +247,8 @@ fn unite_new(
     marks: &mut [u16],
 ) -> usize
     requires { ⌜ Whole (now file) b × SetRoom (now area) n t at × (b .links < length (now marks)) × (start ≤ b .links) ⌝ }
-    ensures { λ r. ⌜ (r ≤ b .links) × Partly (now (area .entry)) (now (area .exit)) n t at (items (bundleAt (now (file .entry)) b) start)
-        (items (bundleAt (now (file .entry)) b) r) ⌝ }
+    ensures { λ r. ⌜ (let bundle = bundleAt (now (file .entry)) b in
+        (r ≤ b .links) × Partly (now (area .entry)) (now (area .exit)) n t at (items bundle start) (items bundle r)) ⌝ }
     ensures { λ _. ⌜ Fewer (now (marks .entry)) (now (marks .exit)) ⌝ }
 {
     let mut i = start;
@@ -273,8 +273,8 @@ fn unite_rest(
     lists: &mut [u64],
     marks: &mut [u16],
 )
-    requires { ⌜ Whole (now file) b × SetRoom (now area) n t at × SetsBelow (now area) n t (bundleAt (now file) b)
-        × Unions (bundleAt (now file) b) n t (now lists) (now marks) × (i ≤ b .links) ⌝ }
+    requires { ⌜ (let bundle = bundleAt (now file) b in
+        Whole (now file) b × SetRoom (now area) n t at × SetsBelow (now area) n t bundle × Unions bundle n t (now lists) (now marks) × (i ≤ b .links)) ⌝ }
     ensures { λ _. ⌜ Put (now (area .entry)) (now (area .exit)) n at
         (λ x. member (now (area .entry)) at n x || freesOf (setBelow (now (area .entry)) n t) (items (bundleAt (now (file .entry)) b) i) x) ⌝ }
     ensures { λ _. ⌜ Unions (bundleAt (now (file .entry)) b) n t (now (lists .exit)) (now (marks .exit)) ⌝ }
@@ -297,8 +297,8 @@ pub fn unite_list(
     lists: &mut [u64],
     marks: &mut [u16],
 )
-    requires { ⌜ Whole (now file) b × SetRoom (now area) n t at × SetsBelow (now area) n t (bundleAt (now file) b)
-        × Unions (bundleAt (now file) b) n t (now lists) (now marks) ⌝ }
+    requires { ⌜ (let bundle = bundleAt (now file) b in
+        Whole (now file) b × SetRoom (now area) n t at × SetsBelow (now area) n t bundle × Unions bundle n t (now lists) (now marks)) ⌝ }
     ensures { λ _. ⌜ Put (now (area .entry)) (now (area .exit)) n at
         (λ x. member (now (area .entry)) at n x || freesOf (setBelow (now (area .entry)) n t) (items (bundleAt (now (file .entry)) b) list) x) ⌝ }
     ensures { λ _. ⌜ Unions (bundleAt (now (file .entry)) b) n t (now (lists .exit)) (now (marks .exit)) ⌝ }

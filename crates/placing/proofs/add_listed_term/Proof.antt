@@ -50,7 +50,8 @@ returns-2 c =
     let l = c .before .before .before .before .before .before .before .before .before .before .add-halves in
     let t = c .before .before .add-term in (
       t .ensures .0 ∙ l .ensures .0,
-      term-on (l .ensures .1) (c .before .before .before .before .before .before .listed .given .1) (λ n. record { kind = a .kind; a = a .first; b = n; c = a .third }) (t .ensures .1),
+      term-on (l .ensures .1) (c .before .before .before .before .before .before .listed .given .1)
+          (λ n. record { kind = a .kind; a = a .first; b = n; c = a .third }) (t .ensures .1),
       t .ensures .2,
     )
 

@@ -55,7 +55,8 @@ add-listed-term-requires c κs =
       omega arith,
       s .pre .4,
       m .ensures .1,
-      application-filed (bundleIn (a .words .now) (a .c)) (a .symbol) (halves true (a .stack .now) (a .from) (a .to)) (m .result) (own-digest (c .before .before .before .before .before .before)),
+      application-filed (bundleIn (a .words .now) (a .c)) (a .symbol) (halves true (a .stack .now) (a .from) (a .to)) (m .result)
+          (own-digest (c .before .before .before .before .before .before)),
     )
 
 same-length-2 : tie.Need-same-length-2

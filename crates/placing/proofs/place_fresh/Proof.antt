@@ -47,7 +47,8 @@ returns-2 c =
     let t = c .before .before .place-variable in (
       t .ensures .0 ∙ v .ensures .1,
       fresh-on (v .last .0) (v .result) (bundleIn (a .words .now) (a .c)) (a .x) _ (a .c .variables + 1) (v .ensures .2)
-          (c .before .before .before .before .before .before .before .before .before .before .variable-sort .ensures .0) (add-one (a .c .variables) ∙ ap suc (sym (sized-in (a .words .now) (a .c) .variables)))
+          (c .before .before .before .before .before .before .before .before .before .before .variable-sort .ensures .0)
+          (add-one (a .c .variables) ∙ ap suc (sym (sized-in (a .words .now) (a .c) .variables)))
           (t .ensures .1),
       t .ensures .2,
     )

@@ -65,7 +65,7 @@ returns-2 c =
     let l = c .before .before .before .before .add-halves in
     let f = c .before .before .before .before .before .before .before .find-let in (
       l .ensures .0,
-      let-full (bundleIn (a .words .now) (a .c)) (halves false (a .stack .now) (a .from) (a .to)) (halves true (a .stack .now) (a .from) (a .to)) (a .body) _
+      let-full (bundleIn (a .words .now) (a .c)) (halves false (a .stack .now) (a .from) (a .to)) (halves true (a .stack .now) (a .from) (a .to)) (a .body)
           (f .result) (f .ensures) (c .before .before .before .before .before .before .if1 .left) (l .ensures .1) (c .enum-told .given .1),
       full-record,
     )
@@ -75,13 +75,15 @@ same-length-3 c = search needs
 
 returns-3 : tie.Need-returns-3
 returns-3 c =
-    let a = c .before .before .before .before .before .before .before .before .before .before .before .before .before .before .before .before .before .before .before .args in
+    let a = c .before .before .before .before .before .before .before .before .before .before .before .before .before .before .before .before .before .before
+    .before .args in
     let l = c .before .before .before .before .before .before .before .before .before .before .add-halves in
     let f = c .before .before .before .before .before .before .before .before .before .before .before .before .before .find-let in
     let t = c .before .before .add-listed-term in (
       t .ensures .0 ∙ l .ensures .0,
-      let-on (bundleIn (a .words .now) (a .c)) (halves false (a .stack .now) (a .from) (a .to)) (halves true (a .stack .now) (a .from) (a .to)) (a .body) _
-          (f .result) (f .ensures) (c .before .before .before .before .before .before .before .before .before .before .before .before .if1 .left) (l .ensures .1) (c .before .before .before .before .before .before .named .given .1) (t .ensures .1),
+      let-on (bundleIn (a .words .now) (a .c)) (halves false (a .stack .now) (a .from) (a .to)) (halves true (a .stack .now) (a .from) (a .to)) (a .body)
+          (f .result) (f .ensures) (c .before .before .before .before .before .before .before .before .before .before .before .before .if1 .left)
+          (l .ensures .1) (c .before .before .before .before .before .before .named .given .1) (t .ensures .1),
       t .ensures .2,
     )
 

@@ -1,6 +1,8 @@
 -- `contexts::context_refers` meets its contract: in each branch the kind is known, and the tests are those that `contextRefersAs` lists for it.
 use borrow.Author.Needs.{needs}
 use Rattle.bundle.proofs.Fields.{variables-length, terms-length, links-length}
+use Rattle.logic.specs.Tests.{passed}
+use Rattle.logic.specs.Checks.{listsAgree}
 use Rattle.logic.specs.Contexts.{contextRefers}
 use Rattle.logic.proofs.Entries.{entry-none}
 use Rattle.contexts.proofs.contexts.context_refers.Statement.{statement}
@@ -36,24 +38,28 @@ all-numbers-requires c κs = search needs
 all-numbers-requires-2 : tie.Need-all-numbers-requires-2
 all-numbers-requires-2 c κs = search needs
 
-lists-agree-requires : tie.Need-lists-agree-requires
-lists-agree-requires c κs = search needs
+some-different-requires : tie.Need-some-different-requires
+some-different-requires c κs = search needs
+
+variables-fit-requires : tie.Need-variables-fit-requires
+variables-fit-requires c κs = search needs
 
 returns-2 : tie.Need-returns-2
-unfolding contextRefers
+unfolding contextRefers listsAgree passed
 returns-2 c =
     rw (
-      ← c .before .before .before .before .before .before .before .before .context-field .ensures,
-      c .before .before .before .if2 .taken,
-      ← c .before .before .before .before .before .before .before .context-field2 .ensures,
-      ← c .before .before .before .before .before .before .context-field3 .ensures,
-      ← c .before .before .before .before .before .context-field4 .ensures,
+      ← c .before .before .before .before .before .before .before .before .before .context-field .ensures,
+      c .before .before .before .before .if2 .taken,
+      ← c .before .before .before .before .before .before .before .before .context-field2 .ensures,
+      ← c .before .before .before .before .before .before .before .context-field3 .ensures,
+      ← c .before .before .before .before .before .before .context-field4 .ensures,
       variables-length,
       terms-length,
       links-length,
-      ← c .before .before .all-numbers .ensures,
-      ← c .before .all-numbers2 .ensures,
-      ← c .lists-agree .ensures,
+      ← c .before .before .before .all-numbers .ensures,
+      ← c .before .before .all-numbers2 .ensures,
+      ← c .before .some-different .ensures,
+      ← c .variables-fit .ensures,
     )
 
 returns-3 : tie.Need-returns-3
@@ -76,6 +82,7 @@ context-refers-spec =
     returns
     all-numbers-requires
     all-numbers-requires-2
-    lists-agree-requires
+    some-different-requires
+    variables-fit-requires
     returns-2
     returns-3)

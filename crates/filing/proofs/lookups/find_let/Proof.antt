@@ -46,7 +46,8 @@ loop-holds c =
     let e : c .wide .result ≡ getD (a .index .now) (a .d) 0 = c .wide .ensures in (
       omega (arith, filed .low (a .d) (k .pre .2), sized-in (a .words .now) (a .c) .terms),
       sought-start filed _ (a .d) (k .pre .2)
-          (λ j t. let-digest (bundleIn (a .words .now) (a .c)) (halves false (a .stack .now) (a .from) (a .to)) (halves true (a .stack .now) (a .from) (a .to)) (a .body) _ t ∙ sym (k .pre .3)) e,
+          (λ j t. let-digest (bundleIn (a .words .now) (a .c)) (halves false (a .stack .now) (a .from) (a .to)) (halves true (a .stack .now) (a .from) (a .to))
+          (a .body) _ t ∙ sym (k .pre .3)) e,
     )
 
 is-let-requires : tie.Need-is-let-requires Inv-loop μ-loop
@@ -81,9 +82,11 @@ loop-again c =
       omega (arith, l .inv .0, sought-less filed some e),
       ⊎-elim
           (λ w. sought-hit filed
-          {p = λ j. same (bundleIn (a .words .now) (a .c)) (a .body) (a .stack .now) (a .from) (a .to) (termOf (bundleIn (a .words .now) (a .c)) j)} (l .inv .1) some e (c .before .before .before .is-let .ensures) (w .0 .taken) (w .1))
+          {p = λ j. same (bundleIn (a .words .now) (a .c)) (a .body) (a .stack .now) (a .from) (a .to) (termOf (bundleIn (a .words .now) (a .c)) j)}
+          (l .inv .1) some e (c .before .before .before .is-let .ensures) (w .0 .taken) (w .1))
           (λ w. sought-miss filed
-          {p = λ j. same (bundleIn (a .words .now) (a .c)) (a .body) (a .stack .now) (a .from) (a .to) (termOf (bundleIn (a .words .now) (a .c)) j)} (l .inv .1) some e (c .before .before .before .is-let .ensures) (w .0 .left) (w .1))
+          {p = λ j. same (bundleIn (a .words .now) (a .c)) (a .body) (a .stack .now) (a .from) (a .to) (termOf (bundleIn (a .words .now) (a .c)) j)}
+          (l .inv .1) some e (c .before .before .before .is-let .ensures) (w .0 .left) (w .1))
           (c .before .before .if1 .came),
     )
 
@@ -91,7 +94,8 @@ returns : tie.Need-returns Inv-loop μ-loop
 returns c =
     let a = c .before .before .before .before .before .before .args in
     let l = c .before .loop in
-    sought-end (bundleIn (a .words .now) (a .c)) (same (bundleIn (a .words .now) (a .c)) (a .body) (a .stack .now) (a .from) (a .to)) (a .index .now) (l .inv .1) (c .loop-test .left)
+    sought-end (bundleIn (a .words .now) (a .c)) (same (bundleIn (a .words .now) (a .c)) (a .body) (a .stack .now) (a .from) (a .to)) (a .index .now)
+    (l .inv .1) (c .loop-test .left)
 
 pub find-let-spec : {M : Type 1} → statement M
 find-let-spec =

@@ -39,27 +39,33 @@ returns-2 : tie.Need-returns-2
 returns-2 c =
     let t = c .before .before .before .before .before .before .before in
     let a = t .before .before .args in
-    X.lexes-run (a .text .now) (a .i) (t .skipped .result) (t .skipped .ensures) (c .before .before .run-end .result) (c .word-code .result) (c .before .before .run-end .ensures) (c .word-code .ensures)
+    X.lexes-run (a .text .now) (a .i) (t .skipped .result) (t .skipped .ensures) (c .before .before .run-end .result) (c .word-code .result)
+    (c .before .before .run-end .ensures) (c .word-code .ensures)
 
 add-end : tie.Need-add-end
 add-end c = search needs
-
-sub-t16 : tie.Need-sub-t16
-sub-t16 c = let k = c .before .before in let h = k .before .before .before .skipped .ensures .starts (k .before .before .if1 .left) in omega (arith, h, k .class-code .ensures)
 
 returns-3 : tie.Need-returns-3
 returns-3 c =
     let k = c .before .before in
     let t = k .before .before .before in
     let a = t .before .before .args in
-    X.lexes-bracket (a .text .now) (a .i) (t .skipped .result) (t .skipped .ensures) (k .before .before .if1 .left) (k .class-code .result) (k .class-code .ensures) (c .if3 .taken)
+    X.lexes-stray (a .text .now) (a .i) (t .skipped .result) (t .skipped .ensures) (k .before .before .if1 .left) (k .class-code .result)
+    (k .class-code .ensures) (c .if3 .taken) (c .before .if2 .left)
+
+sub-code : tie.Need-sub-code
+sub-code c =
+    let k = c .before .before in
+    let h = k .before .before .before .skipped .ensures .starts (k .before .before .if1 .left) in
+    omega (arith, h, k .class-code .ensures)
 
 returns-4 : tie.Need-returns-4
 returns-4 c =
     let k = c .before .before in
     let t = k .before .before .before in
     let a = t .before .before .args in
-    X.lexes-stray (a .text .now) (a .i) (t .skipped .result) (t .skipped .ensures) (k .before .before .if1 .left) (k .class-code .result) (k .class-code .ensures) (c .if3 .left) (c .before .if2 .left)
+    X.lexes-bracket (a .text .now) (a .i) (t .skipped .result) (t .skipped .ensures) (k .before .before .if1 .left) (k .class-code .result)
+    (k .class-code .ensures) (c .if3 .left)
 
 pub next-lexeme-spec : {M : Type 1} → statement M
 next-lexeme-spec =
@@ -76,6 +82,6 @@ next-lexeme-spec =
     word-code-requires
     returns-2
     add-end
-    sub-t16
     returns-3
+    sub-code
     returns-4)

@@ -30,14 +30,16 @@ returns c =
     let t = c .before in
     let l = t .before .before .before in
     let a = l .before .before .args in
-    run-low (a .text .now) (a .start) (l .loop .j) (l .loop .inv) (t .before .before .loop-test .taken) (t .class-code .result) (t .class-code .ensures) (c .if1 .taken)
+    run-low (a .text .now) (a .start) (l .loop .j) (l .loop .inv) (t .before .before .loop-test .taken) (t .class-code .result)
+    (t .class-code .ensures) (c .if1 .taken)
 
 returns-2 : tie.Need-returns-2 Inv-loop μ-loop
 returns-2 c =
     let t = c .before .before in
     let l = t .before .before .before in
     let a = l .before .before .args in
-    run-other (a .text .now) (a .start) (l .loop .j) (l .loop .inv) (t .before .before .loop-test .taken) (t .class-code .result) (t .class-code .ensures) (c .if2 .taken)
+    run-other (a .text .now) (a .start) (l .loop .j) (l .loop .inv) (t .before .before .loop-test .taken) (t .class-code .result)
+    (t .class-code .ensures) (c .if2 .taken)
 
 add-j-2 : tie.Need-add-j-2 Inv-loop μ-loop
 add-j-2 c = omega arith
@@ -50,7 +52,8 @@ loop-again c =
     let t = c .before .before in
     let l = t .before .before .before in
     let a = l .before .before .args in
-    run-on (a .text .now) (a .start) (l .loop .j) (l .loop .inv) (t .before .before .loop-test .taken) (t .class-code .result) (t .class-code .ensures) (c .before .if1 .left) (c .if2 .left)
+    run-on (a .text .now) (a .start) (l .loop .j) (l .loop .inv) (t .before .before .loop-test .taken) (t .class-code .result)
+    (t .class-code .ensures) (c .before .if1 .left) (c .if2 .left)
 
 returns-3 : tie.Need-returns-3 Inv-loop μ-loop
 returns-3 c =

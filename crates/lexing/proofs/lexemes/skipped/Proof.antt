@@ -27,10 +27,17 @@ mul-skip-mode : tie.Need-mul-skip-mode Inv-loop μ-loop
 mul-skip-mode c = omega arith
 
 add-skip-mode : tie.Need-add-skip-mode Inv-loop μ-loop
-add-skip-mode c = let l = c .before .before .before in let h = (skip-index (l .before .before .args .text .now) (l .before .before .args .i) (l .loop .mode) (l .loop .j) (l .loop .inv) (c .class-code .result) (c .class-code .ensures)) in omega (arith, h)
+add-skip-mode c =
+    let l = c .before .before .before in
+    let a = l .before .before .args in
+    let h = skip-index (a .text .now) (a .i) (l .loop .mode) (l .loop .j) (l .loop .inv) (c .class-code .result) (c .class-code .ensures) in
+    omega (arith, h)
 
 skip-mode-requires : tie.Need-skip-mode-requires Inv-loop μ-loop
-skip-mode-requires c κs = let l = c .before .before .before in (skip-index (l .before .before .args .text .now) (l .before .before .args .i) (l .loop .mode) (l .loop .j) (l .loop .inv) (c .class-code .result) (c .class-code .ensures))
+skip-mode-requires c κs =
+    let l = c .before .before .before in
+    let a = l .before .before .args in
+    skip-index (a .text .now) (a .i) (l .loop .mode) (l .loop .j) (l .loop .inv) (c .class-code .result) (c .class-code .ensures)
 
 wide-requires : tie.Need-wide-requires Inv-loop μ-loop
 wide-requires c κs = search needs
@@ -41,7 +48,8 @@ returns c =
     let k = t .before .before in
     let l = k .before .before .before in
     let a = l .before .before .args in
-    skip-here (a .text .now) (a .i) (l .loop .mode) (l .loop .j) (l .loop .inv) (k .before .before .loop-test .taken) (k .class-code .result) (t .wide .result) (k .class-code .ensures) (t .wide .ensures ∙ t .before .skip-mode .ensures) (c .if1 .taken)
+    skip-here (a .text .now) (a .i) (l .loop .mode) (l .loop .j) (l .loop .inv) (k .before .before .loop-test .taken) (k .class-code .result)
+    (t .wide .result) (k .class-code .ensures) (t .wide .ensures ∙ t .before .skip-mode .ensures) (c .if1 .taken)
 
 add-j : tie.Need-add-j Inv-loop μ-loop
 add-j c = omega arith
@@ -55,7 +63,8 @@ loop-again c =
     let k = t .before .before in
     let l = k .before .before .before in
     let a = l .before .before .args in
-    skip-on (a .text .now) (a .i) (l .loop .mode) (l .loop .j) (l .loop .inv) (k .before .before .loop-test .taken) (k .class-code .result) (t .wide .result) (k .class-code .ensures) (t .wide .ensures ∙ t .before .skip-mode .ensures) (c .if1 .left)
+    skip-on (a .text .now) (a .i) (l .loop .mode) (l .loop .j) (l .loop .inv) (k .before .before .loop-test .taken) (k .class-code .result)
+    (t .wide .result) (k .class-code .ensures) (t .wide .ensures ∙ t .before .skip-mode .ensures) (c .if1 .left)
 
 returns-2 : tie.Need-returns-2 Inv-loop μ-loop
 returns-2 c =

@@ -30,7 +30,10 @@ returns-3 : tie.Need-returns-3 Inv-loop μ-loop
 returns-3 c = let a = c .before .before .before .before .before .before .args in N.nothing-zero (a .letter) (a .low) (a .high) (a .run .now) (c .if3 .taken)
 
 loop-holds : tie.Need-loop-holds Inv-loop μ-loop
-loop-holds c = let a = c .before .before .before .before .before .before .args in N.counting-start (a .letter) (a .low) (a .high) (a .run .now) (c .before .before .before .before .if1 .left) (c .before .before .if2 .left) (c .if3 .left)
+loop-holds c =
+    let a = c .before .before .before .before .before .before .args in
+    N.counting-start (a .letter) (a .low) (a .high) (a .run .now) (c .before .before .before .before .if1 .left) (c .before .before .if2 .left)
+    (c .if3 .left)
 
 shared-slice-read-wide : tie.Need-shared-slice-read-wide Inv-loop μ-loop
 shared-slice-read-wide c = omega arith
@@ -43,14 +46,16 @@ returns-4 c =
     let t = c .before in
     let l = t .before .before .before in
     let a = l .before .before .before .before .before .before .before .args in
-    N.nothing-below (a .letter) (a .low) (a .high) (a .run .now) (l .loop .n) (l .loop .j) (l .loop .inv) (t .before .before .loop-test .taken) (t .wide .result) (t .wide .ensures) (c .if4 .taken)
+    N.nothing-below (a .letter) (a .low) (a .high) (a .run .now) (l .loop .n) (l .loop .j) (l .loop .inv) (t .before .before .loop-test .taken)
+    (t .wide .result) (t .wide .ensures) (c .if4 .taken)
 
 returns-5 : tie.Need-returns-5 Inv-loop μ-loop
 returns-5 c =
     let t = c .before .before in
     let l = t .before .before .before in
     let a = l .before .before .before .before .before .before .before .args in
-    N.nothing-above (a .letter) (a .low) (a .high) (a .run .now) (l .loop .n) (l .loop .j) (l .loop .inv) (t .before .before .loop-test .taken) (t .wide .result) (t .wide .ensures) (c .if5 .taken)
+    N.nothing-above (a .letter) (a .low) (a .high) (a .run .now) (l .loop .n) (l .loop .j) (l .loop .inv) (t .before .before .loop-test .taken)
+    (t .wide .result) (t .wide .ensures) (c .if5 .taken)
 
 mul-n : tie.Need-mul-n Inv-loop μ-loop
 mul-n c = omega arith
@@ -63,7 +68,8 @@ returns-6 c =
     let t = c .before .before .before in
     let l = t .before .before .before in
     let a = l .before .before .before .before .before .before .before .args in
-    N.nothing-high (a .letter) (a .low) (a .high) (a .run .now) (l .loop .n) (l .loop .j) (l .loop .inv) (t .before .before .loop-test .taken) (t .wide .result) (t .wide .ensures) (c .before .before .if4 .left) (c .before .if5 .left) (c .if6 .taken)
+    N.nothing-high (a .letter) (a .low) (a .high) (a .run .now) (l .loop .n) (l .loop .j) (l .loop .inv) (t .before .before .loop-test .taken)
+    (t .wide .result) (t .wide .ensures) (c .before .before .if4 .left) (c .before .if5 .left) (c .if6 .taken)
 
 add-j : tie.Need-add-j Inv-loop μ-loop
 add-j c = omega arith
@@ -76,7 +82,8 @@ loop-again c =
     let t = c .before .before .before in
     let l = t .before .before .before in
     let a = l .before .before .before .before .before .before .before .args in
-    N.counting-on (a .letter) (a .low) (a .high) (a .run .now) (l .loop .n) (l .loop .j) (l .loop .inv) (t .before .before .loop-test .taken) (t .wide .result) (t .wide .ensures) (c .before .before .if4 .left) (c .before .if5 .left) (c .if6 .left)
+    N.counting-on (a .letter) (a .low) (a .high) (a .run .now) (l .loop .n) (l .loop .j) (l .loop .inv) (t .before .before .loop-test .taken)
+    (t .wide .result) (t .wide .ensures) (c .before .before .if4 .left) (c .before .if5 .left) (c .if6 .left)
 
 returns-7 : tie.Need-returns-7 Inv-loop μ-loop
 returns-7 c =

@@ -1,5 +1,4 @@
 -- `runs::in_common` meets its contract. The invariant: the bytes so far are in common.
-use borrow.Author.Needs.{needs}
 use native.Mathlib.Omega.{arith}
 use Prim.Native.Nat.{_-_}
 use lib.ListN.{length}
@@ -28,7 +27,8 @@ shared-slice-read-if2-2 c = omega arith
 returns-2 : tie.Need-returns-2 Inv-loop μ-loop
 returns-2 c =
     let l = c .before .before .before .before .before in
-    shared-differ (l .before .args .run .now) (l .before .args .other .now) (l .loop .j) (l .loop .inv) (c .before .before .before .before .loop-test .taken) (c .before .before .before .if1 .left) (c .if2 .taken)
+    shared-differ (l .before .args .run .now) (l .before .args .other .now) (l .loop .j) (l .loop .inv)
+    (c .before .before .before .before .loop-test .taken) (c .before .before .before .if1 .left) (c .if2 .taken)
 
 add-j : tie.Need-add-j Inv-loop μ-loop
 add-j c = omega arith
@@ -39,7 +39,8 @@ loop-less c = omega arith
 loop-again : tie.Need-loop-again Inv-loop μ-loop
 loop-again c =
     let l = c .before .before .before .before .before in
-    shared-on (l .before .args .run .now) (l .before .args .other .now) (l .loop .j) (l .loop .inv) (c .before .before .before .before .loop-test .taken) (c .before .before .before .if1 .left) (c .if2 .left)
+    shared-on (l .before .args .run .now) (l .before .args .other .now) (l .loop .j) (l .loop .inv)
+    (c .before .before .before .before .loop-test .taken) (c .before .before .before .if1 .left) (c .if2 .left)
 
 returns-3 : tie.Need-returns-3 Inv-loop μ-loop
 returns-3 c = let l = c .before in shared-run (l .before .args .run .now) (l .before .args .other .now) (l .loop .j) (l .loop .inv) (c .loop-test .left)

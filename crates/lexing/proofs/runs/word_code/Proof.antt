@@ -20,7 +20,11 @@ code-if-requires c κs = search needs
 
 returns-2 : tie.Need-returns-2
 unfolding bytes
-returns-2 c = c .code-if .ensures ∙ F.word-true (c .before .before .before .before .before .before .args .run .now) (c .before .before .before .before .if1 .left) (c .before .before .if2 .taken)
+returns-2 c =
+    let t = c .before .before in
+    let e = t .before .before in
+    let w = e .before .before .args .run .now in
+    c .code-if .ensures ∙ F.word-true w (e .if1 .left) (t .if2 .taken)
 
 slice-aggregate-is-word : tie.Need-slice-aggregate-is-word
 slice-aggregate-is-word c = search needs
@@ -30,7 +34,12 @@ is-word-requires c κs = search needs
 
 returns-3 : tie.Need-returns-3
 unfolding bytes
-returns-3 c = F.two-first (c .before .before .before .before .before .before .before .before .args .run .now) (bytes "false") 3 (bytes "forall") 6 (F.word-false (c .before .before .before .before .before .before .before .before .args .run .now) (c .before .before .before .before .before .before .if1 .left) (c .before .before .before .if3 .taken)) (sym (c .before .is-word .ensures) ∙ c .if4 .taken)
+returns-3 c =
+    let t = c .before .before .before in
+    let e = t .before .before .before in
+    let w = e .before .before .args .run .now in
+    F.two-first w (bytes "false") 3 (bytes "forall") 6 (F.word-false w (e .if1 .left) (t .if3 .taken))
+    (sym (c .before .is-word .ensures) ∙ c .if4 .taken)
 
 slice-aggregate-code-if-2 : tie.Need-slice-aggregate-code-if-2
 slice-aggregate-code-if-2 c = search needs
@@ -40,7 +49,13 @@ code-if-requires-2 c κs = search needs
 
 returns-4 : tie.Need-returns-4
 unfolding bytes
-returns-4 c = c .code-if2 .ensures ∙ F.two-second (c .before .before .before .before .before .before .before .before .before .before .args .run .now) (bytes "false") 3 (bytes "forall") 6 (F.word-false (c .before .before .before .before .before .before .before .before .before .before .args .run .now) (c .before .before .before .before .before .before .before .before .if1 .left) (c .before .before .before .before .before .if3 .taken)) (sym (c .before .before .before .is-word .ensures) ∙ c .before .before .if4 .left)
+returns-4 c =
+    let t = c .before .before .before .before .before in
+    let e = t .before .before .before in
+    let w = e .before .before .args .run .now in
+    c .code-if2 .ensures
+    ∙ F.two-second w (bytes "false") 3 (bytes "forall") 6 (F.word-false w (e .if1 .left) (t .if3 .taken))
+    (sym (c .before .before .before .is-word .ensures) ∙ c .before .before .if4 .left)
 
 slice-aggregate-code-if-3 : tie.Need-slice-aggregate-code-if-3
 slice-aggregate-code-if-3 c = search needs
@@ -50,7 +65,11 @@ code-if-requires-3 c κs = search needs
 
 returns-5 : tie.Need-returns-5
 unfolding bytes
-returns-5 c = c .code-if3 .ensures ∙ F.word-not (c .before .before .before .before .before .before .before .before .args .run .now) (c .before .before .before .before .before .before .if1 .left) (c .before .before .if5 .taken)
+returns-5 c =
+    let t = c .before .before in
+    let e = t .before .before .before .before in
+    let w = e .before .before .args .run .now in
+    c .code-if3 .ensures ∙ F.word-not w (e .if1 .left) (t .if5 .taken)
 
 slice-aggregate-code-if-4 : tie.Need-slice-aggregate-code-if-4
 slice-aggregate-code-if-4 c = search needs
@@ -60,7 +79,11 @@ code-if-requires-4 c κs = search needs
 
 returns-6 : tie.Need-returns-6
 unfolding bytes
-returns-6 c = c .code-if4 .ensures ∙ F.word-and (c .before .before .before .before .before .before .before .before .before .args .run .now) (c .before .before .before .before .before .before .before .if1 .left) (c .before .before .if6 .taken)
+returns-6 c =
+    let t = c .before .before in
+    let e = t .before .before .before .before .before in
+    let w = e .before .before .args .run .now in
+    c .code-if4 .ensures ∙ F.word-and w (e .if1 .left) (t .if6 .taken)
 
 slice-aggregate-code-if-5 : tie.Need-slice-aggregate-code-if-5
 slice-aggregate-code-if-5 c = search needs
@@ -70,7 +93,11 @@ code-if-requires-5 c κs = search needs
 
 returns-7 : tie.Need-returns-7
 unfolding bytes
-returns-7 c = c .code-if5 .ensures ∙ F.word-or (c .before .before .before .before .before .before .before .before .before .before .args .run .now) (c .before .before .before .before .before .before .before .before .if1 .left) (c .before .before .if7 .taken)
+returns-7 c =
+    let t = c .before .before in
+    let e = t .before .before .before .before .before .before in
+    let w = e .before .before .args .run .now in
+    c .code-if5 .ensures ∙ F.word-or w (e .if1 .left) (t .if7 .taken)
 
 slice-aggregate-is-word-2 : tie.Need-slice-aggregate-is-word-2
 slice-aggregate-is-word-2 c = search needs
@@ -80,7 +107,12 @@ is-word-requires-2 c κs = search needs
 
 returns-8 : tie.Need-returns-8
 unfolding bytes
-returns-8 c = F.two-first (c .before .before .before .before .before .before .before .before .before .before .before .before .args .run .now) (bytes "=>") 5 (bytes "=") 5 (F.word-equals (c .before .before .before .before .before .before .before .before .before .before .before .before .args .run .now) (c .before .before .before .before .before .before .before .before .before .before .if1 .left) (c .before .before .before .if8 .taken)) (sym (c .before .is-word2 .ensures) ∙ c .if9 .taken)
+returns-8 c =
+    let t = c .before .before .before in
+    let e = t .before .before .before .before .before .before .before in
+    let w = e .before .before .args .run .now in
+    F.two-first w (bytes "=>") 5 (bytes "=") 5 (F.word-equals w (e .if1 .left) (t .if8 .taken))
+    (sym (c .before .is-word2 .ensures) ∙ c .if9 .taken)
 
 slice-aggregate-code-if-6 : tie.Need-slice-aggregate-code-if-6
 slice-aggregate-code-if-6 c = search needs
@@ -90,7 +122,13 @@ code-if-requires-6 c κs = search needs
 
 returns-9 : tie.Need-returns-9
 unfolding bytes
-returns-9 c = c .code-if6 .ensures ∙ F.two-second (c .before .before .before .before .before .before .before .before .before .before .before .before .before .before .args .run .now) (bytes "=>") 5 (bytes "=") 5 (F.word-equals (c .before .before .before .before .before .before .before .before .before .before .before .before .before .before .args .run .now) (c .before .before .before .before .before .before .before .before .before .before .before .before .if1 .left) (c .before .before .before .before .before .if8 .taken)) (sym (c .before .before .before .is-word2 .ensures) ∙ c .before .before .if9 .left)
+returns-9 c =
+    let t = c .before .before .before .before .before in
+    let e = t .before .before .before .before .before .before .before in
+    let w = e .before .before .args .run .now in
+    c .code-if6 .ensures
+    ∙ F.two-second w (bytes "=>") 5 (bytes "=") 5 (F.word-equals w (e .if1 .left) (t .if8 .taken))
+    (sym (c .before .before .before .is-word2 .ensures) ∙ c .before .before .if9 .left)
 
 slice-aggregate-code-if-7 : tie.Need-slice-aggregate-code-if-7
 slice-aggregate-code-if-7 c = search needs
@@ -100,7 +138,11 @@ code-if-requires-7 c κs = search needs
 
 returns-10 : tie.Need-returns-10
 unfolding bytes
-returns-10 c = c .code-if7 .ensures ∙ F.word-exists (c .before .before .before .before .before .before .before .before .before .before .before .before .args .run .now) (c .before .before .before .before .before .before .before .before .before .before .if1 .left) (c .before .before .if10 .taken)
+returns-10 c =
+    let t = c .before .before in
+    let e = t .before .before .before .before .before .before .before .before in
+    let w = e .before .before .args .run .now in
+    c .code-if7 .ensures ∙ F.word-exists w (e .if1 .left) (t .if10 .taken)
 
 slice-aggregate-code-if-8 : tie.Need-slice-aggregate-code-if-8
 slice-aggregate-code-if-8 c = search needs
@@ -110,7 +152,11 @@ code-if-requires-8 c κs = search needs
 
 returns-11 : tie.Need-returns-11
 unfolding bytes
-returns-11 c = c .code-if8 .ensures ∙ F.word-let (c .before .before .before .before .before .before .before .before .before .before .before .before .before .args .run .now) (c .before .before .before .before .before .before .before .before .before .before .before .if1 .left) (c .before .before .if11 .taken)
+returns-11 c =
+    let t = c .before .before in
+    let e = t .before .before .before .before .before .before .before .before .before in
+    let w = e .before .before .args .run .now in
+    c .code-if8 .ensures ∙ F.word-let w (e .if1 .left) (t .if11 .taken)
 
 slice-aggregate-code-if-9 : tie.Need-slice-aggregate-code-if-9
 slice-aggregate-code-if-9 c = search needs
@@ -120,7 +166,11 @@ code-if-requires-9 c κs = search needs
 
 returns-12 : tie.Need-returns-12
 unfolding bytes
-returns-12 c = c .code-if9 .ensures ∙ F.word-bool (c .before .before .before .before .before .before .before .before .before .before .before .before .before .before .args .run .now) (c .before .before .before .before .before .before .before .before .before .before .before .before .if1 .left) (c .before .before .if12 .taken)
+returns-12 c =
+    let t = c .before .before in
+    let e = t .before .before .before .before .before .before .before .before .before .before in
+    let w = e .before .before .args .run .now in
+    c .code-if9 .ensures ∙ F.word-bool w (e .if1 .left) (t .if12 .taken)
 
 slice-aggregate-code-if-10 : tie.Need-slice-aggregate-code-if-10
 slice-aggregate-code-if-10 c = search needs
@@ -130,10 +180,20 @@ code-if-requires-10 c κs = search needs
 
 returns-13 : tie.Need-returns-13
 unfolding bytes
-returns-13 c = c .code-if10 .ensures ∙ F.word-item (c .before .before .before .before .before .before .before .before .before .before .before .before .before .before .before .args .run .now) (c .before .before .before .before .before .before .before .before .before .before .before .before .before .if1 .left) (c .before .before .if13 .taken)
+returns-13 c =
+    let t = c .before .before in
+    let e = t .before .before .before .before .before .before .before .before .before .before .before in
+    let w = e .before .before .args .run .now in
+    c .code-if10 .ensures ∙ F.word-item w (e .if1 .left) (t .if13 .taken)
 
 returns-14 : tie.Need-returns-14
-returns-14 c = F.word-other (c .before .before .before .before .before .before .before .before .before .before .before .before .before .args .run .now) (c .before .before .before .before .before .before .before .before .before .before .before .if1 .left) (c .before .before .before .before .before .before .before .before .before .if2 .left) (c .before .before .before .before .before .before .before .before .if3 .left) (c .before .before .before .before .before .before .before .if5 .left) (c .before .before .before .before .before .before .if6 .left) (c .before .before .before .before .before .if7 .left) (c .before .before .before .before .if8 .left) (c .before .before .before .if10 .left) (c .before .before .if11 .left) (c .before .if12 .left) (c .if13 .left)
+returns-14 c =
+    let e = c .before .before .before .before .before .before .before .before .before .before .before in
+    F.word-other (e .before .before .args .run .now) (e .if1 .left) (c .before .before .before .before .before .before .before .before .before .if2 .left)
+    (c .before .before .before .before .before .before .before .before .if3 .left) (c .before .before .before .before .before .before .before .if5 .left)
+    (c .before .before .before .before .before .before .if6 .left) (c .before .before .before .before .before .if7 .left)
+    (c .before .before .before .before .if8 .left)
+    (c .before .before .before .if10 .left) (c .before .before .if11 .left) (c .before .if12 .left) (c .if13 .left)
 
 pub word-code-spec : {M : Type 1} → statement M
 word-code-spec =

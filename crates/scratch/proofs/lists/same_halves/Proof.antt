@@ -105,7 +105,8 @@ returns-3 : tie.Need-returns-3 Inv-loop μ-loop
 returns-3 c =
     let a = c .before .before .before .before .before .args in
     let l = c .before .loop in
-    rw (l .inv .2, halves-none (a .upper) (a .stack .now) (l .at) (a .to) (c .loop-test .left)) (sym (same-nil (sized-in (a .words .now) (a .c)) (l .i) (l .inv .1)))
+    rw (l .inv .2, halves-none (a .upper) (a .stack .now) (l .at) (a .to) (c .loop-test .left))
+    (sym (same-nil (sized-in (a .words .now) (a .c)) (l .i) (l .inv .1)))
 
 pub same-halves-spec : {M : Type 1} → statement M
 same-halves-spec =

@@ -3,7 +3,7 @@
 use borrow.Author.Needs.{needs}
 use native.Mathlib.Omega.{arith}
 use Prim.Native.Nat.{ℕ, _+_, _-_, _≤_, _<_}
-use mathlib.Core.Path.{_≡_, refl, sym, _∙_}
+use mathlib.Core.Path.{_≡_, refl, sym, ap, _∙_}
 use lib.ListN.{length, length-set, length-replicate}
 use Rattle.bundle.specs.File.{bundleAt}
 use Rattle.bundle.specs.LinkNotes.{AllTo, LowerNoted}
@@ -12,9 +12,9 @@ use Rattle.bundle.proofs.Filed.{filed-none}
 use Rattle.bundle.proofs.LinkNotes.{zeros, noted-none, lower-up}
 use Rattle.logic.specs.Checks.{termFault, termsFault}
 use Rattle.logic.proofs.Firsts.{restFault, rest-start, rest-on, rest-here, rest-end}
-use Rattle.terms.specs.Digests.{FiledBelow}
+use Rattle.duplicates.specs.Digests.{termDigest, FiledBelow}
 use Rattle.sorting.specs.Notes.{SortsFit, Fitting}
-use Rattle.terms.proofs.Digests.{term-filed}
+use Rattle.duplicates.proofs.Digests.{term-filed}
 use Rattle.terms.proofs.terms.noted_fault.Statement.{statement}
 use Rattle.terms.proofs.terms.noted_fault.Tie as tie
 
@@ -44,16 +44,28 @@ loop-holds c =
       refl,
     )
 
+term-words-requires : tie.Need-term-words-requires Inv-loop μ-loop
+term-words-requires c κs = search needs
+
 digest-requires : tie.Need-digest-requires Inv-loop μ-loop
 digest-requires c κs = search needs
 
 term-fault-requires : tie.Need-term-fault-requires Inv-loop μ-loop
 term-fault-requires c κs =
-    let p = c .before .before .before .before .before .before .before .before .before .before .before .before .pre in
-    let l = c .before .before .before .before .before .before .loop in
-    let d = c .before .before .before .before .digest in (
-      (p .0, p .1, l .inv .5, l .inv .6),
-      (l .inv .3, l .inv .0, omega (arith, c .before .before .before .before .before .loop-test .taken, l .inv .2, p .6), d .ensures .1, d .ensures .0),
+    let d = c .before .before .before .before .digest in
+    let w = c .before .before .before .before .before .term-words in
+    let t = c .before .before .before .before .before .before in
+    let l = t .before .loop in
+    let k = t .before .before .before .before .before .before .before in (
+      (k .pre .0, k .pre .1, l .inv .5, l .inv .6),
+      (
+        l .inv .3,
+        l .inv .0,
+        omega (arith, t .loop-test .taken, l .inv .2, k .pre .6),
+        d .ensures .1,
+        d .ensures .0 ∙ ap (termDigest (bundleAt (k .args .file .now) (k .args .b))) (w .ensures),
+        w .ensures,
+      ),
     )
 
 same-length : tie.Need-same-length Inv-loop μ-loop
@@ -67,9 +79,8 @@ same-length-3 c = search needs
 
 returns : tie.Need-returns Inv-loop μ-loop
 returns c =
-    sym (c .before .before .before .before .before .before .before .before .before .before .before .before .loop .inv .4
-    ∙ rest-here _ _ _ (c .before .before .before .before .before .term-fault .ensures .0)
-    (c .before .before .before .before .before .before .before .before .before .before .before .loop-test .taken) (c .if1 .taken))
+    let t = c .before .before .before .before .before .before .before .before .before .before .before .before in
+    sym (t .before .loop .inv .4 ∙ rest-here _ _ _ (c .before .before .before .before .before .term-fault .ensures .0) (t .loop-test .taken) (c .if1 .taken))
 
 mul-next : tie.Need-mul-next Inv-loop μ-loop
 mul-next c = search needs
@@ -82,12 +93,8 @@ mul-next-2 c = search needs
 
 slice-write-next : tie.Need-slice-write-next Inv-loop μ-loop
 slice-write-next c =
-    omega (
-      arith,
-      c .before .before .before .before .before .before .before .before .before .before .before .loop-test .taken,
-      c .before .before .before .before .before .before .before .before .before .before .before .before .loop .inv .2,
-      c .before .before .before .before .before .before .before .before .before .before .before .before .before .before .before .before .before .before .pre .6,
-    )
+    let t = c .before .before .before .before .before .before .before .before .before .before .before .before in
+    omega (arith, t .loop-test .taken, t .before .loop .inv .2, t .before .before .before .before .before .before .before .pre .6)
 
 cast-heads : tie.Need-cast-heads Inv-loop μ-loop
 cast-heads c = search needs
@@ -106,28 +113,22 @@ loop-less c = search needs
 
 loop-again : tie.Need-loop-again Inv-loop μ-loop
 loop-again c =
-    let a = c .before .before .before .before .before .before .before .before .before .before .before .before .before .before .before .before .before .before
-    .args in
-    let l = c .before .before .before .before .before .before .before .before .before .before .before .before .loop in
     let d = c .before .before .before .before .before .before .before .before .before .before .digest in
+    let w = c .before .before .before .before .before .before .before .before .before .before .before .term-words in
+    let t = c .before .before .before .before .before .before .before .before .before .before .before .before in
+    let l = t .before .loop in
+    let k = t .before .before .before .before .before .before .before in
+    let b = bundleAt (k .args .file .now) (k .args .b) in
     let none = c .if1 .left in
     let noted = c .before .before .before .before .before .term-fault .ensures .1 none in
     let heads-room : d .result < length (l .heads) = omega (arith, d .ensures .1, l .inv .1) in
-    let next-room : l .i < length (l .next) =
-    omega (
-      arith,
-      c .before .before .before .before .before .before .before .before .before .before .before .loop-test .taken,
-      l .inv .2,
-      c .before .before .before .before .before .before .before .before .before .before .before .before .before .before .before .before .before .before .pre
-          .6,
-    ) in (
+    let next-room : l .i < length (l .next) = omega (arith, t .loop-test .taken, l .inv .2, k .pre .6) in (
       omega arith,
       length-set (l .heads) (d .result) (l .i) ∙ l .inv .1,
       length-set (l .next) (l .i) _ ∙ l .inv .2,
-      term-filed (bundleAt (a .file .now) (a .b)) (l .heads) (l .next) (l .i) (d .result) (l .inv .0) (l .inv .3) (d .ensures .0) heads-room next-room,
-      l .inv .4 ∙ rest-on _ _ _ (c .before .before .before .before .before .term-fault .ensures .0)
-          (c .before .before .before .before .before .before .before .before .before .before .before .loop-test .taken) none,
-      lower-up (a .file .now) (a .b) (l .i - 1) (l .i + 1 - 1) _ (omega arith) (noted .0),
+      term-filed b (l .heads) (l .next) (l .i) (d .result) (l .inv .0) (l .inv .3) (d .ensures .0 ∙ ap (termDigest b) (w .ensures)) heads-room next-room,
+      l .inv .4 ∙ rest-on _ _ _ (c .before .before .before .before .before .term-fault .ensures .0) (t .loop-test .taken) none,
+      lower-up (k .args .file .now) (k .args .b) (l .i - 1) (l .i + 1 - 1) _ (omega arith) (noted .0),
       noted .1,
       search needs,
       search needs,
@@ -155,6 +156,7 @@ noted-fault-spec =
     Inv-loop
     μ-loop
     loop-holds
+    term-words-requires
     digest-requires
     term-fault-requires
     same-length

@@ -5,23 +5,13 @@ use mathlib.Core.Path.{sym, _∙_}
 use mathlib.Core.Bool.{_&&_}
 use lib.Dec.{eqb, leb}
 use Rattle.bundle.proofs.Fields.{symbols-length, variables-length, links-length}
-use Rattle.logic.specs.Checks.{refers}
+use Rattle.logic.specs.Terms.{kindOf}
+use Rattle.logic.specs.Tests.{passed}
+use Rattle.logic.specs.Checks.{refersAs}
 use Rattle.logic.proofs.Tests.{and-left, and-right}
 use Rattle.logic.proofs.KindTests.{kind-binder, kind-none, kind-let}
 use Rattle.terms.proofs.terms.term_refers.Statement.{statement}
 use Rattle.terms.proofs.terms.term_refers.Tie as tie
-
-term-field-requires : tie.Need-term-field-requires
-term-field-requires c κs = search needs
-
-term-field-requires-2 : tie.Need-term-field-requires-2
-term-field-requires-2 c κs = search needs
-
-term-field-requires-3 : tie.Need-term-field-requires-3
-term-field-requires-3 c κs = search needs
-
-term-field-requires-4 : tie.Need-term-field-requires-4
-term-field-requires-4 c κs = search needs
 
 sub-below : tie.Need-sub-below
 sub-below c = search needs
@@ -30,18 +20,10 @@ is-number-requires : tie.Need-is-number-requires
 is-number-requires c κs = search needs
 
 returns : tie.Need-returns
-unfolding refers
+unfolding kindOf refersAs passed
 returns c = (
-  rw (
-    ← c .before .before .before .before .before .term-field .ensures,
-    c .before .if1 .taken,
-    ← c .before .before .before .before .term-field2 .ensures,
-    ← c .before .before .before .term-field3 .ensures,
-    ← c .before .before .term-field4 .ensures,
-    variables-length,
-    ← c .is-number .ensures,
-  ),
-  λ e. c .before .before .before .before .before .before .before .before .pre .1,
+  rw (c .before .if1 .taken, variables-length, ← c .is-number .ensures),
+  λ e. c .before .before .before .before .pre .1,
 )
 
 is-binder-requires : tie.Need-is-binder-requires
@@ -54,35 +36,20 @@ is-number-requires-3 : tie.Need-is-number-requires-3
 is-number-requires-3 c κs = search needs
 
 returns-2 : tie.Need-returns-2
-unfolding refers
+unfolding kindOf refersAs passed
 returns-2 c =
-    let q = kind-binder (c .before .before .before .before .before .before .before .before .term-field .result)
-    (sym (c .before .before .before .is-binder .ensures) ∙ c .before .before .if2 .taken) in (
-      rw (
-        ← c .before .before .before .before .before .before .before .before .term-field .ensures,
-        q .1,
-        ← c .before .before .before .before .before .before .before .term-field2 .ensures,
-        ← c .before .before .before .before .before .before .term-field3 .ensures,
-        ← c .before .before .before .before .before .term-field4 .ensures,
-        variables-length,
-        ← c .before .is-number2 .ensures,
-        ← c .is-number3 .ensures,
-      ),
-      λ e. c .before .before .before .before .before .before .before .before .before .before .before .pre .1,
-    )
+    let s = c .before .before .before .before .before .before .before in
+    let q = kind-binder (s .args .w .kind) (sym (c .before .before .before .is-binder .ensures) ∙ c .before .before .if2 .taken) in
+    (rw (q .1, variables-length, ← c .before .is-number2 .ensures, ← c .is-number3 .ensures), λ e. s .pre .1)
 
 returns-3 : tie.Need-returns-3
-unfolding refers
-returns-3 c = (
-  rw (
-    ← c .before .before .before .before .before .before .before .term-field .ensures,
-    kind-none
-        (c .before .before .before .before .before .before .before .term-field .result) (c .before .before .before .if1 .left)
-        (sym (c .before .before .is-binder .ensures) ∙ c .before .if2 .left) (c .if3 .taken),
-  ),
-  λ e.
-      c .before .before .before .before .before .before .before .before .before .before .pre .1,
-)
+unfolding kindOf refersAs passed
+returns-3 c =
+    let s = c .before .before .before .before .before .before in
+    let no-binder = sym (c .before .before .is-binder .ensures) ∙ c .before .if2 .left in (
+      rw (kind-none (s .args .w .kind) (c .before .before .before .if1 .left) no-binder (c .if3 .taken)),
+      λ e. s .pre .1,
+    )
 
 all-lower-requires : tie.Need-all-lower-requires
 all-lower-requires c κs = search needs
@@ -97,27 +64,21 @@ same-length : tie.Need-same-length
 same-length c = search needs
 
 returns-4 : tie.Need-returns-4
-unfolding refers
+unfolding kindOf refersAs passed
 returns-4 c =
+    let a = c .before .before .before .before .before .before .before .before .before .before .before .before .before .args in
     let known = c .is-known .result in
-    let starts = leb (c .before .before .before .before .before .before .before .before .before .before .before .before .term-field3 .result)
-    (c .before .before .before .before .before .before .before .before .before .before .before .before .before .before .before .before .before .args .b
-    .links) in
-    let all = c .before .before .before .before .before .all-lower .result in
-    let none = eqb (c .before .before .before .before .before .before .before .before .before .before .before .term-field4 .result) 0 in (
+    let starts = leb (a .w .second) (a .b .links) in
+    let all = c .before .before .before .before .before .all-lower in (
       rw (
-        ← c .before .before .before .before .before .before .before .before .before .before .before .before .before .before .term-field .ensures,
         c .before .before .if4 .taken,
-        ← c .before .before .before .before .before .before .before .before .before .before .before .before .before .term-field2 .ensures,
-        ← c .before .before .before .before .before .before .before .before .before .before .before .before .term-field3 .ensures,
-        ← c .before .before .before .before .before .before .before .before .before .before .before .term-field4 .ensures,
         symbols-length,
         ← c .before .signature-of .ensures,
         ← c .is-known .ensures,
-        ← c .before .before .before .before .before .all-lower .ensures .0,
+        ← all .ensures .0,
         links-length,
       ),
-      λ e. c .before .before .before .before .before .all-lower .ensures .1 (and-right (known && starts) all (and-left (known && starts && all) none e)),
+      λ e. all .ensures .1 (and-right (known && starts) (all .result) (and-left (known && starts && all .result) (eqb (a .w .third) 0) e)),
     )
 
 all-numbers-requires : tie.Need-all-numbers-requires
@@ -130,39 +91,26 @@ same-length-2 : tie.Need-same-length-2
 same-length-2 c = search needs
 
 returns-5 : tie.Need-returns-5
-unfolding refers
+unfolding kindOf refersAs passed
 returns-5 c =
-    let first = leb (c .before .before .before .before .before .before .before .before .before .before .before .before .before .term-field2 .result)
-    (c .before .before .before .before .before .before .before .before .before .before .before .before .before .before .before .before .before .args .b
-    .links) && c .before .all-numbers .result
-    && leb (c .before .before .before .before .before .before .before .before .before .before .before .before .term-field3 .result)
-    (c .before .before .before .before .before .before .before .before .before .before .before .before .before .before .before .before .before .args .b
-    .links) in
-    let all = c .before .before .before .before .before .all-lower .result in (
+    let a = c .before .before .before .before .before .before .before .before .before .before .before .before .before .args in
+    let first = leb (a .w .first) (a .b .links) && c .before .all-numbers .result && leb (a .w .second) (a .b .links) in
+    let all = c .before .before .before .before .before .all-lower in (
       rw (
-        ← c .before .before .before .before .before .before .before .before .before .before .before .before .before .before .term-field .ensures,
-        kind-let (c .before .before .before .before .before .before .before .before .before .before .before .before .before .before .term-field .result)
-            (c .before .before .if4 .left) (c .before .before .before .before .before .before .before .if3 .left),
-        ← c .before .before .before .before .before .before .before .before .before .before .before .before .before .term-field2 .ensures,
-        ← c .before .before .before .before .before .before .before .before .before .before .before .before .term-field3 .ensures,
-        ← c .before .before .before .before .before .before .before .before .before .before .before .term-field4 .ensures,
+        kind-let (a .w .kind) (c .before .before .if4 .left) (c .before .before .before .before .before .before .before .if3 .left),
         variables-length,
         ← c .before .all-numbers .ensures,
-        ← c .before .before .before .before .before .all-lower .ensures .0,
+        ← all .ensures .0,
         ← c .is-number4 .ensures,
         links-length,
       ),
-      λ e. c .before .before .before .before .before .all-lower .ensures .1 (and-right first all (and-left (first && all) (c .is-number4 .result) e)),
+      λ e. all .ensures .1 (and-right first (all .result) (and-left (first && all .result) (c .is-number4 .result) e)),
     )
 
 pub term-refers-spec : {M : Type 1} → statement M
 term-refers-spec =
     tie.close
     (tie.spec
-    term-field-requires
-    term-field-requires-2
-    term-field-requires-3
-    term-field-requires-4
     sub-below
     is-number-requires
     returns

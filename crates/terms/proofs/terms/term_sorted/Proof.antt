@@ -6,7 +6,8 @@ use lib.Dec.{eqb}
 use Rattle.bundle.specs.Bundle.{Bundle, TermRecord}
 use Rattle.bundle.proofs.Fields.{symbols-length}
 use Rattle.logic.specs.Terms.{variable, other}
-use Rattle.logic.specs.Checks.{sortedAs, sorted}
+use Rattle.logic.specs.Tests.{passed}
+use Rattle.logic.specs.Checks.{listsAgree, sortedAs}
 use Rattle.logic.proofs.KindTests.{kind-binder, kind-rest}
 use Rattle.terms.proofs.terms.term_sorted.Statement.{statement}
 use Rattle.terms.proofs.terms.term_sorted.Tie as tie
@@ -16,15 +17,6 @@ nothing-asked : (b : Bundle) (r : TermRecord) (p : Bool) → true ≡ sortedAs b
 unfolding sortedAs
 nothing-asked b r true = refl
 nothing-asked b r false = refl
-
-term-field-requires : tie.Need-term-field-requires
-term-field-requires c κs = search needs
-
-term-field-requires-2 : tie.Need-term-field-requires-2
-term-field-requires-2 c κs = search needs
-
-term-field-requires-3 : tie.Need-term-field-requires-3
-term-field-requires-3 c κs = search needs
 
 signature-of-requires : tie.Need-signature-of-requires
 signature-of-requires c κs = search needs
@@ -36,13 +28,10 @@ same-length : tie.Need-same-length
 same-length c = search needs
 
 returns : tie.Need-returns
-unfolding sorted
+unfolding sortedAs
 returns c = (
   rw (
-    ← c .before .before .before .before .before .before .before .before .term-field .ensures,
     c .before .before .before .before .before .if1 .taken,
-    ← c .before .before .before .before .before .before .before .term-field2 .ensures,
-    ← c .before .before .before .before .before .before .term-field3 .ensures,
     symbols-length,
     ← c .before .before .before .signature-of .ensures,
     ← c .before .before .arguments-fit .ensures .0,
@@ -57,57 +46,39 @@ sort-in-requires : tie.Need-sort-in-requires
 sort-in-requires c κs = search needs
 
 returns-2 : tie.Need-returns-2
-unfolding sorted
+unfolding sortedAs
 returns-2 c =
-    let q = kind-binder (c .before .before .before .before .before .before .term-field .result)
-    (sym (c .before .before .is-binder .ensures) ∙ c .before .if2 .taken) in (
-      rw (
-        ← c .before .before .before .before .before .before .term-field .ensures,
-        q .1,
-        ← c .before .before .before .before .term-field3 .ensures,
-        ← c .before .before .before .before .before .before .before .before .before .before .pre .1 .noted
-            (c .before .before .before .before .term-field3 .result),
-        ← c .sort-in .ensures,
-      ),
-      λ e.
-          c .before .before .before .before .before .before .before .before .before .before .pre .2,
-    )
+    let s = c .before .before .before .before .before .before .before in
+    let q = kind-binder (s .args .w .kind) (sym (c .before .before .is-binder .ensures) ∙ c .before .if2 .taken) in
+    (rw (q .1, ← s .pre .1 .noted (s .args .w .second), ← c .sort-in .ensures), λ e. s .pre .2)
 
-lists-agree-requires : tie.Need-lists-agree-requires
-lists-agree-requires c κs = search needs
+some-different-requires : tie.Need-some-different-requires
+some-different-requires c κs = search needs
+
+variables-fit-requires : tie.Need-variables-fit-requires
+variables-fit-requires c κs = search needs
 
 returns-3 : tie.Need-returns-3
-unfolding sorted
+unfolding sortedAs listsAgree passed
 returns-3 c = (
-  rw (
-    ← c .before .before .before .before .before .before .before .term-field .ensures,
-    c .before .if3 .taken,
-    ← c .before .before .before .before .before .before .term-field2 .ensures,
-    ← c .before .before .before .before .before .term-field3 .ensures,
-    ← c .lists-agree .ensures,
-  ),
-  λ e. c .before .before .before .before .before .before .before .before .before .before .before .pre .2,
+  rw (c .before .before .if3 .taken, ← c .before .some-different .ensures, ← c .variables-fit .ensures),
+  λ e. c .before .before .before .before .before .before .before .before .before .pre .2,
 )
 
 returns-4 : tie.Need-returns-4
-unfolding sorted
+unfolding sortedAs
 returns-4 c =
-    let k = c .before .before .before .before .before .before .term-field in (
-      rw (
-        ← k .ensures,
-        kind-rest (k .result) (c .before .before .before .if1 .left) (sym (c .before .before .is-binder .ensures) ∙ c .before .if2 .left)
-            (c .if3 .left),
-      ) (nothing-asked _ _ (eqb (k .result) 1)),
-      λ e. c .before .before .before .before .before .before .before .before .before .before .pre .2,
+    let s = c .before .before .before .before .before .before .before in
+    let k = s .args .w .kind in
+    let no-binder = sym (c .before .before .is-binder .ensures) ∙ c .before .if2 .left in (
+      rw (kind-rest k (c .before .before .before .if1 .left) no-binder (c .if3 .left)) (nothing-asked _ _ (eqb k 1)),
+      λ e. s .pre .2,
     )
 
 pub term-sorted-spec : {M : Type 1} → statement M
 term-sorted-spec =
     tie.close
     (tie.spec
-    term-field-requires
-    term-field-requires-2
-    term-field-requires-3
     signature-of-requires
     arguments-fit-requires
     same-length
@@ -115,6 +86,7 @@ term-sorted-spec =
     is-binder-requires
     sort-in-requires
     returns-2
-    lists-agree-requires
+    some-different-requires
+    variables-fit-requires
     returns-3
     returns-4)

@@ -1,0 +1,301 @@
+//! Cases with answers, one a line: `CALL = ANSWER`. The format is that of
+//! shared/vectors/README.md; a call that is not here yet is an error of its line.
+
+use crate::answer::Reason;
+use crate::bundle::{LEFT, RIGHT, to_bytes, to_words};
+use crate::compare::{self, Checker};
+use crate::compare_reader::{self, Reader};
+use crate::compare_writer::{self, Areas, Writer};
+use std::collections::BTreeMap;
+use std::fmt;
+
+/// The plain reading's longest text: it calls itself as deep as a text is nested.
+pub const SHORT: usize = 8_000;
+
+/// A call with its inputs and the lengths of its areas.
+#[derive(Clone, Debug, PartialEq, Eq)]
+pub enum Call {
+    Check { lent: usize, file: Vec<u8> },
+    Sets { lent: usize, file: Vec<u8> },
+    Write { lengths: [usize; 3], job: Vec<u8> },
+    Read { lengths: [usize; 3], declarations: Vec<u8>, text: Vec<u8> },
+}
+
+/// One of those who are held to the lines, with the calls that they have.
+#[allow(missing_debug_implementations)]
+#[derive(Clone, Copy)]
+pub struct Party<'a> {
+    pub name: &'a str,
+    pub check: Option<Checker<'a>>,
+    pub expand: Option<Writer<'a>>,
+    pub read: Option<Reader<'a>>,
+    /// Longer texts are not given to its reader.
+    pub longest_text: usize,
+}
+
+impl Call {
+    fn parse(line: &str) -> Result<Call, String> {
+        let words: Vec<&str> = line.split(' ').collect();
+        match words[..] {
+            ["check", lent, file] => Ok(Call::Check { lent: number(lent)?, file: bytes(file)? }),
+            ["sets", lent, file] => Ok(Call::Sets { lent: number(lent)?, file: bytes(file)? }),
+            ["write", "rename", out, words, sets, job] => {
+                let lengths = [number(out)?, number(words)?, number(sets)?];
+                Ok(Call::Write { lengths, job: bytes(job)? })
+            }
+            ["read", out, words, sets, declarations, text] => Ok(Call::Read {
+                lengths: [number(out)?, number(words)?, number(sets)?],
+                declarations: bytes(declarations)?,
+                text: bytes(text)?,
+            }),
+            _ => Err(format!("there is no such call here: {}", words[0])),
+        }
+    }
+
+    fn name(&self) -> &'static str {
+        match self {
+            Call::Check { .. } => "check",
+            Call::Sets { .. } => "sets",
+            Call::Write { .. } => "write",
+            Call::Read { .. } => "read",
+        }
+    }
+
+    /// What a party answers, and what is wrong with the areas that it leaves; `None`
+    /// where it has no such call.
+    fn ask(&self, party: Party, junk: u64) -> Option<(String, Option<&'static str>)> {
+        match self {
+            Call::Check { lent, file } => {
+                let (answer, area) = compare::call(party.check?, file, *lent, junk);
+                if answer >> 32 != 0 {
+                    let dirty = area.iter().any(|&word| word != 0);
+                    return Some((refused(answer), dirty.then_some("the area is not zero")));
+                }
+                let words = to_words(file);
+                Some((format!("accepted {} {} 0", words[LEFT], words[RIGHT]), None))
+            }
+            Call::Sets { lent, file } => {
+                let (_, area) = compare::call(party.check?, file, *lent, junk);
+                let used = area.iter().rposition(|&word| word != 0).map_or(0, |last| last + 1);
+                let sets: Vec<String> =
+                    area[..used].iter().map(|word| format!("{word:016x}")).collect();
+                Some((if used == 0 { "-".into() } else { sets.join(" ") }, None))
+            }
+            Call::Write { lengths, job } => {
+                Some(written(compare_writer::call(party.expand?, job, *lengths, junk)))
+            }
+            Call::Read { lengths, declarations, text } => {
+                let read = party.read.filter(|_| text.len() <= party.longest_text)?;
+                Some(written(compare_reader::call(read, declarations, text, *lengths, junk)))
+            }
+        }
+    }
+}
+
+/// The answer of a call that writes a file, and what is wrong with its areas.
+fn written((answer, areas): (u64, Areas)) -> (String, Option<&'static str>) {
+    let Areas { mut out, words, sets } = areas;
+    let length = if answer >> 32 == 0 { (answer as usize).min(out.len()) } else { 0 };
+    let clear = |bytes: &[u8]| bytes.iter().all(|&byte| byte == 0);
+    let problem = if !clear(&out[length..]) {
+        Some("the output is not zero after the file")
+    } else if words.iter().any(|&word| word != 0) || sets.iter().any(|&set| set != 0) {
+        Some("the scratch is not zero")
+    } else {
+        None
+    };
+    if answer >> 32 != 0 {
+        return (refused(answer), problem);
+    }
+    out.truncate(length);
+    (format!("written {}", spelled(&out)), problem)
+}
+
+/// Number and record. A byte of 2^32 or more is none of a vector's.
+fn refused(answer: u64) -> String {
+    format!("refused {} {}", answer >> 32, answer & 0xffff_ffff)
+}
+
+fn number(word: &str) -> Result<usize, String> {
+    word.parse().map_err(|_| format!("not a number: {word}"))
+}
+
+/// Bytes as the README spells them.
+fn bytes(word: &str) -> Result<Vec<u8>, String> {
+    let bad = || format!("not bytes: {}", word.chars().take(40).collect::<String>());
+    if word == "-" {
+        return Ok(Vec::new());
+    }
+    if let Some(words) = word.strip_prefix('w') {
+        let words: Option<Vec<u32>> = words.split(',').map(|word| word.parse().ok()).collect();
+        return words.map(|words| to_bytes(&words)).ok_or_else(bad);
+    }
+    let hex = |pair: &[u8]| {
+        let pair = str::from_utf8(pair).ok().filter(|pair| pair.len() == 2)?;
+        u8::from_str_radix(pair, 16).ok()
+    };
+    let Some(text) = word.strip_prefix('t') else {
+        let bytes: Option<Vec<u8>> = word.as_bytes().chunks(2).map(hex).collect();
+        return bytes.ok_or_else(bad);
+    };
+    let mut parts = text.split('%');
+    let mut found = parts.next().unwrap_or_default().as_bytes().to_vec();
+    for part in parts {
+        let (pair, rest) = part.as_bytes().split_at_checked(2).ok_or_else(bad)?;
+        found.push(hex(pair).ok_or_else(bad)?);
+        found.extend(rest);
+    }
+    Ok(found)
+}
+
+/// A file as words.
+fn spelled(file: &[u8]) -> String {
+    let words: Vec<String> = to_words(file).iter().map(u32::to_string).collect();
+    if words.is_empty() { "-".into() } else { format!("w{}", words.join(",")) }
+}
+
+/// Later answers of the lines of `file` (as `req01`), by line from 1, for the requests up
+/// to `until`.
+pub fn moves(text: &str, file: &str, until: u32) -> Result<BTreeMap<usize, String>, String> {
+    let mut moved = BTreeMap::new();
+    let mut request = 0;
+    for line in text.lines() {
+        if let Some(heading) = line.strip_prefix("# == Req ") {
+            request = number(heading)? as u32;
+        }
+        let Some((place, answer)) = line.split_once(" = ").filter(|_| !line.starts_with('#'))
+        else {
+            continue;
+        };
+        let Some((name, place)) = place.split_once(' ') else {
+            return Err(format!("not a move: {line}"));
+        };
+        if name == file && request <= until {
+            moved.insert(number(place)?, answer.to_string());
+        }
+    }
+    Ok(moved)
+}
+
+/// What was held to the lines of a file.
+#[derive(Clone, Debug, Default)]
+pub struct Report {
+    pub cases: usize,
+    /// Lines whose answer was moved by a later request.
+    pub moved: usize,
+    /// Cases that a party answered, by its name and the call.
+    pub answered: BTreeMap<(String, &'static str), usize>,
+    /// Cases that it did not.
+    pub left_out: BTreeMap<(String, &'static str), usize>,
+    pub differences: Vec<String>,
+}
+
+/// Holds the parties to every line of a file.
+pub fn run(text: &str, moved: &BTreeMap<usize, String>, parties: &[Party]) -> Report {
+    let mut report = Report::default();
+    for (place, line) in (1..).zip(text.lines()) {
+        if line.is_empty() || line.starts_with('#') {
+            continue;
+        }
+        report.cases += 1;
+        let case = line.split_once(" = ").ok_or_else(|| "a line without an answer".to_string());
+        let parsed = case.and_then(|(call, answer)| Ok((Call::parse(call)?, answer)));
+        match parsed {
+            Ok((call, answer)) => {
+                let answer = moved.get(&place).map_or(answer, String::as_str);
+                report.moved += usize::from(moved.contains_key(&place));
+                report.hold(place, &call, answer, parties);
+            }
+            Err(text) => report.differences.push(format!("line {place}: {text}")),
+        }
+    }
+    report
+}
+
+impl Report {
+    fn hold(&mut self, place: usize, call: &Call, answer: &str, parties: &[Party]) {
+        for &party in parties {
+            let key = (party.name.to_string(), call.name());
+            let Some((found, problem)) = call.ask(party, place as u64) else {
+                *self.left_out.entry(key).or_default() += 1;
+                continue;
+            };
+            *self.answered.entry(key).or_default() += 1;
+            if found != answer {
+                let (found, answer) = (shortened(&found), shortened(answer));
+                let text = format!("line {place}: {} says {found}, not {answer}", party.name);
+                self.differences.push(text);
+            }
+            if let Some(problem) = problem {
+                self.differences.push(format!("line {place}: {}: {problem}", party.name));
+            }
+        }
+    }
+
+    pub fn agrees(&self) -> bool {
+        self.differences.is_empty()
+    }
+}
+
+fn shortened(answer: &str) -> String {
+    const MOST: usize = 300;
+    if answer.len() <= MOST { answer.into() } else { format!("{}...", &answer[..MOST]) }
+}
+
+impl fmt::Display for Report {
+    fn fmt(&self, out: &mut fmt::Formatter<'_>) -> fmt::Result {
+        writeln!(out, "{} cases, {} with a later answer", self.cases, self.moved)?;
+        for ((party, call), count) in &self.answered {
+            writeln!(out, "{party}: {count} of {call}")?;
+        }
+        for ((party, call), count) in &self.left_out {
+            writeln!(out, "{party}: NOT held to {count} of {call}: no such call, or too long")?;
+        }
+        for difference in &self.differences {
+            writeln!(out, "DIFFERENCE: {difference}")?;
+        }
+        Ok(())
+    }
+}
+
+/// The numbers that the vectors of a file answer, for a test that all are there.
+pub fn refusals(text: &str) -> Vec<u32> {
+    let mut numbers: Vec<u32> = text
+        .lines()
+        .filter_map(|line| line.rsplit_once(" = refused ")?.1.split(' ').next()?.parse().ok())
+        .filter(|&number| number <= Reason::UnknownName.number())
+        .collect();
+    numbers.sort_unstable();
+    numbers.dedup();
+    numbers
+}
+
+#[cfg(test)]
+mod tests {
+    use super::*;
+
+    #[test]
+    fn bytes_are_read_as_the_readme_says() {
+        assert_eq!(bytes("-"), Ok(vec![]));
+        assert_eq!(bytes("w1,258"), Ok(vec![1, 0, 0, 0, 2, 1, 0, 0]));
+        assert_eq!(bytes("t(a%20%ff%25)"), Ok(b"(a \xff%)".to_vec()));
+        assert_eq!(bytes("01ff"), Ok(vec![1, 255]));
+        assert!(bytes("w1,x").is_err() && bytes("t%2").is_err() && bytes("012").is_err());
+    }
+
+    #[test]
+    fn moves_of_later_requests() {
+        let text = "# == Req 02\nreq01 5 = refused 4 0\nreq02 6 = -\n# == Req 05\nreq01 7 = a b\n";
+        let found = moves(text, "req01", 2).unwrap();
+        assert_eq!(found.into_iter().collect::<Vec<_>>(), [(5, "refused 4 0".to_string())]);
+        assert_eq!(moves(text, "req01", 5).unwrap().len(), 2);
+        assert!(moves(text, "req01", 1).unwrap().is_empty());
+    }
+
+    #[test]
+    fn other_calls_are_named() {
+        let report = run("walk 0 1 1 w1 = same 1\nnonsense\n", &BTreeMap::new(), &[]);
+        assert_eq!(report.differences.len(), 2);
+        assert!(report.to_string().contains("no such call here: walk"), "{report}");
+    }
+}
