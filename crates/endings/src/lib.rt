@@ -131,7 +131,8 @@ pub fn apply_parts(
         × (parts ≡ ReadParts.Full → r ≡ ReadTerm.Full)
         × ((c : Counts) (top s e : ℕ) → parts ≡ ReadParts.Done c top s e
         → TermOutcome
-        (placeApplication (bundleIn (now (words .entry)) c) (symbolFor (b .symbols) (wordOf (now (run .entry))) s) (halves true (now (stack .entry)) height top))
+        (placeApplication (bundleIn (now (words .entry)) c) (symbolFor (b .symbols) (wordOf (now (run .entry))) s) (halves true (now
+        (stack .entry)) height top))
         (resultSort (bundleAt (now (file .entry)) b)
         (signatureOf (bundleAt (now (file .entry)) b) (symbolFor (b .symbols) (wordOf (now (run .entry))) s)))
         e (now (words .exit)) r) ⌝ }

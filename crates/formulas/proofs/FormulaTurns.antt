@@ -148,7 +148,8 @@ module _ {text : List ℕ} {i : ℕ} {r : Head} (at : HeadAt text i r) where
   unfolding kindIn
   nothing-reads D {b} {h} {n} {w} n0 n1 n2 n3 = inside-only n0 _ go
     where
-      go : (φ : Bracketed) (rest : List Lexeme) → HeadInside text r φ rest → ReadOutcome text (plain D (bracketed φ)) (headSort D (bracketed φ)) rest b h n w ReadTerm.Full
+      go : (φ : Bracketed) (rest : List Lexeme) → HeadInside text r φ rest → ReadOutcome text (plain D (bracketed φ)) (headSort D
+          (bracketed φ)) rest b h n w ReadTerm.Full
       go (denies φ) rest h = absurd (n1 (h .kind))
       go (connects c φ ψ) rest h = absurd (n1 (h .kind))
       go (applies f φ φs) rest h = absurd (n1 (h .kind))
@@ -209,7 +210,8 @@ module _ {text : List ℕ} {i : ℕ} {r : Head} (at : HeadAt text i r) where
           (resultSort D (signatureOf D y)) e w2 res) eg o2) l
       applied {ts} (PartsOutcome.full o d) g eg = ReadOutcome.full (applied-large g ts o) (full d)
 
-      pub application-reads : {n₁ : ℕ} → n₁ ≡ suc n → r .kind ≡ 1 → ReadsParts D text b h (r .inside) n false false 0 w1 st1 parts → Reads D text b h i n₁ w2 res
+      pub application-reads : {n₁ : ℕ} → n₁ ≡ suc n → r .kind ≡ 1 → ReadsParts D text b h (r .inside) n false false 0 w1 st1 parts
+          → Reads D text b h i n₁ w2 res
       unfolding plain headSort symbolFor termsOf firstSort
       application-reads {n₁} en e gave = inside-only (λ z. omega (arith, e, z)) _ (λ φ rest s. at-levels en (go φ rest s))
         where
@@ -257,14 +259,17 @@ module _ {text : List ℕ} {i : ℕ} {r : Head} (at : HeadAt text i r) where
           let o = gave (record { called = x; formula = φ } ∷ pairs xs) ψ rest (s .inside) in
           let vs = variables-pairs D xs in
           let ts = terms-pairs D xs in
-          subst (λ (us : Terms). ReadOutcome text (letIn (variableCalled D x ∷ boundNames D xs) (more (plain D φ) us) (plain D ψ)) (headSort D ψ) rest b h (suc n) w
+          subst (λ (us : Terms). ReadOutcome text (letIn (variableCalled D x ∷ boundNames D xs) (more (plain D φ) us) (plain D ψ)) (headSort D ψ) rest b h
+          (suc n) w
           res) ts
-          (subst (λ (us : List ℕ). ReadOutcome text (letIn (variableCalled D x ∷ us) (more (plain D φ) (termsOf D (pairs xs))) (plain D ψ)) (headSort D ψ) rest b h
+          (subst (λ (us : List ℕ). ReadOutcome text (letIn (variableCalled D x ∷ us) (more (plain D φ) (termsOf D (pairs xs))) (plain D ψ))
+          (headSort D ψ) rest b h
           (suc n) w res) vs o)
 
 -- ---- what is left after a word and after an application
 
-pub word-leaves : {text w st : List ℕ} (h : ℕ) {i : ℕ} {w′ ix′ : List ℕ} {res : ReadTerm} {p : PlacedTerm} {s e : ℕ} → length w′ ≡ length w → TermHeld w′ ix′ res
+pub word-leaves : {text w st : List ℕ} (h : ℕ) {i : ℕ} {w′ ix′ : List ℕ} {res : ReadTerm} {p : PlacedTerm} {s e : ℕ} → length w′ ≡ length w
+    → TermHeld w′ ix′ res
     → TermOutcome p s e w′ res → i < e → e ≤ length text → Leaves text w st h i w′ st ix′ res
 word-leaves {text} {w} {st} h {i} long held o l m = record {
   long = long;
@@ -313,7 +318,8 @@ module _ (f : List ℕ) (k : Counts) {text : List ℕ} {i : ℕ} {item : Item} (
   module _ {q : ℕ} {w1 w2 : List ℕ} {body res : ReadTerm} (full : body ≡ ReadTerm.Full → res ≡ ReadTerm.Full)
       (done : (c : Counts) (t s e : ℕ) (p : Binder) → body ≡ ReadTerm.Done c t s e → q ≡ numberOf (binder p)
       → TermOutcome (placeBinder (bundleIn w1 c) p (item .variable) t) 0 e w2 res) where
-    bound : {b : Bundle} {h n : ℕ} {τ : Term} {s : ℕ} {ls : List Lexeme} (p : Binder) (x : ℕ) → q ≡ numberOf (binder p) → item .variable ≡ x → ReadOutcome text τ s ls b h n w1 body
+    bound : {b : Bundle} {h n : ℕ} {τ : Term} {s : ℕ} {ls : List Lexeme} (p : Binder) (x : ℕ) → q ≡ numberOf (binder p) → item .variable ≡ x
+        → ReadOutcome text τ s ls b h n w1 body
         → ReadOutcome text (bind p x τ) truthSort ls b h (suc n) w2 res
     unfolding file
     bound {b} {h} {n} {τ} p x is v (ReadOutcome.done c e d now l) =

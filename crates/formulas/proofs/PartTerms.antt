@@ -60,8 +60,43 @@ module _ (f : List ℕ) (k : Counts) where
 pub constant-none : (n : ℕ) (v : Bool) (w : List ℕ) → wordOf w ≡ constant v → variableAmong n w ≡ 0
 unfolding numberWithin numberAfter twelve bytes
 constant-none n v w =
-    word-cases (λ w m. m ≡ constant v → variableAmong n w ≡ 0) w (λ e. absurd (clash e)) (
-    (λ e. refl, (λ e. refl, (λ e. refl, (λ e. refl, (λ e. refl, (λ e. refl, (λ e. refl, (λ e. refl, (λ e. refl, (λ e. refl, (λ e. refl, (λ e. refl, tt))))))))))))
+    word-cases (λ w m. m ≡ constant v → variableAmong n w ≡ 0) w (λ e. absurd (clash e)) ((
+      λ e. refl,
+      (
+        λ e. refl,
+        (
+          λ e. refl,
+          (
+            λ e. refl,
+            (
+              λ e. refl,
+              (
+                λ e. refl,
+                (
+                  λ e. refl,
+                  (
+                    λ e. refl,
+                    (
+                      λ e. refl,
+                      (
+                        λ e. refl,
+                        (
+                          λ e. refl,
+                          (
+                            λ e. refl,
+                            tt,
+                          ),
+                        ),
+                      ),
+                    ),
+                  ),
+                ),
+              ),
+            ),
+          ),
+        ),
+      ),
+    )
     )
   where
     clash : {w : List ℕ} {v : Bool} → name w ≡ constant v → ⊥

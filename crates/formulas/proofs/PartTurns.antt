@@ -60,7 +60,8 @@ unfolding firstSort
 first-of D true s own p ps e = refl
 first-of D false s own p ps e = e
 
-one-more : {text : List ℕ} {τ : Term} {ts : Terms} {v : ℕ} {vs : List ℕ} {m s s′ : ℕ} {ls : List Lexeme} {b b1 : Bundle} {h n : ℕ} {w : List ℕ} (st1 : List ℕ) {st : List ℕ} {r : ReadParts}
+one-more : {text : List ℕ} {τ : Term} {ts : Terms} {v : ℕ} {vs : List ℕ} {m s s′ : ℕ} {ls : List Lexeme} {b b1 : Bundle} {h n : ℕ} {w : List ℕ}
+    (st1 : List ℕ) {st : List ℕ} {r : ReadParts}
     {pair t : ℕ} → b1 ≡ file τ b .bundle → Pair pair t v → t ≡ file τ b .term → s ≡ s′ → h < length st1 → StackKept (set st1 h pair) st (h + 1)
     → ((c : Counts) (top s e : ℕ) → r ≡ ReadParts.Done c top s e → top ≤ length st)
     → PartsOutcome text ts vs m s ls b1 (h + 1) n w st r → PartsOutcome text (more τ ts) (v ∷ vs) (suc m) s′ ls b h n w st r
@@ -101,7 +102,8 @@ module _ (f : List ℕ) (k : Counts) (text : List ℕ) (n : ℕ) (bound : Bool) 
     further = λ c t s e d. absurd (parts-not-both refl d);
   }
 
-  module _ {w st ix : List ℕ} {c : Counts} {h i : ℕ} (asks : Asks text w st ix c h i) {item : Item} (at : PartAt text (k .variables) bound i item) (known : Bool) (s : ℕ)
+  module _ {w st ix : List ℕ} {c : Counts} {h i : ℕ} (asks : Asks text w st ix c h i) {item : Item} (at : PartAt text (k .variables) bound i item)
+      (known : Bool) (s : ℕ)
     where
       not-ended : item .last ≡ false → (P : List Part → List Lexeme → Type 0)
           → ((p : Part) (ps : List Part) (rest : List Lexeme)
@@ -144,7 +146,8 @@ module _ (f : List ℕ) (k : Counts) (text : List ℕ) (n : ℕ) (bound : Bool) 
         reads = not-ended e _ (λ p ps rest m. PartsOutcome.full (no-place (plain D (p .formula)) (termsOf D ps) l) refl);
       }
 
-      module _ (on : item .last ≡ false) (room : h < limits .links) {w1 st1 ix1 : List ℕ} {read : ReadTerm} (left : Leaves text w st h (item .end) w1 st1 ix1 read)
+      module _ (on : item .last ≡ false) (room : h < limits .links) {w1 st1 ix1 : List ℕ} {read : ReadTerm} (left : Leaves text w st h
+          (item .end) w1 st1 ix1 read)
           (gave : Reads D text (bundleIn w c) h (item .end) n w1 read) where
         -- the part's formula did not fit
         pub part-full : read ≡ ReadTerm.Full → Given w st c h i known s w1 st1 ix1 ReadParts.Full
@@ -156,7 +159,8 @@ module _ (f : List ℕ) (k : Counts) (text : List ℕ) (n : ℕ) (bound : Bool) 
           where
             go : (p : Part) (ps : List Part) (rest : List Lexeme)
                 → ReadOutcome text (plain D (p .formula)) (headSort D (p .formula)) (afterPart bound (spellParts bound ps rest)) (bundleIn w c) h n w1 read
-                → PartsOutcome text (termsOf D (p ∷ ps)) (map (variableOf D bound) (p ∷ ps)) (length (p ∷ ps)) (firstSort D known s (p ∷ ps)) rest (bundleIn w c) h n w1
+                → PartsOutcome text (termsOf D (p ∷ ps)) (map (variableOf D bound) (p ∷ ps)) (length (p ∷ ps)) (firstSort D known s (p ∷ ps)) rest
+                (bundleIn w c) h n w1
                 st1 ReadParts.Full
             go p ps rest (ReadOutcome.done c′ e′ d now l) = absurd (not-both e d)
             go p ps rest (ReadOutcome.full o d) = PartsOutcome.full (first-large (plain D (p .formula)) (termsOf D ps) o) refl
@@ -204,14 +208,16 @@ module _ (f : List ℕ) (k : Counts) (text : List ℕ) (n : ℕ) (bound : Bool) 
               where
                 go : (p : Part) (ps : List Part) (rest : List Lexeme) → item .variable ≡ variableOf D bound p
                     → ReadOutcome text (plain D (p .formula)) (headSort D (p .formula)) (afterPart bound (spellParts bound ps rest)) (bundleIn w c) h n w1 read
-                    → PartsOutcome text (termsOf D (p ∷ ps)) (map (variableOf D bound) (p ∷ ps)) (length (p ∷ ps)) (firstSort D known s (p ∷ ps)) rest (bundleIn w c) h n
+                    → PartsOutcome text (termsOf D (p ∷ ps)) (map (variableOf D bound) (p ∷ ps)) (length (p ∷ ps)) (firstSort D known s (p ∷ ps)) rest
+                    (bundleIn w c) h n
                     w′ st′ r
                 go p ps rest v (ReadOutcome.done c′ e′ d now l) =
                     let ec : c1 ≡ c′ = cc in
                     let et : t ≡ file (plain D (p .formula)) (bundleIn w c) .term = cc in
                     let es : own ≡ headSort D (p .formula) = cc in
                     let ee : e ≡ e′ = cc in
-                    one-more st1 (ap (bundleIn w1) ec ∙ now) (record { upper = packed .upper; lower = packed .lower ∙ v }) et (first-of D known s own p ps es) part-room
+                    one-more st1 (ap (bundleIn w1) ec ∙ now) (record { upper = packed .upper; lower = packed .lower ∙ v }) et
+                    (first-of D known s own p ps es) part-room
                     (g .leaves .kept) (λ c t s e d. g .leaves .held .places c t s e d .1)
                     (g .reads ps rest (end .means (spellParts bound ps rest) (ap (lexemesAt text) ee ∙ l)))
                 go p ps rest v (ReadOutcome.full o d) = absurd (not-both d is)
@@ -227,7 +233,8 @@ module _ (f : List ℕ) (k : Counts) (text : List ℕ) (n : ℕ) (bound : Bool) 
 
 -- ---- a let, from its pairs and its body
 
-module _ (D : Bundle) {text w st : List ℕ} {b : Bundle} {h i n : ℕ} {w1 st1 ix1 : List ℕ} {parts : ReadParts} (leaves : LeavesParts text w st h i w1 st1 ix1 parts)
+module _ (D : Bundle) {text w st : List ℕ} {b : Bundle} {h i n : ℕ} {w1 st1 ix1 : List ℕ} {parts : ReadParts}
+    (leaves : LeavesParts text w st h i w1 st1 ix1 parts)
     (reads : ReadsParts D text b h i n true false 0 w1 st1 parts) where
   -- its pairs did not fit
   pub let-full : parts ≡ ReadParts.Full → Leaves text w st h i w1 st1 ix1 ReadTerm.Full × ReadsLet D text b h i n w1 ReadTerm.Full
@@ -263,7 +270,8 @@ module _ (D : Bundle) {text w st : List ℕ} {b : Bundle} {h i n : ℕ} {w1 st1 
           let z = leaves .held .places c1 top first e1 is in
           (closed-held (left .held) closed, z .0, omega (arith, z .1, left .kept .long))
 
-      module _ {w3 ix3 : List ℕ} {res : ReadTerm} (long : length w3 ≡ length w2) (held : TermHeld w3 ix3 res) (full : whole ≡ ReadTerm.Full → res ≡ ReadTerm.Full)
+      module _ {w3 ix3 : List ℕ} {res : ReadTerm} (long : length w3 ≡ length w2) (held : TermHeld w3 ix3 res) (full : whole ≡ ReadTerm.Full
+          → res ≡ ReadTerm.Full)
           (done : (c : Counts) (t s e : ℕ) → whole ≡ ReadTerm.Done c t s e
           → TermOutcome (placeLet (bundleIn w2 c) (halves false st2 h top) (halves true st2 h top) t) s e w3 res) where
         halves-kept : (u : Bool) → halves u st2 h top ≡ halves u st1 h top
@@ -276,10 +284,12 @@ module _ (D : Bundle) {text w st : List ℕ} {b : Bundle} {h i n : ℕ} {w1 st1 
         unfolding file
         let-outcome {ts} {vs} {τ} {s} {rest} et terms vars (ReadOutcome.done c′ e d now l) =
             let o = done c′ (file τ (fileAll ts b .bundle) .term) s e d in
-            let o1 = subst (λ (y : Bundle). TermOutcome (placeLet y (halves false st2 h top) (halves true st2 h top) (file τ (fileAll ts b .bundle) .term)) s e w3 res)
+            let o1 = subst (λ (y : Bundle). TermOutcome (placeLet y (halves false st2 h top) (halves true st2 h top) (file τ
+            (fileAll ts b .bundle) .term)) s e w3 res)
             now o in
             let o2 = subst (λ (y : List ℕ). TermOutcome
-            (placeLet (file τ (fileAll ts b .bundle) .bundle) y (halves true st2 h top) (file τ (fileAll ts b .bundle) .term)) s e w3 res) (halves-kept false ∙ vars) o1 in
+            (placeLet (file τ (fileAll ts b .bundle) .bundle) y (halves true st2 h top) (file τ (fileAll ts b .bundle) .term)) s e w3 res) (halves-kept false
+            ∙ vars) o1 in
             outcome-of (letIn vs ts τ) b (subst (λ (y : List ℕ). TermOutcome
             (placeLet (file τ (fileAll ts b .bundle) .bundle) vs y (file τ (fileAll ts b .bundle) .term)) s e w3 res) (halves-kept true ∙ terms) o2) l
         let-outcome {ts} {vs} {τ} et terms vars (ReadOutcome.full o d) = ReadOutcome.full (body-large vs ts τ et o) (full d)

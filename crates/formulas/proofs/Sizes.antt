@@ -82,12 +82,14 @@ module _ {b : Bundle} {h n : ℕ} where
     unfolding file pending depth
     pairs-large (AllTooLarge.records o) =
         TooLarge.records
-        (longer-over (longer-trans (file-longer t (fileAll ts b .bundle)) (let-longer (file t (fileAll ts b .bundle) .bundle) vs (fileAll ts b .terms) (file t (fileAll ts b .bundle) .term))) o)
+        (longer-over (longer-trans (file-longer t (fileAll ts b .bundle)) (let-longer (file t (fileAll ts b .bundle) .bundle) vs (fileAll ts b .terms) (file t
+        (fileAll ts b .bundle) .term))) o)
     pairs-large (AllTooLarge.waiting l) = TooLarge.waiting (omega (arith, l))
     pairs-large (AllTooLarge.deep l) = TooLarge.deep (omega (arith, l))
 
     pub body-large : {top : ℕ} → top ≡ h + count ts → TooLarge t (fileAll ts b .bundle) top n → TooLarge (letIn vs ts t) b h (suc n)
     unfolding file pending depth
-    body-large e (TooLarge.records o) = TooLarge.records (longer-over (let-longer (file t (fileAll ts b .bundle) .bundle) vs (fileAll ts b .terms) (file t (fileAll ts b .bundle) .term)) o)
+    body-large e (TooLarge.records o) = TooLarge.records (longer-over (let-longer (file t (fileAll ts b .bundle) .bundle) vs (fileAll ts b .terms) (file t
+        (fileAll ts b .bundle) .term)) o)
     body-large e (TooLarge.waiting l) = TooLarge.waiting (omega (arith, l, e))
     body-large e (TooLarge.deep l) = TooLarge.deep (omega (arith, l))

@@ -107,7 +107,8 @@ placed-light : (b b′ : Bundle) (r : TermRecord) (n : ℕ) (τ : Term) → Long
 unfolding weight
 placed-light b b′ r zero τ longer same links formed p light =
     let B : Bundle = withTerms b′ (r ∷ []) in
-    let one : length (B .terms) ≡ suc (length (b .terms)) = length-append (b′ .terms) (r ∷ []) ∙ ap (λ (ts : List TermRecord). length ts + 1) same ∙ omega arith in
+    let one : length (B .terms) ≡ suc (length (b .terms)) = length-append (b′ .terms) (r ∷ []) ∙ ap (λ (ts : List TermRecord). length ts + 1) same
+    ∙ omega arith in
     let old : weight B (length (b .terms)) ≡ weight b (length (b .terms)) =
     weight-kept (longer-trans longer (terms-longer b′ (r ∷ []))) formed (length (b .terms)) (omega arith) in
     let new : arity (tree B (suc (length (b .terms)))) ≡ arity τ = ap arity (p .stands) in
@@ -117,7 +118,8 @@ placed-light b b′ r (suc n) τ longer same links formed p light = light
 
 list-links : (b : Bundle) (vs : List ℕ) → length (addList b vs .links) ≡ length (b .links) + length vs
 list-links b vs =
-    length-append (b .links) (consecutive (suc (length (b .links))) vs) ∙ ap (λ (n : ℕ). length (b .links) + n) (consecutive-length (suc (length (b .links))) vs)
+    length-append (b .links) (consecutive (suc (length (b .links))) vs) ∙ ap (λ (n : ℕ). length (b .links) + n) (consecutive-length (suc (length
+    (b .links))) vs)
 
 module _ (b₀ : Bundle) (formed : TablesFormed b₀) where
   mutual

@@ -22,7 +22,26 @@ use Rattle.lexing.specs.Lexes.{part, lexemesAt, lexemeOf, Found, Lexes}
 use Rattle.lexing.specs.declared.lexemes.Lexed.{Lexed}
 use Rattle.heads.specs.declared.Head.{Head}
 use Rattle.heads.specs.declared.Item.{Item}
-use Rattle.heads.specs.Places.{HeadAt, ItemAt, VariableAt, PartAt, PartEnd, Part, afterPart, spellPart, spellParts, arguments, pairs, Starts, HeadInside, HeadOf, Ends, GoesOn, VariableOf, PartOf}
+use Rattle.heads.specs.Places.{
+  HeadAt,
+  ItemAt,
+  VariableAt,
+  PartAt,
+  PartEnd,
+  Part,
+  afterPart,
+  spellPart,
+  spellParts,
+  arguments,
+  pairs,
+  Starts,
+  HeadInside,
+  HeadOf,
+  Ends,
+  GoesOn,
+  VariableOf,
+  PartOf,
+}
 use Rattle.heads.proofs.WordCases.{name-is}
 
 -- ---- the next lexeme
@@ -327,7 +346,12 @@ module _ (n : ℕ) {text : List ℕ} {i : ℕ} {first : Lexed} (h : Lexes text i
     pub pair-goes : {c : Lexed} {v : ℕ} → (first .code ≡ 1 → ⊥) → Lexes text (first .end) c → v ≡ variableAmong n (part text (c .start) (c .end))
         → PartAt text n true i (on v (c .end))
     pair-goes {c} m h2 k = record {
-      item = record { after = omega (arith, h .after, h .order, h2 .after, h2 .order); within = h2 .inside; word = called-word (part text (c .start) (c .end)) k };
+      item = record {
+        after = omega (arith, h .after, h .order, h2 .after, h2 .order);
+        within = h2 .inside;
+        word = called-word (part text (c .start)
+            (c .end)) k;
+      };
       means = pair-on m h2 k;
     }
 

@@ -53,31 +53,193 @@ Kinds w m = (q : Binder) → m ≡ quantifier q → cond (sameList w (bytes "for
 module _ (n s : ℕ) where
   pub name-symbol : (w : List ℕ) → wordCode (wordOf w) ≡ 9 → symbolAmong n w ≡ symbolFor n (wordOf w) s
   unfolding symbolFor wordCode twelve bytes sameList connectiveSymbol
-  name-symbol w = word-cases (Coded 9 (λ w m. symbolAmong n w ≡ symbolFor n m s)) w (λ e. refl)
-      (λ e. absurd (omega arith), (λ e. absurd (omega arith), (λ e. absurd (omega arith), (λ e. absurd (omega arith), (λ e. absurd (omega arith), (λ e. absurd (omega arith), (λ e. absurd (omega arith), (λ e. absurd (omega arith), (λ e. absurd (omega arith), (λ e. absurd (omega arith), (λ e. absurd (omega arith), (λ e. absurd (omega arith), tt))))))))))))
+  name-symbol w = word-cases (Coded 9 (λ w m. symbolAmong n w ≡ symbolFor n m s)) w (λ e. refl) (
+    λ e. absurd (omega arith),
+    (
+      λ e. absurd (omega arith),
+      (
+        λ e. absurd (omega arith),
+        (
+          λ e. absurd (omega arith),
+          (
+            λ e. absurd (omega arith),
+            (
+              λ e. absurd
+                  (omega arith),
+              (
+                λ e. absurd (omega arith),
+                (
+                  λ e. absurd (omega arith),
+                  (
+                    λ e. absurd (omega arith),
+                    (
+                      λ e. absurd (omega arith),
+                      (
+                        λ e. absurd
+                            (omega arith),
+                        (λ e. absurd (omega arith), tt),
+                      ),
+                    ),
+                  ),
+                ),
+              ),
+            ),
+          ),
+        ),
+      ),
+    ),
+  )
 
   pub truth-symbol : (w : List ℕ) → wordCode (wordOf w) ≡ 3 → Truths n s w (wordOf w)
   unfolding symbolFor wordCode twelve bytes sameList connectiveSymbol
-  truth-symbol w = word-cases (Coded 3 (Truths n s)) w (λ e. absurd (omega arith))
-      (λ e. (λ h. refl, λ h. absurd (h refl)), (λ e. (λ h. absurd (omega arith), λ h. refl), (λ e. absurd (omega arith), (λ e. absurd (omega arith), (λ e. absurd (omega arith), (λ e. absurd (omega arith), (λ e. absurd (omega arith), (λ e. absurd (omega arith), (λ e. absurd (omega arith), (λ e. absurd (omega arith), (λ e. absurd (omega arith), (λ e. absurd (omega arith), tt))))))))))))
+  truth-symbol w = word-cases (Coded 3 (Truths n s)) w (λ e. absurd (omega arith)) (
+    λ e. (λ h. refl, λ h. absurd (h refl)),
+    (
+      λ e. (λ h. absurd (omega arith), λ h. refl),
+      (
+        λ e. absurd (omega arith),
+        (
+          λ e. absurd (omega arith),
+          (
+            λ e. absurd (omega arith),
+            (
+              λ e. absurd (omega arith),
+              (
+                λ e. absurd (omega arith),
+                (
+                  λ e. absurd (omega arith),
+                  (
+                    λ e. absurd (omega arith),
+                    (λ e. absurd (omega arith), (λ e. absurd (omega arith), (λ e. absurd (omega arith), tt))),
+                  ),
+                ),
+              ),
+            ),
+          ),
+        ),
+      ),
+    ),
+  )
 
   pub not-symbol : (w : List ℕ) → wordCode (wordOf w) ≡ 4 → 3 ≡ symbolFor n (wordOf w) s
   unfolding symbolFor wordCode twelve bytes sameList connectiveSymbol
-  not-symbol w = word-cases (Coded 4 (λ w m. 3 ≡ symbolFor n m s)) w (λ e. absurd (omega arith))
-      (λ e. absurd (omega arith), (λ e. absurd (omega arith), (λ e. refl, (λ e. absurd (omega arith), (λ e. absurd (omega arith), (λ e. absurd (omega arith), (λ e. absurd (omega arith), (λ e. absurd (omega arith), (λ e. absurd (omega arith), (λ e. absurd (omega arith), (λ e. absurd (omega arith), (λ e. absurd (omega arith), tt))))))))))))
+  not-symbol w = word-cases (Coded 4 (λ w m. 3 ≡ symbolFor n m s)) w (λ e. absurd (omega arith)) (
+    λ e. absurd (omega arith),
+    (
+      λ e. absurd (omega arith),
+      (
+        λ e. refl,
+        (
+          λ e. absurd (omega arith),
+          (
+            λ e. absurd (omega arith),
+            (
+              λ e. absurd (omega arith),
+              (
+                λ e. absurd (omega arith),
+                (
+                  λ e. absurd (omega arith),
+                  (
+                    λ e. absurd (omega arith),
+                    (
+                      λ e. absurd (omega arith),
+                      (
+                        λ e. absurd (omega arith),
+                        (λ e. absurd (omega arith), tt),
+                      ),
+                    ),
+                  ),
+                ),
+              ),
+            ),
+          ),
+        ),
+      ),
+    ),
+  )
 
   pub connective-symbol : (w : List ℕ) → wordCode (wordOf w) ≡ 5 → Connectives n s w (wordOf w)
   unfolding symbolFor wordCode twelve bytes sameList connectiveSymbol
-  connective-symbol w = word-cases (Coded 5 (Connectives n s)) w (λ e. absurd (omega arith))
-      (λ e. absurd (omega arith), (λ e. absurd (omega arith), (λ e. absurd (omega arith), (λ e. (λ h. refl, λ h. absurd (omega arith), λ h k. absurd (h refl)), (λ e. (λ h. absurd (omega arith), λ h. absurd (omega arith), λ h k. refl), (λ e. (λ h. absurd (omega arith), λ h. absurd (omega arith), λ h k. refl), (λ e. (λ h. absurd (omega arith), λ h. refl, λ h k. absurd (k refl)), (λ e. absurd (omega arith), (λ e. absurd (omega arith), (λ e. absurd (omega arith), (λ e. absurd (omega arith), (λ e. absurd (omega arith), tt))))))))))))
+  connective-symbol w = word-cases (Coded 5 (Connectives n s)) w (λ e. absurd (omega arith)) (
+    λ e. absurd (omega arith),
+    (
+      λ e. absurd (omega arith),
+      (
+        λ e. absurd (omega arith),
+        (
+          λ e. (
+            λ h. refl,
+            λ h. absurd (omega arith),
+            λ h k. absurd
+                (h refl),
+          ),
+          (
+            λ e. (λ h. absurd (omega arith), λ h. absurd (omega arith), λ h k. refl),
+            (
+              λ e. (
+                λ h. absurd (omega arith),
+                λ h. absurd (omega arith),
+                λ h k. refl,
+              ),
+              (
+                λ e. (λ h. absurd (omega arith), λ h. refl, λ h k. absurd (k refl)),
+                (
+                  λ e. absurd (omega arith),
+                  (
+                    λ e. absurd (omega arith),
+                    (λ e. absurd (omega arith), (λ e. absurd (omega arith), (λ e. absurd (omega arith), tt))),
+                  ),
+                ),
+              ),
+            ),
+          ),
+        ),
+      ),
+    ),
+  )
 
   pub no-symbol : (w : List ℕ) → (wordCode (wordOf w) ≡ 3 → ⊥) → (wordCode (wordOf w) ≡ 4 → ⊥) → (wordCode (wordOf w) ≡ 5 → ⊥) → (wordCode (wordOf w) ≡ 9 → ⊥)
       → 0 ≡ symbolFor n (wordOf w) s
   unfolding symbolFor wordCode twelve bytes sameList connectiveSymbol
   no-symbol w =
       word-cases (λ w m. (wordCode m ≡ 3 → ⊥) → (wordCode m ≡ 4 → ⊥) → (wordCode m ≡ 5 → ⊥) → (wordCode m ≡ 9 → ⊥) → 0 ≡ symbolFor n m s) w
-      (λ a b c d. absurd (d refl))
-      (λ a b c d. absurd (a refl), (λ a b c d. absurd (a refl), (λ a b c d. absurd (b refl), (λ a b c d. absurd (c refl), (λ a b c d. absurd (c refl), (λ a b c d. absurd (c refl), (λ a b c d. absurd (c refl), (λ a b c d. refl, (λ a b c d. refl, (λ a b c d. refl, (λ a b c d. refl, (λ a b c d. refl, tt))))))))))))
+      (λ a b c d. absurd (d refl)) (
+        λ a b c d. absurd (a refl),
+        (
+          λ a b c d. absurd (a refl),
+          (
+            λ a b c d. absurd (b refl),
+            (
+              λ a b c d. absurd (c refl),
+              (
+                λ a b c d. absurd (c refl),
+                (
+                  λ a b c d. absurd (c refl),
+                  (
+                    λ a b c d. absurd (c refl),
+                    (
+                      λ a b c d. refl,
+                      (
+                        λ a b c d. refl,
+                        (
+                          λ a b c d. refl,
+                          (
+                            λ a b c d. refl,
+                            (
+                              λ a b c d. refl,
+                              tt,
+                            ),
+                          ),
+                        ),
+                      ),
+                    ),
+                  ),
+                ),
+              ),
+            ),
+          ),
+        ),
+      )
 
 -- ---- binders
 
@@ -97,8 +259,45 @@ some exists e = omega arith
 pub kind-of-binder : (w : List ℕ) → Kinds w (wordOf w)
 unfolding boundBy twelve bytes sameList
 kind-of-binder w =
-    word-cases Kinds w (λ q e. absurd (some q (ap boundBy e)))
-    (λ q e. absurd (some q (ap boundBy e)), (λ q e. absurd (some q (ap boundBy e)), (λ q e. absurd (some q (ap boundBy e)), (λ q e. absurd (some q (ap boundBy e)), (λ q e. absurd (some q (ap boundBy e)), (λ q e. absurd (some q (ap boundBy e)), (λ q e. absurd (some q (ap boundBy e)), (λ q e. ap boundBy e, (λ q e. ap boundBy e, (λ q e. absurd (some q (ap boundBy e)), (λ q e. absurd (some q (ap boundBy e)), (λ q e. absurd (some q (ap boundBy e)), tt))))))))))))
+    word-cases Kinds w (λ q e. absurd (some q (ap boundBy e))) (
+      λ q e. absurd (some q (ap boundBy e)),
+      (
+        λ q e. absurd (some q (ap boundBy e)),
+        (
+          λ q e. absurd (some q (ap boundBy e)),
+          (
+            λ q e. absurd (some q
+                (ap boundBy e)),
+            (
+              λ q e. absurd (some q (ap boundBy e)),
+              (
+                λ q e. absurd (some q (ap boundBy e)),
+                (
+                  λ q e. absurd (some q (ap boundBy e)),
+                  (
+                    λ q e. ap boundBy e,
+                    (
+                      λ q e. ap boundBy e,
+                      (
+                        λ q e. absurd (some q (ap boundBy e)),
+                        (
+                          λ q e. absurd (some q (ap boundBy e)),
+                          (
+                            λ q e. absurd (some q
+                                (ap boundBy e)),
+                            tt,
+                          ),
+                        ),
+                      ),
+                    ),
+                  ),
+                ),
+              ),
+            ),
+          ),
+        ),
+      ),
+    )
 
 -- ---- names
 

@@ -62,11 +62,15 @@ returns-2 c =
       λ e. absurd (parts-not-both e d),
       λ k t u e b. parts-told (λ k t u e. TermOutcome (placeApplication (bundleIn w k) (g u) (halves true st (s .args .height) t))
           (resultSort D (signatureOf D (g u))) e (p .last .0) (c .ended .result)) d b
-          (subst (λ (n : ℕ). TermOutcome (placeApplication (bundleIn w (c .before .before .before .before .before .before .before .before .before .parts .given .0 .0)) n
-          (halves true st (s .args .height) (c .before .before .before .before .before .before .before .before .before .parts .given .0 .1 .0))) (resultSort D (signatureOf D n)) (c .before .before .before .before .before .before .before .before .before .parts .given .0 .1 .1 .1 .0)
+          (subst (λ (n : ℕ). TermOutcome (placeApplication (bundleIn w
+          (c .before .before .before .before .before .before .before .before .before .parts .given .0 .0)) n
+          (halves true st (s .args .height) (c .before .before .before .before .before .before .before .before .before .parts .given .0 .1 .0))) (resultSort D
+          (signatureOf D n)) (c .before .before .before .before .before .before .before .before .before .parts .given .0 .1 .1 .1 .0)
           (p .last .0) (c .ended .result)) (f .ensures .0)
-          (subst (λ (n : ℕ). TermOutcome (placeApplication (bundleIn w (c .before .before .before .before .before .before .before .before .before .parts .given .0 .0)) (f .result)
-          (halves true st (s .args .height) (c .before .before .before .before .before .before .before .before .before .parts .given .0 .1 .0))) n (c .before .before .before .before .before .before .before .before .before .parts .given .0 .1 .1 .1 .0)
+          (subst (λ (n : ℕ). TermOutcome (placeApplication (bundleIn w
+          (c .before .before .before .before .before .before .before .before .before .parts .given .0 .0)) (f .result)
+          (halves true st (s .args .height) (c .before .before .before .before .before .before .before .before .before .parts .given .0 .1 .0))) n
+          (c .before .before .before .before .before .before .before .before .before .parts .given .0 .1 .1 .1 .0)
           (p .last .0) (c .ended .result)) (z .ensures) (ended-outcome (p .ensures .1) _ _ (c .ended .ensures)))),
     )
 

@@ -32,8 +32,14 @@ variable-sort-requires c κs = search needs
 
 place-variable-requires : tie.Need-place-variable-requires
 place-variable-requires c κs =
-    let s = c .before .before .before .before .before .before .before .before .before in
-    (s .pre .1 .ready, variable-word (s .args .b .variables) (s .args .run .now) (c .before .before .before .before .variable-called .ensures) (omega (arith, s .pre .0 .within .variables)), s .pre .1 .indexed)
+    let s = c .before .before .before .before .before .before .before .before .before in (
+      s .pre .1 .ready,
+      variable-word (s .args .b .variables) (s .args .run .now) (c .before .before .before .before .variable-called .ensures) (omega (
+        arith,
+        s .pre .0 .within .variables,
+      )),
+      s .pre .1 .indexed,
+    )
 
 ended-requires : tie.Need-ended-requires
 ended-requires c κs = search needs
@@ -54,7 +60,8 @@ returns c =
       ended-held (p .ensures .1) _ (s .args .end) (c .ended .ensures) (p .ensures .2) (variable-le _ _),
       subst (λ (n : ℕ). TermOutcome (fileTerm (aloneTerm n (symbolFor (s .args .b .symbols) (wordOf (s .args .run .now)) 0)) b)
           (aloneSort D n (symbolFor (s .args .b .symbols) (wordOf (s .args .run .now)) 0)) (s .args .end) (p .last .0) (c .ended .result)) (x .ensures)
-          (variable-alone D b (λ q u. TermOutcome q u (s .args .end) (p .last .0) (c .ended .result)) (x .result) _ (c .before .before .before .before .before .before .before .if1 .taken)
+          (variable-alone D b (λ q u. TermOutcome q u (s .args .end) (p .last .0) (c .ended .result)) (x .result) _
+          (c .before .before .before .before .before .before .before .if1 .taken)
           (subst (λ (u : ℕ). TermOutcome (placeVariable b (x .result)) u (s .args .end) (p .last .0) (c .ended .result)) (z .ensures) o)),
     )
 

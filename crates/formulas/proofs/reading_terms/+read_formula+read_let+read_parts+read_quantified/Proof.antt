@@ -161,12 +161,14 @@ read-quantified-calls t = (
 )
 
 abbrev read-parts-Inv-loop : read-parts-lts.InvT-loop
-read-parts-Inv-loop file b text words₀ stack₀ index₀ height i left bound variables counts₀ top₀ known₀ sort₀ last₀ variable₀ at₀ words stack index counts top known sort last variable at =
+read-parts-Inv-loop file b text words₀ stack₀ index₀ height i left bound variables counts₀ top₀ known₀ sort₀ last₀ variable₀ at₀ words stack index counts top
+    known sort last variable at =
     P.Going file b text left bound words₀ stack₀ counts₀ height i words stack index counts top known sort
     (record { last = last; variable = variable; end = at })
 
 abbrev read-parts-μ-loop : read-parts-lts.MeasureT-loop
-read-parts-μ-loop file b text words₀ stack₀ index₀ height i left bound variables counts₀ top₀ known₀ sort₀ last₀ variable₀ at₀ words stack index counts top known sort last variable at =
+read-parts-μ-loop file b text words₀ stack₀ index₀ height i left bound variables counts₀ top₀ known₀ sort₀ last₀ variable₀ at₀ words stack index counts top
+    known sort last variable at =
     length text - at
 
 -- ---- a formula
@@ -222,13 +224,23 @@ module _ (t : ℕ) where
   read-formula-part-apply-parts-end c = search needs
 
   read-formula-apply-parts-requires : read-formula-lts.Need-apply-parts-requires (read-formula-calls t) (read-formula-at t) read-formula.Post
-  read-formula-apply-parts-requires c κs = (c .before .before .before .before .before .before .before .before .before .before .before .before .before .before .before .before .before .before .before .before .pre .1 .0, c .before .before .before .before .before .before .before .before .read-parts .ensures .0 .held)
+  read-formula-apply-parts-requires c κs = (
+    c .before .before .before .before .before .before .before .before .before .before .before .before .before .before .before .before .before .before
+        .before .before .pre .1 .0,
+    c .before .before .before .before .before .before .before .before .read-parts .ensures .0 .held,
+  )
 
   read-formula-returns-3 : read-formula-lts.Need-returns-3 (read-formula-calls t) (read-formula-at t) read-formula.Post
-  read-formula-returns-3 c = let s = c .before .before .before .before .before .before .before .before .before .before .before .before .before .before .before .before .before .before .before .before .before .before .before in
+  read-formula-returns-3 c = let s = c .before .before .before .before .before .before .before .before .before .before .before .before .before .before
+      .before .before .before .before .before .before .before .before .before in
       let a = s .args in
-      let h = c .before .before .before .before .before .before .before .before .before .before .before .before .before .before .before .before .before .head-at .ensures in
-      let n : a .left ≡ suc (a .left - 1) = omega (arith, c .before .before .before .before .before .before .before .before .before .before .before .before .before .before .before .before .before .before .if1 .left) in
+      let h = c .before .before .before .before .before .before .before .before .before .before .before .before .before .before .before .before .before
+      .head-at .ensures in
+      let n : a .left ≡ suc (a .left - 1) = omega (
+        arith,
+        c .before .before .before .before .before .before .before .before .before .before .before .before .before .before .before .before .before .before
+            .if1 .left,
+      ) in
       let e = c .before .before .before .before .before .before .before .before .before .before .before .before .before .before .before .if3 .taken in
       let p = c .before .before .before .before .before .before .before .before .before .before .before .read-parts .ensures in
       let g = c .before .before .apply-parts .ensures in (
@@ -249,7 +261,8 @@ module _ (t : ℕ) where
   read-formula-binder-kind-requires c κs = search needs
 
   read-formula-read-quantified-requires : read-formula-lts.Need-read-quantified-requires (read-formula-calls t) (read-formula-at t) read-formula.Post
-  read-formula-read-quantified-requires c κs = let s = c .before .before .before .before .before .before .before .before .before .before .before .before .before .before in
+  read-formula-read-quantified-requires c κs = let s =
+      c .before .before .before .before .before .before .before .before .before .before .before .before .before .before in
       let a = s .args in
       let h = c .before .before .before .before .before .before .before .before .head-at .ensures in
       let l = (h .further (λ z. omega (arith, c .before .before .before .before .before .if4 .taken, z))) in
@@ -257,13 +270,17 @@ module _ (t : ℕ) where
       (omega (arith, s .pre .0, l, h .within), (s .pre .1 .0, F.at-byte (s .pre .1 .1) (h .within), q .0, q .1))
 
   read-formula-returns-4 : read-formula-lts.Need-returns-4 (read-formula-calls t) (read-formula-at t) read-formula.Post
-  read-formula-returns-4 c = let s = c .before .before .before .before .before .before .before .before .before .before .before .before .before .before .before .before .before .before .before in
+  read-formula-returns-4 c = let s = c .before .before .before .before .before .before .before .before .before .before .before .before .before .before
+      .before .before .before .before .before in
       let a = s .args in
       let D : Bundle = bundleAt (a .file .now) (a .b) in
       let h = c .before .before .before .before .before .before .before .before .before .before .before .before .before .head-at .ensures in
       let e = c .before .before .before .before .before .before .before .before .before .before .if4 .taken in
-      let p = c .before .before .before .before .read-quantified .ensures in
-      (F.later-leaves (h .further (λ z. omega (arith, e, z))) (p .0), F.quantifier-reads h D e (c .before .before .before .before .before .before .before .before .binder-kind .ensures .2) (p .1))
+      let p = c .before .before .before .before .read-quantified .ensures in (
+        F.later-leaves (h .further (λ z. omega (arith, e, z))) (p .0),
+        F.quantifier-reads h D e
+            (c .before .before .before .before .before .before .before .before .binder-kind .ensures .2) (p .1),
+      )
 
   read-formula-sub-read-let : read-formula-lts.Need-sub-read-let (read-formula-calls t) (read-formula-at t) read-formula.Post
   read-formula-sub-read-let c = search needs
@@ -276,11 +293,15 @@ module _ (t : ℕ) where
       (omega (arith, s .pre .0, l, h .within), (s .pre .1 .0, F.at-byte (s .pre .1 .1) (h .within)))
 
   read-formula-returns-5 : read-formula-lts.Need-returns-5 (read-formula-calls t) (read-formula-at t) read-formula.Post
-  read-formula-returns-5 c = let s = c .before .before .before .before .before .before .before .before .before .before .before .before .before .before .before .before .before .before in
+  read-formula-returns-5 c = let s = c .before .before .before .before .before .before .before .before .before .before .before .before .before .before
+      .before .before .before .before in
       let a = s .args in
       let D : Bundle = bundleAt (a .file .now) (a .b) in
       let h = c .before .before .before .before .before .before .before .before .before .before .before .before .head-at .ensures in
-      let n : a .left ≡ suc (a .left - 1) = omega (arith, c .before .before .before .before .before .before .before .before .before .before .before .before .before .if1 .left) in
+      let n : a .left ≡ suc (a .left - 1) = omega (
+        arith,
+        c .before .before .before .before .before .before .before .before .before .before .before .before .before .if1 .left,
+      ) in
       let e = c .before .before .before .before .before .before .before .before .if5 .taken in
       let p = c .before .before .before .before .read-let .ensures in
       (F.later-leaves (h .further (λ z. omega (arith, e, z))) (p .0), F.let-reads h D n e (p .1))
@@ -289,8 +310,11 @@ module _ (t : ℕ) where
   read-formula-returns-6 c = let s = c .before .before .before .before .before .before .before .before .before .before in
       let a = s .args in
       let D : Bundle = bundleAt (a .file .now) (a .b) in
-      let h = c .before .before .before .before .head-at .ensures in
-      (F.full-leaves (a .height) (a .i), F.nothing-reads h D (c .before .before .before .if2 .left) (c .before .before .if3 .left) (c .before .if4 .left) (c .if5 .left))
+      let h = c .before .before .before .before .head-at .ensures in (
+        F.full-leaves (a .height) (a .i),
+        F.nothing-reads h D (c .before .before .before .if2 .left) (c .before .before .if3 .left) (c .before .if4 .left)
+            (c .if5 .left),
+      )
 
   read-formula-same-length : read-formula-lts.Need-same-length (read-formula-calls t) (read-formula-at t) read-formula.Post
   read-formula-same-length c = read-formula-returns-2 c .0 .long
@@ -331,7 +355,8 @@ module _ (t : ℕ) where
   read-let-enum-known-parts c = search needs
 
   read-let-read-formula-requires : read-let-lts.Need-read-formula-requires (read-let-calls t) (read-let-at t) read-let.Post
-  read-let-read-formula-requires c κs = let s = c .before .before .before .before .before .before .before .before .before .before .before .before .before .before .before .before .before .before in
+  read-let-read-formula-requires c κs = let s =
+      c .before .before .before .before .before .before .before .before .before .before .before .before .before .before .before .before .before .before in
       let a = s .args in
       let D : Bundle = bundleAt (a .file .now) (a .b) in
       let p = c .before .before .before .before .before .before .before .before .before .before .read-parts .ensures in
@@ -343,10 +368,13 @@ module _ (t : ℕ) where
   read-let-closed-requires c κs = F.inside-of (c .before .before .before .before .read-formula .ensures .0)
 
   read-let-let-term-requires : read-let-lts.Need-let-term-requires (read-let-calls t) (read-let-at t) read-let.Post
-  read-let-let-term-requires c κs = let s = c .before .before .before .before .before .before .before .before .before .before .before .before .before .before .before .before .before .before .before .before .before .before .before .before .before .before .before in
+  read-let-let-term-requires c κs = let s =
+      c .before .before .before .before .before .before .before .before .before .before .before .before .before .before .before .before .before .before
+      .before .before .before .before .before .before .before .before .before in
       let a = s .args in
       let D : Bundle = bundleAt (a .file .now) (a .b) in
-      let p = c .before .before .before .before .before .before .before .before .before .before .before .before .before .before .before .before .before .before .before .read-parts .ensures in
+      let p = c .before .before .before .before .before .before .before .before .before .before .before .before .before .before .before .before .before
+      .before .before .read-parts .ensures in
       let d = c .before .before .before .before .before .before .before .before .before .before .before .before .before .parts .given .1 in
       let q = s .pre .1 .1 .places in
       let g = c .before .before .before .before .before .before .before .before .read-formula .ensures in
@@ -361,11 +389,14 @@ module _ (t : ℕ) where
       P.let-full D (p .0) (p .1) (c .enum-told .given .1)
 
   read-let-returns-2 : read-let-lts.Need-returns-2 (read-let-calls t) (read-let-at t) read-let.Post
-  read-let-returns-2 c = let s = c .before .before .before .before .before .before .before .before .before .before .before .before .before .before .before .before .before .before .before .before .before .before .before .before .before .before .before .before .before .before in
+  read-let-returns-2 c = let s = c .before .before .before .before .before .before .before .before .before .before .before .before .before .before .before
+      .before .before .before .before .before .before .before .before .before .before .before .before .before .before .before in
       let a = s .args in
       let D : Bundle = bundleAt (a .file .now) (a .b) in
-      let p = c .before .before .before .before .before .before .before .before .before .before .before .before .before .before .before .before .before .before .before .before .before .before .read-parts .ensures in
-      let d = c .before .before .before .before .before .before .before .before .before .before .before .before .before .before .before .before .parts .given .1 in
+      let p = c .before .before .before .before .before .before .before .before .before .before .before .before .before .before .before .before .before
+      .before .before .before .before .before .read-parts .ensures in
+      let d = c .before .before .before .before .before .before .before .before .before .before .before .before .before .before .before .before .parts .given
+      .1 in
       let q = s .pre .1 .1 .places in
       let g = c .before .before .before .before .before .before .before .before .before .before .before .read-formula .ensures in
       let z = c .before .before .before .before .before .before .closed .ensures in
@@ -387,7 +418,8 @@ module _ (t : ℕ) where
 -- ---- parts
 
 module _ (t : ℕ) where
-  read-parts-part-at-requires : read-parts-lts.Need-part-at-requires (read-parts-calls t) (read-parts-at t) read-parts.Post read-parts-Inv-loop read-parts-μ-loop
+  read-parts-part-at-requires : read-parts-lts.Need-part-at-requires (read-parts-calls t)
+      (read-parts-at t) read-parts.Post read-parts-Inv-loop read-parts-μ-loop
   read-parts-part-at-requires c κs = let k = c .before .before .before .before .pre .1 in
       (k .1 .here, k .0 .within .variables)
 
@@ -402,10 +434,12 @@ module _ (t : ℕ) where
       let l = c .before .before .loop in
       let v = l .inv in
       let on = not-true (l .last) (c .before .loop-test .taken) in
-      let g = v .on _ _ _ _ (P.no-more-places (a .file .now) (a .b) (a .text .now) (a .left) (a .bound) (v .asks) (v .at) (l .known) (l .sort) on (omega (arith, c .if1 .taken))) in
+      let g = v .on _ _ _ _ (P.no-more-places (a .file .now) (a .b) (a .text .now) (a .left) (a .bound) (v .asks) (v .at) (l .known) (l .sort) on (omega
+      (arith, c .if1 .taken))) in
       (g .leaves, g .reads)
 
-  read-parts-read-formula-requires : read-parts-lts.Need-read-formula-requires (read-parts-calls t) (read-parts-at t) read-parts.Post read-parts-Inv-loop read-parts-μ-loop
+  read-parts-read-formula-requires : read-parts-lts.Need-read-formula-requires (read-parts-calls t)
+      (read-parts-at t) read-parts.Post read-parts-Inv-loop read-parts-μ-loop
   read-parts-read-formula-requires c κs = let s = c .before .before .before .before .before .before .before .before .before .before .before in
       let a = s .args in
       let l = c .before .before .before .before .before .loop in
@@ -416,21 +450,24 @@ module _ (t : ℕ) where
   read-parts-enum-told c = search needs
 
   read-parts-returns-2 : read-parts-lts.Need-returns-2 (read-parts-calls t) (read-parts-at t) read-parts.Post read-parts-Inv-loop read-parts-μ-loop
-  read-parts-returns-2 c = let s = c .before .before .before .before .before .before .before .before .before .before .before .before .before .before .before .before .before .before in
+  read-parts-returns-2 c = let s = c .before .before .before .before .before .before .before .before .before .before .before .before .before .before .before
+      .before .before .before in
       let a = s .args in
       let l = c .before .before .before .before .before .before .before .before .before .before .before .before .loop in
       let v = l .inv in
       let on = not-true (l .last) (c .before .before .before .before .before .before .before .before .before .before .before .loop-test .taken) in
       let room : l .top < 2048 = omega (arith, c .before .before .before .before .before .before .before .before .before .before .if1 .left) in
       let p = c .before .before .before .before .before .before .read-formula .ensures in
-      let g = v .on _ _ _ _ (P.part-full (a .file .now) (a .b) (a .text .now) (a .left) (a .bound) (v .asks) (v .at) (l .known) (l .sort) on room (p .0) (p .1) (c .enum-told .given .1)) in
+      let g = v .on _ _ _ _ (P.part-full (a .file .now) (a .b) (a .text .now) (a .left) (a .bound) (v .asks) (v .at) (l .known) (l .sort) on room (p .0)
+      (p .1) (c .enum-told .given .1)) in
       (g .leaves, g .reads)
 
   read-parts-enum-known-read : read-parts-lts.Need-enum-known-read (read-parts-calls t) (read-parts-at t) read-parts.Post read-parts-Inv-loop read-parts-μ-loop
   read-parts-enum-known-read c = search needs
 
   read-parts-pack-requires : read-parts-lts.Need-pack-requires (read-parts-calls t) (read-parts-at t) read-parts.Post read-parts-Inv-loop read-parts-μ-loop
-  read-parts-pack-requires c κs = let s = c .before .before .before .before .before .before .before .before .before .before .before .before .before .before .before .before .before .before .before in
+  read-parts-pack-requires c κs = let s = c .before .before .before .before .before .before .before .before .before .before .before .before .before .before
+      .before .before .before .before .before in
       let a = s .args in
       let l = c .before .before .before .before .before .before .before .before .before .before .before .before .before .loop in
       let v = l .inv in
@@ -443,12 +480,16 @@ module _ (t : ℕ) where
   read-parts-mul-stack : read-parts-lts.Need-mul-stack (read-parts-calls t) (read-parts-at t) read-parts.Post read-parts-Inv-loop read-parts-μ-loop
   read-parts-mul-stack c = omega (arith, c .before .before .before .before .before .before .before .before .before .before .before .before .if1 .left)
 
-  read-parts-slice-write-stack : read-parts-lts.Need-slice-write-stack (read-parts-calls t) (read-parts-at t) read-parts.Post read-parts-Inv-loop read-parts-μ-loop
-  read-parts-slice-write-stack c = let s = c .before .before .before .before .before .before .before .before .before .before .before .before .before .before .before .before .before .before .before .before in
+  read-parts-slice-write-stack : read-parts-lts.Need-slice-write-stack (read-parts-calls t)
+      (read-parts-at t) read-parts.Post read-parts-Inv-loop read-parts-μ-loop
+  read-parts-slice-write-stack c = let s =
+      c .before .before .before .before .before .before .before .before .before .before .before .before .before .before .before .before .before .before
+      .before .before in
       let a = s .args in
       let l = c .before .before .before .before .before .before .before .before .before .before .before .before .before .before .loop in
       let v = l .inv in
-      let on = not-true (l .last) (c .before .before .before .before .before .before .before .before .before .before .before .before .before .loop-test .taken) in
+      let on = not-true (l .last) (c .before .before .before .before .before .before .before .before .before .before .before .before .before .loop-test
+      .taken) in
       let room : l .top < 2048 = omega (arith, c .before .before .before .before .before .before .before .before .before .before .before .before .if1 .left) in
       let p = c .before .before .before .before .before .before .before .before .read-formula .ensures in
       let d = c .before .before .read .given .1 in
@@ -457,53 +498,87 @@ module _ (t : ℕ) where
   read-parts-add-top : read-parts-lts.Need-add-top (read-parts-calls t) (read-parts-at t) read-parts.Post read-parts-Inv-loop read-parts-μ-loop
   read-parts-add-top c = omega (arith, c .before .before .before .before .before .before .before .before .before .before .before .before .if1 .left)
 
-  read-parts-part-end-requires : read-parts-lts.Need-part-end-requires (read-parts-calls t) (read-parts-at t) read-parts.Post read-parts-Inv-loop read-parts-μ-loop
-  read-parts-part-end-requires c κs = let s = c .before .before .before .before .before .before .before .before .before .before .before .before .before .before .before .before .before .before .before .before .before in
+  read-parts-part-end-requires : read-parts-lts.Need-part-end-requires (read-parts-calls t)
+      (read-parts-at t) read-parts.Post read-parts-Inv-loop read-parts-μ-loop
+  read-parts-part-end-requires c κs = let s =
+      c .before .before .before .before .before .before .before .before .before .before .before .before .before .before .before .before .before .before
+      .before .before .before in
       let a = s .args in
       let l = c .before .before .before .before .before .before .before .before .before .before .before .before .before .before .before .loop in
       let v = l .inv in
-      let on = not-true (l .last) (c .before .before .before .before .before .before .before .before .before .before .before .before .before .before .loop-test .taken) in
-      let room : l .top < 2048 = omega (arith, c .before .before .before .before .before .before .before .before .before .before .before .before .before .if1 .left) in
+      let on = not-true (l .last) (c .before .before .before .before .before .before .before .before .before .before .before .before .before .before
+      .loop-test .taken) in
+      let room : l .top < 2048 = omega (
+        arith,
+        c .before .before .before .before .before .before .before .before .before .before .before .before .before .if1
+            .left,
+      ) in
       let p = c .before .before .before .before .before .before .before .before .before .read-formula .ensures in
       let d = c .before .before .before .read .given .1 in
       P.part-inside (a .file .now) (a .b) (a .text .now) (a .left) (a .bound) (v .asks) (v .at) (l .known) (l .sort) on room (p .0) (p .1) d
 
-  read-parts-part-at-requires-2 : read-parts-lts.Need-part-at-requires-2 (read-parts-calls t) (read-parts-at t) read-parts.Post read-parts-Inv-loop read-parts-μ-loop
-  read-parts-part-at-requires-2 c κs = (c .part-end .ensures .within, c .before .before .before .before .before .before .before .before .before .before .before .before .before .before .before .before .before .before .before .before .before .before .pre .1 .0 .within .variables)
+  read-parts-part-at-requires-2 : read-parts-lts.Need-part-at-requires-2 (read-parts-calls t)
+      (read-parts-at t) read-parts.Post read-parts-Inv-loop read-parts-μ-loop
+  read-parts-part-at-requires-2 c κs = (
+    c .part-end .ensures .within,
+    c .before .before .before .before .before .before .before .before .before .before .before .before .before .before .before .before .before .before
+        .before .before .before .before .pre .1 .0 .within .variables,
+  )
 
   read-parts-loop-less : read-parts-lts.Need-loop-less (read-parts-calls t) (read-parts-at t) read-parts.Post read-parts-Inv-loop read-parts-μ-loop
-  read-parts-loop-less c = let s = c .before .before .before .before .before .before .before .before .before .before .before .before .before .before .before .before .before .before .before .before .before .before .before in
+  read-parts-loop-less c = let s = c .before .before .before .before .before .before .before .before .before .before .before .before .before .before .before
+      .before .before .before .before .before .before .before .before in
       let a = s .args in
       let l = c .before .before .before .before .before .before .before .before .before .before .before .before .before .before .before .before .before .loop in
       let v = l .inv in
-      let on = not-true (l .last) (c .before .before .before .before .before .before .before .before .before .before .before .before .before .before .before .before .loop-test .taken) in
-      let room : l .top < 2048 = omega (arith, c .before .before .before .before .before .before .before .before .before .before .before .before .before .before .before .if1 .left) in
+      let on = not-true (l .last) (c .before .before .before .before .before .before .before .before .before .before .before .before .before .before .before
+      .before .loop-test .taken) in
+      let room : l .top < 2048 = omega (
+        arith,
+        c .before .before .before .before .before .before .before .before .before .before .before .before .before
+            .before .before .if1 .left,
+      ) in
       let p = c .before .before .before .before .before .before .before .before .before .before .before .read-formula .ensures in
       let d = c .before .before .before .before .before .read .given .1 in
       let z = c .before .part-end .ensures in
-      let y = P.part-later (a .file .now) (a .b) (a .text .now) (a .left) (a .bound) (v .asks) (v .at) (l .known) (l .sort) on room (p .0) (p .1) d (record { upper = c .before .before .before .pack .ensures .0; lower = c .before .before .before .pack .ensures .1 }) z in
+      let y = P.part-later (a .file .now) (a .b) (a .text .now) (a .left) (a .bound) (v .asks) (v .at) (l .known) (l .sort) on room (p .0) (p .1) d
+      (record { upper = c .before .before .before .pack .ensures .0; lower = c .before .before .before .pack .ensures .1 }) z in
       omega (arith, y, c .part-at2 .ensures .item .after, c .part-at2 .ensures .item .within)
 
   read-parts-loop-again : read-parts-lts.Need-loop-again (read-parts-calls t) (read-parts-at t) read-parts.Post read-parts-Inv-loop read-parts-μ-loop
-  read-parts-loop-again c = let s = c .before .before .before .before .before .before .before .before .before .before .before .before .before .before .before .before .before .before .before .before .before .before .before in
+  read-parts-loop-again c = let s = c .before .before .before .before .before .before .before .before .before .before .before .before .before .before .before
+      .before .before .before .before .before .before .before .before in
       let a = s .args in
       let l = c .before .before .before .before .before .before .before .before .before .before .before .before .before .before .before .before .before .loop in
       let v = l .inv in
-      let on = not-true (l .last) (c .before .before .before .before .before .before .before .before .before .before .before .before .before .before .before .before .loop-test .taken) in
-      let room : l .top < 2048 = omega (arith, c .before .before .before .before .before .before .before .before .before .before .before .before .before .before .before .if1 .left) in
+      let on = not-true (l .last) (c .before .before .before .before .before .before .before .before .before .before .before .before .before .before .before
+      .before .loop-test .taken) in
+      let room : l .top < 2048 = omega (
+        arith,
+        c .before .before .before .before .before .before .before .before .before .before .before .before .before
+            .before .before .if1 .left,
+      ) in
       let p = c .before .before .before .before .before .before .before .before .before .before .before .read-formula .ensures in
       let d = c .before .before .before .before .before .read .given .1 in
       let z = c .before .part-end .ensures in
       let own = c .before .before .before .before .before .read .given .0 .1 .1 .0 in
-      let y = P.part-later (a .file .now) (a .b) (a .text .now) (a .left) (a .bound) (v .asks) (v .at) (l .known) (l .sort) on room (p .0) (p .1) d (record { upper = c .before .before .before .pack .ensures .0; lower = c .before .before .before .pack .ensures .1 }) z in
+      let y = P.part-later (a .file .now) (a .b) (a .text .now) (a .left) (a .bound) (v .asks) (v .at) (l .known) (l .sort) on room (p .0) (p .1) d
+      (record { upper = c .before .before .before .pack .ensures .0; lower = c .before .before .before .pack .ensures .1 }) z in
       let sort : c .before .before .if2 .sort ≡ cond (l .known) (l .sort) own =
-      ⊎-elim (λ w. w .1 ∙ sym (P.cond-true (l .known) (l .sort) own (w .0 .taken))) (λ w. w .1 ∙ sym (P.cond-false (l .known) (l .sort) own (w .0 .left))) (c .before .before .if2 .came) in
+      ⊎-elim (λ w. w .1 ∙ sym (P.cond-true (l .known) (l .sort) own (w .0 .taken))) (λ w. w .1 ∙ sym (P.cond-false (l .known) (l .sort) own (w .0 .left)))
+      (c .before .before .if2 .came) in
       record {
         here = c .before .part-end .result;
         from = omega (arith, v .from, v .at .item .after, y);
-        asks = P.part-asks (a .file .now) (a .b) (a .text .now) (a .left) (a .bound) (v .asks) (v .at) (l .known) (l .sort) on room (p .0) (p .1) d (record { upper = c .before .before .before .pack .ensures .0; lower = c .before .before .before .pack .ensures .1 }) z;
+        asks = P.part-asks (a .file .now) (a .b) (a .text .now) (a .left) (a .bound) (v .asks) (v .at) (l .known) (l .sort) on room (p .0) (p .1) d
+            (record { upper = c .before .before .before .pack .ensures .0; lower = c .before .before .before .pack .ensures .1 }) z;
         at = c .part-at2 .ensures;
-        on = λ w′ st′ ix′ r g. v .on w′ st′ ix′ r (P.part-more (a .file .now) (a .b) (a .text .now) (a .left) (a .bound) (v .asks) (v .at) (l .known) (l .sort) on room (p .0) (p .1) d (record { upper = c .before .before .before .pack .ensures .0; lower = c .before .before .before .pack .ensures .1 }) z (P.at-sort (a .file .now) (a .b) (a .text .now) (a .left) (a .bound) sort g));
+        on = λ w′ st′ ix′ r g. v .on w′ st′ ix′ r (P.part-more (a .file .now) (a .b) (a .text .now) (a .left) (a .bound) (v .asks) (v .at) (l .known)
+            (l .sort) on room (p .0) (p .1) d (record {
+              upper = c .before .before .before .pack .ensures .0;
+              lower =
+                  c .before .before .before .pack .ensures .1;
+            }) z (P.at-sort (a .file .now) (a .b) (a .text .now) (a .left) (a .bound) sort g));
       }
 
   read-parts-returns-3 : read-parts-lts.Need-returns-3 (read-parts-calls t) (read-parts-at t) read-parts.Post read-parts-Inv-loop read-parts-μ-loop
@@ -511,7 +586,8 @@ module _ (t : ℕ) where
       let a = s .args in
       let l = c .before .loop in
       let v = l .inv in
-      let g = v .on _ _ _ _ (P.parts-end (a .file .now) (a .b) (a .text .now) (a .left) (a .bound) (v .asks) (v .at) (l .known) (l .sort) (not-false (l .last) (c .loop-test .left))) in
+      let g = v .on _ _ _ _ (P.parts-end (a .file .now) (a .b) (a .text .now) (a .left) (a .bound) (v .asks) (v .at) (l .known) (l .sort) (not-false (l .last)
+      (c .loop-test .left))) in
       (g .leaves, g .reads)
 
   read-parts-same-length : read-parts-lts.Need-same-length (read-parts-calls t) (read-parts-at t) read-parts.Post read-parts-Inv-loop read-parts-μ-loop
@@ -549,12 +625,16 @@ module _ (t : ℕ) where
   read-quantified-closed-requires c κs = F.inside-of (c .before .before .before .before .read-formula .ensures .0)
 
   read-quantified-returns : read-quantified-lts.Need-returns (read-quantified-calls t) (read-quantified-at t) read-quantified.Post
-  read-quantified-returns c = let s = c .before .before .before .before .before .before .before .before .before .before .before .before .before .before .before in
+  read-quantified-returns c = let s = c .before .before .before .before .before .before .before .before .before .before .before .before .before .before
+      .before in
       let a = s .args in
       let v = c .before .before .before .before .before .before .before .before .before .before .variable-at .ensures in
       let p = c .before .before .before .before .before .read-formula .ensures in
-      let g = c .closed .ensures in
-      (F.last-leaves (a .file .now) (a .b) v (p .0) g, F.last-quantified (a .file .now) (a .b) v (c .before .before .before .before .before .before .before .before .before .if1 .taken) (p .1) g)
+      let g = c .closed .ensures in (
+        F.last-leaves (a .file .now) (a .b) v (p .0) g,
+        F.last-quantified (a .file .now) (a .b) v
+            (c .before .before .before .before .before .before .before .before .before .if1 .taken) (p .1) g,
+      )
 
   read-quantified-returns-2 : read-quantified-lts.Need-returns-2 (read-quantified-calls t) (read-quantified-at t) read-quantified.Post
   read-quantified-returns-2 c = let s = c .before .before .before .before .before .before .before in
@@ -565,7 +645,8 @@ module _ (t : ℕ) where
   read-quantified-sub-read-quantified : read-quantified-lts.Need-sub-read-quantified (read-quantified-calls t) (read-quantified-at t) read-quantified.Post
   read-quantified-sub-read-quantified c = search needs
 
-  read-quantified-read-quantified-requires : read-quantified-lts.Need-read-quantified-requires (read-quantified-calls t) (read-quantified-at t) read-quantified.Post
+  read-quantified-read-quantified-requires : read-quantified-lts.Need-read-quantified-requires (read-quantified-calls t)
+      (read-quantified-at t) read-quantified.Post
   read-quantified-read-quantified-requires c κs = let s = c .before .before .before .before .before .before .before .before .before .before in
       let a = s .args in
       let v = c .before .before .before .before .before .variable-at .ensures in
@@ -573,16 +654,21 @@ module _ (t : ℕ) where
       (omega (arith, s .pre .0, l, v .item .within), (s .pre .1 .0, F.at-byte (s .pre .1 .1) (v .item .within), s .pre .1 .2, s .pre .1 .3))
 
   read-quantified-bind-term-requires : read-quantified-lts.Need-bind-term-requires (read-quantified-calls t) (read-quantified-at t) read-quantified.Post
-  read-quantified-bind-term-requires c κs = let s = c .before .before .before .before .before .before .before .before .before .before .before .before .before .before .before .before .before in
+  read-quantified-bind-term-requires c κs = let s =
+      c .before .before .before .before .before .before .before .before .before .before .before .before .before .before .before .before .before in
       let a = s .args in
       let v = c .before .before .before .before .before .before .before .before .before .before .before .before .variable-at .ensures in
       (c .before .before .before .before .before .before .read-quantified .ensures .0 .held, s .pre .1 .2, s .pre .1 .3, v .item .word)
 
   read-quantified-returns-3 : read-quantified-lts.Need-returns-3 (read-quantified-calls t) (read-quantified-at t) read-quantified.Post
-  read-quantified-returns-3 c = let s = c .before .before .before .before .before .before .before .before .before .before .before .before .before .before .before .before .before .before .before .before in
+  read-quantified-returns-3 c = let s = c .before .before .before .before .before .before .before .before .before .before .before .before .before .before
+      .before .before .before .before .before .before in
       let a = s .args in
       let v = c .before .before .before .before .before .before .before .before .before .before .before .before .before .before .before .variable-at .ensures in
-      let n : a .left ≡ suc (a .left - 1) = omega (arith, c .before .before .before .before .before .before .before .before .before .before .before .before .before .if2 .left) in
+      let n : a .left ≡ suc (a .left - 1) = omega (
+        arith,
+        c .before .before .before .before .before .before .before .before .before .before .before .before .before .if2 .left,
+      ) in
       let e = c .before .before .before .before .before .before .before .before .before .before .before .before .before .before .if1 .left in
       let p = c .before .before .before .before .before .before .before .before .before .read-quantified .ensures in
       let g = c .before .before .bind-term .ensures in

@@ -13,7 +13,8 @@ next-lexeme-requires c κs = search needs
 
 returns : tie.Need-returns
 returns c =
-    L.part-ends (c .before .before .before .before .args .variables) (c .before .before .next-lexeme .ensures) (c .before .before .before .before .args .bound) (c .if1 .taken)
+    L.part-ends (c .before .before .before .before .args .variables) (c .before .before .next-lexeme .ensures)
+    (c .before .before .before .before .args .bound) (c .if1 .taken)
 
 next-lexeme-requires-2 : tie.Need-next-lexeme-requires-2
 next-lexeme-requires-2 c κs = search needs
@@ -32,11 +33,29 @@ variable-called-requires c κs = search needs
 
 returns-2 : tie.Need-returns-2
 returns-2 c =
-    subst (λ (p : Bool). PartAt (c .before .before .before .before .before .before .before .before .args .text .now) (c .before .before .before .before .before .before .before .before .args .variables) p (c .before .before .before .before .before .before .before .before .args .i) (record { last = false; variable = c .variable-called .result; end = c .before .before .next-lexeme2 .result .end })) (sym (c .before .before .before .if2 .taken)) (L.pair-goes (c .before .before .before .before .before .before .before .before .args .variables) (c .before .before .before .before .before .before .next-lexeme .ensures) (c .before .before .before .before .before .before .before .before .pre .1) (c .before .before .before .before .if1 .left) (c .before .before .next-lexeme2 .ensures) (c .variable-called .ensures))
+    subst (λ (p : Bool). PartAt (c .before .before .before .before .before .before .before .before .args .text .now)
+    (c .before .before .before .before .before .before .before .before .args .variables) p
+    (c .before .before .before .before .before .before .before .before .args .i) (record {
+      last = false;
+      variable = c .variable-called .result;
+      end =
+          c .before .before .next-lexeme2 .result .end;
+    })) (sym (c .before .before .before .if2 .taken)) (L.pair-goes
+    (c .before .before .before .before .before .before .before .before .args .variables)
+    (c .before .before .before .before .before .before .next-lexeme .ensures) (c .before .before .before .before .before .before .before .before .pre .1)
+    (c .before .before .before .before .if1 .left) (c .before .before .next-lexeme2 .ensures) (c .variable-called .ensures))
 
 returns-3 : tie.Need-returns-3
 returns-3 c =
-    subst (λ (p : Bool). PartAt (c .before .before .before .before .before .args .text .now) (c .before .before .before .before .before .args .variables) p (c .before .before .before .before .before .args .i) (record { last = false; variable = 0; end = c .before .before .before .before .before .args .i })) (sym (c .if2 .left)) (L.argument-goes (c .before .before .before .before .before .args .variables) (c .before .before .before .next-lexeme .ensures) (c .before .before .before .before .before .pre .0) (c .before .if1 .left))
+    subst (λ (p : Bool). PartAt (c .before .before .before .before .before .args .text .now) (c .before .before .before .before .before .args .variables) p
+    (c .before .before .before .before .before .args .i) (record {
+      last = false;
+      variable = 0;
+      end =
+          c .before .before .before .before .before .args .i;
+    })) (sym (c .if2 .left)) (L.argument-goes
+    (c .before .before .before .before .before .args .variables) (c .before .before .before .next-lexeme .ensures)
+    (c .before .before .before .before .before .pre .0) (c .before .if1 .left))
 
 pub part-at-spec : {M : Type 1} → statement M
 part-at-spec =

@@ -13,11 +13,13 @@ next-lexeme-requires c κs = search needs
 
 returns : tie.Need-returns
 returns c =
-    subst (λ (p : Bool). PartEnd (c .before .before .before .args .text .now) p (c .before .before .before .args .i) (c .next-lexeme .result .end)) (sym (c .before .if1 .taken)) (L.after-part 0 (c .next-lexeme .ensures))
+    subst (λ (p : Bool). PartEnd (c .before .before .before .args .text .now) p (c .before .before .before .args .i) (c .next-lexeme .result .end)) (sym
+    (c .before .if1 .taken)) (L.after-part 0 (c .next-lexeme .ensures))
 
 returns-2 : tie.Need-returns-2
 returns-2 c =
-    subst (λ (p : Bool). PartEnd (c .before .before .args .text .now) p (c .before .before .args .i) (c .before .before .args .i)) (sym (c .if1 .left)) (L.no-part-end (c .before .before .pre))
+    subst (λ (p : Bool). PartEnd (c .before .before .args .text .now) p (c .before .before .args .i) (c .before .before .args .i)) (sym (c .if1 .left))
+    (L.no-part-end (c .before .before .pre))
 
 pub part-end-spec : {M : Type 1} → statement M
 part-end-spec = tie.close (tie.spec next-lexeme-requires returns returns-2)

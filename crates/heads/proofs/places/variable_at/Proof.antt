@@ -38,7 +38,11 @@ next-lexeme-requires-4 c κs = search needs
 
 returns-2 : tie.Need-returns-2
 returns-2 c =
-    L.variable-goes (c .before .before .before .before .before .before .before .before .before .args .variables) (c .before .before .before .before .before .before .before .next-lexeme .ensures) (c .before .before .before .before .before .before .before .before .before .pre .1) (c .before .before .before .before .before .if1 .left) (c .before .before .before .before .next-lexeme2 .ensures) (c .before .next-lexeme3 .ensures) (c .next-lexeme4 .ensures) (c .before .before .variable-called .ensures)
+    L.variable-goes (c .before .before .before .before .before .before .before .before .before .args .variables)
+    (c .before .before .before .before .before .before .before .next-lexeme .ensures)
+    (c .before .before .before .before .before .before .before .before .before .pre .1) (c .before .before .before .before .before .if1 .left)
+    (c .before .before .before .before .next-lexeme2 .ensures) (c .before .next-lexeme3 .ensures) (c .next-lexeme4 .ensures)
+    (c .before .before .variable-called .ensures)
 
 pub variable-at-spec : {M : Type 1} → statement M
 variable-at-spec =

@@ -20,7 +20,8 @@ unfolding isBinder bytes
 returns c = (
   refl,
   omega arith,
-  λ q e. ap (λ (p : Bool). cond p 3 4) (sym (sym (c .before .is-word .ensures) ∙ c .if1 .taken)) ∙ kind-of-binder (c .before .before .before .before .args .run .now) q e,
+  λ q e. ap (λ (p : Bool). cond p 3 4) (sym (sym (c .before .is-word .ensures) ∙ c .if1 .taken)) ∙ kind-of-binder
+      (c .before .before .before .before .args .run .now) q e,
 )
 
 returns-2 : tie.Need-returns-2
@@ -28,7 +29,8 @@ unfolding isBinder bytes
 returns-2 c = (
   refl,
   omega arith,
-  λ q e. ap (λ (p : Bool). cond p 3 4) (sym (sym (c .before .is-word .ensures) ∙ c .if1 .left)) ∙ kind-of-binder (c .before .before .before .before .args .run .now) q e,
+  λ q e. ap (λ (p : Bool). cond p 3 4) (sym (sym (c .before .is-word .ensures) ∙ c .if1 .left)) ∙ kind-of-binder
+      (c .before .before .before .before .args .run .now) q e,
 )
 
 pub binder-kind-spec : {M : Type 1} → statement M
