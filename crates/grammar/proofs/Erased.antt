@@ -1,5 +1,6 @@
 -- The parser that keeps no formula gives the same verdict: what the syntax pass of the code says of the grammar.
 --     judged-exactly     THE THEOREM
+--     step-by, finish-by  what is read is carried along, and nothing else depends on it
 use Prim.Native.Nat.{ℕ, suc}
 use mathlib.Core.Path.{_≡_, refl, sym, ap, _∙_}
 use mathlib.Core.Bool.{Bool, true, false, cond}
@@ -12,15 +13,15 @@ use Rattle.grammar.specs.Parser.{finish, Outcome, read, unread, onRead, 
 use Rattle.grammar.specs.Statements.{JudgedExactly}
 use Rattle.grammar.proofs.Exact.{read-exactly, unread-exactly, apart}
 
-mapped : {A B : Type 0} → (A → B) → Option A → Option B
+unfoldable pub mapped : {A B : Type 0} → (A → B) → Option A → Option B
 mapped g none = none
 mapped g (some a) = some (g a)
 
 module _ {A B : Type 0} (g : A → B) where
-  abbrev stackBy : Stack A → Stack B
+  abbrev pub stackBy : Stack A → Stack B
   stackBy s = record { due = s .due; back = λ f. g (s .back f) }
 
-  abbrev stateBy : State A → State B
+  abbrev pub stateBy : State A → State B
   stateBy st = record { mode = st .mode; stack = stackBy (st .stack) }
 
   outcomeBy : Outcome A → Outcome B
@@ -54,7 +55,7 @@ module _ {A B : Type 0} (g : A → B) where
       go true = refl
       go false = refl
 
-  step-by : (st : State A) (c : ℕ) → step (stateBy st) c ≡ mapped stateBy (step st c)
+  pub step-by : (st : State A) (c : ℕ) → step (stateBy st) c ≡ mapped stateBy (step st c)
   unfolding step mapped andThen
   step-by st c =
       ap (λ o. andThen o (enter (onwards (st .mode) c (classOf c)))) (feed-by (ends (st .mode) (classOf c)) (st .stack))
@@ -70,7 +71,7 @@ module _ {A B : Type 0} (g : A → B) where
   complete-by [] k = refl
   complete-by (d ∷ σ) k = refl
 
-  finish-by : (st : State A) → finish (stateBy st) ≡ mapped g (finish st)
+  pub finish-by : (st : State A) → finish (stateBy st) ≡ mapped g (finish st)
   unfolding finish run mapped andThen
   finish-by st = ap (λ o. andThen o (λ s. complete (s .due) (s .back))) (feed-by (last (st .mode)) (st .stack)) ∙ go (feed (last (st .mode)) (st .stack))
     where
