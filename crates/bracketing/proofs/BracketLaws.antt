@@ -6,14 +6,14 @@
 --     parts-formula   a formula is a part
 --     parts-binding   a binding is a part
 use Prim.Native.Nat.{ℕ, zero, suc}
-use mathlib.Core.Path.{_≡_, refl, sym, ap, _∙_}
-use mathlib.Core.Bool.{Bool, true, false, cond, true≢false}
+use mathlib.Core.Path.{_≡_, refl, ap, _∙_}
+use mathlib.Core.Bool.{true, false, true≢false}
 use mathlib.Core.List.{List, [], _∷_}
 use Rattle.grammar.specs.Bytes.{name}
 use Rattle.grammar.specs.Grammar.{SortedVariable, declares, Formula, called, truth, bracketed, Bracketed, denies, connects, applies, quantifies, lets}
 use Rattle.grammar.specs.Grammar.{Formulas, noFormula, andFormula, Bindings, noBinding, andBinding, Lexeme, opens, closes, word, stray, spell}
 use Rattle.grammar.specs.Grammar.{spellVariable, spellVariables, spellBracketed, spellFormulas, spellBindings}
-use Rattle.bracketing.specs.Brackets.{isClosing, openAfter, skip, afterFormula, parts, partsFrom}
+use Rattle.bracketing.specs.Brackets.{isClosing, skip, afterFormula, parts, partsFrom}
 
 -- ---- what is skipped
 

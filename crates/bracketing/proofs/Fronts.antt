@@ -3,25 +3,25 @@
 --     front           THE VIEW: nothing more, a bracket, a stray byte, or a word
 --     at-end          no lexeme starts at the text's end
 --     name-here       the name at the front
-use Prim.Native.Nat.{ℕ, zero, suc, _+_, _-_, _≤_, _<_}
+use Prim.Native.Nat.{ℕ, _-_}
 use native.Mathlib.Omega.{arith}
-use mathlib.Core.Path.{_≡_, refl, sym, ap, _∙_}
+use mathlib.Core.Path.{_≡_, refl, ap, _∙_}
 use mathlib.Core.Bool.{Bool, true, false, cond}
 use mathlib.Core.List.{List, [], _∷_}
-use lib.ListN.{length, drop}
+use lib.ListN.{length}
 use lib.Dec.{eqb}
-use borrow.Author.Tests.{eqb-true, eqb-false, eq-eqb, ne-eqb}
-use Rattle.grammar.specs.Bytes.{Word, constant, negation, connective, quantifier, letting, sort, name, twelve, wordAmong, wordOf}
-use Rattle.grammar.specs.Grammar.{Lexeme, opens, closes, word, stray, between, last, lexemesFrom}
+use borrow.Author.Tests.{eqb-true, eqb-false}
+use Rattle.grammar.specs.Bytes.{Word, twelve, wordOf}
+use Rattle.grammar.specs.Grammar.{Lexeme, opens, closes, word, stray, between, last}
 use Rattle.grammar.proofs.Words.{among}
 use Rattle.lexing.specs.Codes.{wordCode, lexemeCode}
 use Rattle.lexing.specs.Lexes.{part, lexemesAt, lexemeOf, Found, Lexes}
 use Rattle.lexing.specs.declared.lexemes.Lexed.{Lexed}
 use Rattle.lexing.proofs.LexemeLaws.{word-small, found-word}
 use Rattle.lexing.proofs.SkipLaws.{past}
-use Rattle.bracketing.specs.Brackets.{frontOf, restOf}
+use Rattle.bracketing.specs.Brackets.{frontOf}
 use Rattle.bracketing.specs.Nodes.{nameOf, nameIn}
-use Rattle.bracketing.specs.Places.{Reaches, Lies, nameHere}
+use Rattle.bracketing.specs.Places.{Lies, nameHere}
 
 -- the name that a run is, by its number
 pub name-of : (u : List ℕ) → nameOf (wordOf u) ≡ cond (eqb (wordCode (wordOf u)) 9) u []

@@ -1,11 +1,10 @@
 -- Every node's test, read off a spelling.
 --     bracket-by-bracket   THE THEOREM
 use Prim.Native.Nat.{ℕ, zero, suc}
-use mathlib.Core.Path.{_≡_, refl, sym, ap, _∙_}
-use mathlib.Core.Bool.{Bool, true, false, cond, not, _&&_, false≢true}
+use mathlib.Core.Path.{_≡_, refl, ap, _∙_}
+use mathlib.Core.Bool.{Bool, true, false, cond, _&&_, false≢true}
 use mathlib.Core.List.{List, [], _∷_, map}
 use lib.Dec.{eqb, ltb}
-use borrow.Author.Tests.{ltb-true}
 use Rattle.bundle.specs.Bundle.{Bundle, sortOfVariable}
 use Rattle.bundle.specs.Lists.{sameList, each, different}
 use Rattle.logic.specs.Symbols.{truthSort, signatureOf, argumentSorts}
@@ -16,13 +15,13 @@ use Rattle.grammar.specs.Grammar.{SortedVariable, declares, Formula, called, tr
 use Rattle.grammar.specs.Grammar.{Formulas, noFormula, andFormula, Bindings, noBinding, andBinding, Lexeme, opens, closes, word, spell}
 use Rattle.grammar.specs.Grammar.{spellVariable, spellVariables, spellBracketed, spellFormulas, spellBindings}
 use Rattle.grammar.specs.Names.{Name, symbolOnly, variableOnly, variableNames, names, namesInside, namesOfAll, namesBound, allKnown}
-use Rattle.reading.specs.Called.{numberAfter, variableCalled, symbolCalled, knownAs, knownIn, VariableName}
+use Rattle.reading.specs.Called.{numberAfter, variableCalled, symbolCalled, knownIn, VariableName}
 use Rattle.reading.specs.Typing.{connectiveSymbol, sortNumber, sortsDeclared}
-use Rattle.reading.specs.Local.{aloneFine, accepts, headSort, headSorts, boundSorts, boundNames, fine, fineInside, fineAll, fineBound}
+use Rattle.reading.specs.Local.{accepts, headSort, headSorts, boundSorts, boundNames, fine, fineInside, fineAll, fineBound}
 use Rattle.reading.proofs.KnownNames.{known-exactly}
-use Rattle.bracketing.specs.Brackets.{skip, afterFormula, parts, partsFrom}
-use Rattle.bracketing.specs.Nodes.{nameOf, nameIn, joinedSort, joins, takes, variableIn, sortIn, asDeclared, every, boundFrom, distinct, headFine, insideFine}
-use Rattle.bracketing.specs.Nodes.{sortFrom, wordFine, fineFrom, ReadOff, BracketByBracket}
+use Rattle.bracketing.specs.Brackets.{afterFormula, parts, partsFrom}
+use Rattle.bracketing.specs.Nodes.{joins, takes, asDeclared, every, boundFrom, distinct, insideFine}
+use Rattle.bracketing.specs.Nodes.{sortFrom, fineFrom, BracketByBracket}
 use Rattle.bracketing.proofs.BracketLaws.{skip-whole, skip-variable-list, parts-formula, parts-binding}
 use Rattle.bracketing.proofs.SortsOff.{sort-off}
 

@@ -7,14 +7,14 @@ use native.Mathlib.Omega.{arith}
 use native.Mathlib.Numerals.{add-one}
 use mathlib.Core.Path.{_≡_, refl, sym, ap, _∙_}
 use mathlib.Core.Bool.{Bool, true, false, cond, not, _&&_}
-use mathlib.Core.List.{List, [], _∷_}
+use mathlib.Core.List.{List}
 use lib.ListN.{length}
 use lib.Dec.{eqb}
 use borrow.Author.Tests.{ne-eqb}
 use Rattle.grammar.specs.Bytes.{Word, constant, negation, connective, quantifier, letting, sort, name}
 use Rattle.grammar.specs.Grammar.{Lexeme, opens, closes, word, stray}
 use Rattle.lexing.specs.Codes.{wordCode, lexemeCode}
-use Rattle.lexing.specs.Lexes.{lexemesAt, lexemeOf, Found, Lexes}
+use Rattle.lexing.specs.Lexes.{lexemesAt, lexemeOf, Lexes}
 use Rattle.lexing.specs.declared.lexemes.Lexed.{Lexed}
 use Rattle.bracketing.specs.Brackets.{restOf, oneLess, openAfter, ifNone, skip, afterFormula, startsPart}
 use Rattle.bracketing.specs.Places.{Reaches, openBy}

@@ -3,12 +3,14 @@
 --     result-named, sort-none, sort-some                  the sorts of a head and of a word alone, as code finds them
 --     none-here, name-at                                  the name that a found lexeme is
 --     sort-word, sort-bracket, sort-result, sort-let      the sort from a place on, by the next lexeme
+--     Sorting, sorting-word to sorting-further            the same, as `sorts::sort_at` goes over lets
 --     said-none, said-item, said-other                    the sort that the word at a place says
-use Prim.Native.Nat.{ℕ, zero, suc}
+use Prim.Native.Nat.{ℕ, zero, suc, _≤_, _<_}
 use native.Mathlib.Omega.{arith}
 use mathlib.Core.Path.{_≡_, refl, sym, ap, _∙_}
 use mathlib.Core.Bool.{Bool, true, false, cond, false≢true}
-use mathlib.Core.List.{List, [], _∷_}
+use mathlib.Core.List.{List, []}
+use lib.ListN.{length}
 use borrow.Author.Tests.{ne-eqb}
 use Rattle.bundle.specs.declared.Bundle.{Bundle as Counts}
 use Rattle.bundle.specs.Bundle.{Bundle, sortOfVariable}
@@ -20,7 +22,6 @@ use Rattle.logic.specs.Symbols.{symbolKind, kindOfSymbol, signature, signatureO
 use Rattle.grammar.specs.Bytes.{Word, constant, negation, connective, quantifier, letting, sort, name, bytes, twelve, wordAmong, wordOf}
 use Rattle.logic.proofs.Tests.{same-list}
 use Rattle.grammar.proofs.Words.{among}
-use Rattle.grammar.specs.Grammar.{Lexeme, opens, closes, word, stray}
 use Rattle.lexing.specs.Codes.{wordCode}
 use Rattle.lexing.specs.Counted.{variableAmong, symbolAmong}
 use Rattle.lexing.specs.Lexes.{part, lexemesAt, Lexes}
@@ -30,8 +31,8 @@ use Rattle.lexing.proofs.LexemeLaws.{word-small}
 use Rattle.reading.specs.Called.{numberAfter, variableCalled, symbolCalled}
 use Rattle.reading.specs.Local.{aloneSort}
 use Rattle.bracketing.specs.Brackets.{frontOf, afterFormula}
-use Rattle.bracketing.specs.Nodes.{nameOf, isLet, sortSaid, sortIn, wordSort, resultOf, sortFrom, sortInside, sortPast}
-use Rattle.bracketing.specs.Places.{nameHere, namedSort, namedResult}
+use Rattle.bracketing.specs.Nodes.{nameOf, isLet, sortSaid, sortIn, resultOf, sortFrom, sortInside, sortPast}
+use Rattle.bracketing.specs.Places.{Reaches, nameHere, namedSort, namedResult}
 use Rattle.bracketing.proofs.SortsOff.{sort-past}
 use Rattle.bracketing.proofs.Fronts.{name-of, Front, front, over, opening, closing, other, run}
 
@@ -111,7 +112,7 @@ module _ (b : Bundle) (text : List ℕ) (i : ℕ) (r : Lexed) (h : Lexes text i 
   unfolding nameHere
   named w is c = rw (c, is) (name-of (part text (r .start) (r .end)))
 
-  pub sort-word : (r .code ≡ 0 → ⊥) → sortFrom b (lexemesAt text i) ≡ namedSort b (nameHere text r)
+  sort-word : (r .code ≡ 0 → ⊥) → sortFrom b (lexemesAt text i) ≡ namedSort b (nameHere text r)
   unfolding sortFrom namedSort nameHere numberAfter signatureOf
   sort-word ne = go (front text i r h)
     where
@@ -122,7 +123,7 @@ module _ (b : Bundle) (text : List ℕ) (i : ℕ) (r : Lexed) (h : Lexes text i 
       go (other c e) = rw (c, e)
       go (run w is c e) = ap (sortFrom b) e ∙ ap (namedSort b) (named w is c)
 
-  pub sort-bracket : r .code ≡ 0 → sortFrom b (lexemesAt text i) ≡ sortInside b (lexemesAt text (r .end))
+  sort-bracket : r .code ≡ 0 → sortFrom b (lexemesAt text i) ≡ sortInside b (lexemesAt text (r .end))
   unfolding sortFrom wordCode
   sort-bracket z = go (front text i r h)
     where
@@ -133,7 +134,7 @@ module _ (b : Bundle) (text : List ℕ) (i : ℕ) (r : Lexed) (h : Lexes text i 
       go (other c e) = absurd (omega arith)
       go (run w is c e) = absurd (omega (arith, word-small w .0))
 
-  pub sort-result : (r .code ≡ 7 → ⊥) → sortInside b (lexemesAt text i) ≡ namedResult b (nameHere text r)
+  sort-result : (r .code ≡ 7 → ⊥) → sortInside b (lexemesAt text i) ≡ namedResult b (nameHere text r)
   unfolding sortFrom namedResult nameHere numberAfter signatureOf
   sort-result ne = go (front text i r h)
     where
@@ -147,7 +148,7 @@ module _ (b : Bundle) (text : List ℕ) (i : ℕ) (r : Lexed) (h : Lexes text i 
           ∙ (ap (λ (p : Bool). cond p (sortPast b 0 (lexemesAt text (r .end))) (resultOf b w)) (no-let w (λ s. ne (c ∙ s)))
           ∙ ap (namedResult b) (named w is c))
 
-  pub sort-let : r .code ≡ 7 → sortInside b (lexemesAt text i) ≡ sortFrom b (afterFormula (lexemesAt text (r .end)))
+  sort-let : r .code ≡ 7 → sortInside b (lexemesAt text i) ≡ sortFrom b (afterFormula (lexemesAt text (r .end)))
   unfolding sortFrom
   sort-let s = go (front text i r h)
     where
@@ -160,6 +161,29 @@ module _ (b : Bundle) (text : List ℕ) (i : ℕ) (r : Lexed) (h : Lexes text i 
           ap (sortInside b) e
           ∙ (ap (λ (p : Bool). cond p (sortPast b 0 (lexemesAt text (r .end))) (resultOf b w)) (is-let w (sym c ∙ s))
           ∙ sort-past b 0 (lexemesAt text (r .end)))
+
+-- the sort from i on is that from `at` on, as `sorts::sort_at` goes over lets
+pub record Sorting (b : Bundle) (text : List ℕ) (i at : ℕ) : Type 0 where
+  pub inside : at ≤ length text
+  pub same : sortFrom b (lexemesAt text i) ≡ sortFrom b (lexemesAt text at)
+
+module _ {b : Bundle} {text : List ℕ} {i at : ℕ} (w : Sorting b text i at) {r : Lexed} (h : Lexes text at r) where
+  pub sorting-word : (r .code ≡ 0 → ⊥) → {s : ℕ} → s ≡ namedSort b (nameHere text r) → s ≡ sortFrom b (lexemesAt text i)
+  sorting-word ne e = e ∙ sym (w .same ∙ sort-word b text at r h ne)
+
+  module _ (z : r .code ≡ 0) {m : Lexed} (g : Lexes text (r .end) m) where
+    pub sorting-result : (m .code ≡ 7 → ⊥) → {s : ℕ} → s ≡ namedResult b (nameHere text m) → s ≡ sortFrom b (lexemesAt text i)
+    sorting-result ne e = e ∙ sym (w .same ∙ (sort-bracket b text at r h z ∙ sort-result b text (r .end) m g ne))
+
+    pub sorting-let : m .code ≡ 7 → {next : ℕ} → Reaches text (m .end) next (afterFormula (lexemesAt text (m .end))) → Sorting b text i next
+    sorting-let e there = record {
+      inside = there .inside;
+      same = w .same ∙ (sort-bracket b text at r h z ∙ (sort-let b text (r .end) m g e ∙ ap (sortFrom b) (sym (there .there))));
+    }
+
+    -- a let takes room
+    pub sorting-further : {next : ℕ} → Reaches text (m .end) next (afterFormula (lexemesAt text (m .end))) → at < next
+    sorting-further there = omega (arith, h .after, h .found (λ e. omega arith) .some, g .after, g .order, there .after)
 
 -- ---- the sort that a word says
 

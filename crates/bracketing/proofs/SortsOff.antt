@@ -9,8 +9,8 @@ use lib.Dec.{eqb}
 use Rattle.bundle.specs.Bundle.{Bundle}
 use Rattle.logic.specs.Symbols.{truthSort, signatureOf, resultSort}
 use Rattle.grammar.specs.Bytes.{Connective, conjunction, disjunction, implication, equality}
-use Rattle.grammar.specs.Grammar.{Formula, called, truth, bracketed, Bracketed, denies, connects, applies, quantifies, lets, Bindings, andBinding}
-use Rattle.grammar.specs.Grammar.{Lexeme, opens, closes, word, stray, spell, spellBracketed, spellBindings}
+use Rattle.grammar.specs.Grammar.{Formula, called, truth, bracketed, Bracketed, denies, connects, applies, quantifies, lets, andBinding}
+use Rattle.grammar.specs.Grammar.{Lexeme, opens, closes, spell, spellBracketed, spellBindings}
 use Rattle.reading.specs.Called.{numberAfter, variableCalled, symbolCalled}
 use Rattle.reading.specs.Typing.{connectiveSymbol}
 use Rattle.reading.specs.Local.{aloneSort, headSort, insideSort}

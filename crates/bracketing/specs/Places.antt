@@ -1,12 +1,12 @@
 -- What code finds at a place of a text: the lexemes that follow, a name at hand, brackets counted by the numbers of lexemes.
 use Prim.Native.Nat.{ℕ, _+_, _-_, _≤_, _<_}
 use mathlib.Core.Path.{_≡_}
-use mathlib.Core.Bool.{Bool, cond, not, _&&_}
+use mathlib.Core.Bool.{cond}
 use mathlib.Core.List.{List, []}
 use lib.ListN.{length}
 use lib.Dec.{eqb}
 use Rattle.bundle.specs.Bundle.{Bundle}
-use Rattle.logic.specs.Symbols.{truthSort, itemSort, signatureOf, resultSort}
+use Rattle.logic.specs.Symbols.{signatureOf, resultSort}
 use Rattle.grammar.specs.Grammar.{Lexeme}
 use Rattle.lexing.specs.declared.lexemes.Lexed.{Lexed}
 use Rattle.lexing.specs.Lexes.{part, lexemesAt}

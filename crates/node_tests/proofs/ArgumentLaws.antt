@@ -1,69 +1,89 @@
 -- Arguments against a list of sorts; symbols by their number.
---     fit-end, fit-short, fit-differs, fit-on      the answers and the turns of `arguments::arguments_fit`
+--     Fits, fits-start to fits-on                  the arguments, as `arguments::arguments_fit` goes over them
 --     symbol-range                                 what is called a symbol has a declared symbol's number
 --     takes-none, takes-list                       the answers of `arguments::symbol_fine`
 --     fine-variable, fine-none, fine-list          the answers of `arguments::name_fine`
-use Prim.Native.Nat.{ℕ, zero, suc, _+_, _-_, _≤_, _<_}
+use Prim.Native.Nat.{ℕ, zero, suc, _+_, _-_, _≤_}
 use native.Mathlib.Omega.{arith}
 use mathlib.Core.Path.{_≡_, refl, sym, ap, _∙_}
-use mathlib.Core.Bool.{Bool, true, false, cond, _&&_}
+use mathlib.Core.Bool.{Bool, true, false, cond, not, _&&_}
 use mathlib.Core.List.{List, [], _∷_}
 use lib.ListN.{length}
 use lib.Dec.{eqb, leb}
 use borrow.Author.Tests.{eq-eqb, ne-eqb, leb-true, le-leb, lt-leb}
 use Rattle.bundle.specs.declared.Bundle.{Bundle as Counts}
-use Rattle.bundle.specs.Bundle.{Bundle, symbolOf, linkOf}
+use Rattle.bundle.specs.Bundle.{symbolOf, linkOf}
 use Rattle.bundle.specs.Links.{items, nextOf, startsAt}
 use Rattle.bundle.specs.Lists.{sameList}
 use Rattle.bundle.specs.File.{bundleAt}
 use Rattle.bundle.proofs.Fields.{symbols-length, sized-at}
-use Rattle.bundle.proofs.Walks.{walk-start, walk-start-le, walk-nil, walk-cons}
+use Rattle.bundle.proofs.Walks.{walk-start, walk-start-le, walk-le, walk-nil, walk-cons}
 use Rattle.bundle.proofs.BundleWalks.{same-nil}
 use Rattle.logic.specs.declared.Signature.the-variants.{Declared}
 use Rattle.logic.specs.Symbols.{symbolKind, kindOfSymbol, signature, signatureOf, argumentSorts}
 use Rattle.logic.proofs.Tests.{and-left, and-right}
-use Rattle.grammar.specs.Grammar.{Lexeme}
 use Rattle.lexing.specs.Counted.{numberWithin, variableAmong, symbolAmong}
 use Rattle.lexing.specs.Lexes.{lexemesAt}
-use Rattle.reading.specs.Called.{numberAfter, variableCalled, symbolCalled}
+use Rattle.reading.specs.Called.{numberAfter, symbolCalled}
 use Rattle.reading.specs.Local.{accepts, aloneFine}
 use Rattle.bracketing.specs.Brackets.{afterFormula, startsPart, partsFrom}
 use Rattle.bracketing.specs.Nodes.{sortFrom, takes}
+use Rattle.bracketing.specs.Places.{Reaches}
 use Rattle.bracketing.proofs.SortPlaces.{variable-is, symbol-is}
 use Rattle.node_tests.specs.Tests.{namedFine}
-use Rattle.node_tests.proofs.PartLaws.{part-none, part-some}
+use Rattle.node_tests.proofs.PartLaws.{part-none, part-some, ended, goes-on}
 
 -- ---- arguments against a list of sorts
 
-module _ (f : List ℕ) (c : Counts) (text : List ℕ) where
-  abbrev pub sortsAt : ℕ → List ℕ
-  sortsAt at = partsFrom (sortFrom (bundleAt f c)) (lexemesAt text at)
+abbrev sortsAt : List ℕ → Counts → List ℕ → ℕ → List ℕ
+sortsAt f c text at = partsFrom (sortFrom (bundleAt f c)) (lexemesAt text at)
 
-  pub fit-end : (k at : ℕ) → startsPart (lexemesAt text at) ≡ false → k ≤ c .links → sameList (items (bundleAt f c) k) (sortsAt at) ≡ eqb k 0
-  fit-end k at e l = rw (part-none (sortFrom (bundleAt f c)) (lexemesAt text at) e) (same-nil (sized-at f c) k l)
+-- the arguments from i on fit the list where those from `at` on fit what follows link k
+pub record Fits (f : List ℕ) (c : Counts) (text : List ℕ) (i list k at : ℕ) : Type 0 where
+  pub links : k ≤ c .links
+  pub inside : at ≤ length text
+  pub same : sameList (items (bundleAt f c) list) (sortsAt f c text i) ≡ sameList (items (bundleAt f c) k) (sortsAt f c text at)
 
-  module _ (at : ℕ) (e : startsPart (lexemesAt text at) ≡ true) where
-    one-more : sortsAt at ≡ sortFrom (bundleAt f c) (lexemesAt text at) ∷ partsFrom (sortFrom (bundleAt f c)) (afterFormula (lexemesAt text at))
-    one-more = part-some (sortFrom (bundleAt f c)) (lexemesAt text at) e
+pub fits-start : (f : List ℕ) (c : Counts) (text : List ℕ) (i list k : ℕ) → k ≡ startsAt (c .links) list → i ≤ length text → Fits f c text i list k i
+fits-start f c text i list k e l = record {
+  links = walk-start-le f c list k e;
+  inside = l;
+  same = ap (λ (xs : List ℕ). sameList xs (sortsAt f c text i)) (walk-start f c list k e);
+}
 
-    pub fit-short : (k : ℕ) → k ≡ 0 → sameList (items (bundleAt f c) k) (sortsAt at) ≡ false
+module _ {f : List ℕ} {c : Counts} {text : List ℕ} {i list k at : ℕ} (w : Fits f c text i list k at) {p : Bool}
+    (part : p ≡ startsPart (lexemesAt text at)) where
+  abbrev whole : Bool
+  whole = sameList (items (bundleAt f c) list) (sortsAt f c text i)
+
+  pub fits-end : not p ≡ true → eqb k 0 ≡ whole
+  fits-end n =
+      sym (w .same ∙ rw (part-none (sortFrom (bundleAt f c)) (lexemesAt text at) (ended p part n)) (same-nil (sized-at f c) k (w .links)))
+
+  module _ (more : not p ≡ false) where
+    one-more : sortsAt f c text at ≡ sortFrom (bundleAt f c) (lexemesAt text at) ∷ partsFrom (sortFrom (bundleAt f c)) (afterFormula (lexemesAt text at))
+    one-more = part-some (sortFrom (bundleAt f c)) (lexemesAt text at) (goes-on p part more)
+
+    pub fits-short : k ≡ 0 → false ≡ whole
     unfolding sameList
-    fit-short k z = rw (one-more, walk-nil f c k z)
+    fits-short z = sym (w .same ∙ rw (one-more, walk-nil f c k z))
 
-    module _ (k v s : ℕ) (nz : k ≡ 0 → ⊥) (l : k ≤ c .links) (is : v ≡ linkOf (bundleAt f c) k .value)
-        (sort : s ≡ sortFrom (bundleAt f c) (lexemesAt text at)) where
+    module _ (nz : k ≡ 0 → ⊥) {v s : ℕ} (is : v ≡ linkOf (bundleAt f c) k .value) (sort : s ≡ sortFrom (bundleAt f c) (lexemesAt text at)) where
       turn : (r : ℕ) → r ≡ nextOf (bundleAt f c .links) k
-          → sameList (items (bundleAt f c) k) (sortsAt at)
-          ≡ (eqb v s && sameList (items (bundleAt f c) r) (partsFrom (sortFrom (bundleAt f c)) (afterFormula (lexemesAt text at))))
+          → whole ≡ (eqb v s && sameList (items (bundleAt f c) r) (partsFrom (sortFrom (bundleAt f c)) (afterFormula (lexemesAt text at))))
       unfolding sameList
-      turn r n = rw (one-more, walk-cons f c k v r nz l is n, ← sort)
+      turn r n = w .same ∙ rw (one-more, walk-cons f c k v r nz (w .links) is n, ← sort)
 
-      pub fit-differs : (v ≡ s → ⊥) → sameList (items (bundleAt f c) k) (sortsAt at) ≡ false
-      fit-differs ne = turn (nextOf (bundleAt f c .links) k) refl ∙ rw (ne-eqb v s ne)
+      pub fits-differs : (v ≡ s → ⊥) → false ≡ whole
+      fits-differs ne = sym (turn (nextOf (bundleAt f c .links) k) refl ∙ rw (ne-eqb v s ne))
 
-      pub fit-on : (r next : ℕ) → v ≡ s → r ≡ nextOf (bundleAt f c .links) k → lexemesAt text next ≡ afterFormula (lexemesAt text at)
-          → sameList (items (bundleAt f c) k) (sortsAt at) ≡ sameList (items (bundleAt f c) r) (sortsAt next)
-      fit-on r next same n there = turn r n ∙ rw (eq-eqb v s same, ← there)
+      pub fits-on : v ≡ s → {r : ℕ} → r ≡ nextOf (bundleAt f c .links) k → {next : ℕ} → Reaches text at next (afterFormula (lexemesAt text at))
+          → Fits f c text i list r next
+      fits-on same {r} n {next} there = record {
+        links = walk-le f c k r n;
+        inside = there .inside;
+        same = turn r n ∙ rw (eq-eqb v s same, ← there .there);
+      }
 
 -- ---- symbols
 
@@ -76,7 +96,9 @@ module _ (f : List ℕ) (c : Counts) (w : List ℕ) (x : ℕ) (is : x ≡ symbol
       n = numberAfter 102 w
 
       go : (p : Bool) → (leb 33 n && leb n (32 + c .symbols)) ≡ p → x ≡ cond p n 0 → (33 ≤ x) × (x ≤ 32 + c .symbols)
-      go true q e = rw e (leb-true 33 n (and-left (leb 33 n) (leb n (32 + c .symbols)) q), leb-true n (32 + c .symbols) (and-right (leb 33 n) (leb n (32 + c .symbols)) q))
+      go true q e =
+          rw e
+          (leb-true 33 n (and-left (leb 33 n) (leb n (32 + c .symbols)) q), leb-true n (32 + c .symbols) (and-right (leb 33 n) (leb n (32 + c .symbols)) q))
       go false q e = absurd (nz e)
 
   signed : (x ≡ 0 → ⊥) → signatureOf (bundleAt f c) x ≡ Declared (x - 32)

@@ -1,10 +1,10 @@
 -- Connectives, quantifiers and lets: what code finds, and the tests.
 --     joins-items, joins-truths                               the answers of `heads::joined`
 --     declared-at, bound-fits, bound-differs                  pairs: a variable with a sort, a variable with a formula
---     every-none, every-fails, every-on                       a test of all parts, as a loop goes over them
---     fresh-none, fresh-zero, fresh-member, fresh-on          the answers and the turns of `heads::all_fresh`
+--     Passing, pass-end, pass-fails, pass-on                  a test of all parts, as a loop goes over them
 --     fresh-start                                             the answer of `heads::let_fine`
-use Prim.Native.Nat.{ℕ, zero, suc, _+_, _*_, _≤_, _<_}
+--     Fresh, fresh-end, fresh-zero, fresh-seen, fresh-on      bindings, as `heads::all_fresh` goes over them
+use Prim.Native.Nat.{ℕ, zero, _+_, _≤_, _<_}
 use native.Mathlib.Omega.{arith}
 use native.Mathlib.Decide.{ℕ-discrete}
 use mathlib.Core.Path.{_≡_, refl, sym, ap, _∙_}
@@ -12,16 +12,16 @@ use mathlib.Core.Bool.{Bool, true, false, cond, not, _&&_, _||_}
 use mathlib.Core.List.{List, [], _∷_}
 use lib.ListN.{length, replicate, length-replicate}
 use lib.Dec.{eqb, ltb, leb}
-use borrow.Author.Tests.{eqb-true, eq-eqb, ne-eqb, leb-true, lt-ltb}
+use borrow.Author.Tests.{eq-eqb, ne-eqb, leb-true, lt-ltb}
 use Rattle.bundle.specs.declared.Bundle.{Bundle as Counts}
-use Rattle.bundle.specs.Bundle.{Bundle, sortOfVariable}
-use Rattle.bundle.specs.Limits.{limits, setWords, Within}
+use Rattle.bundle.specs.Bundle.{sortOfVariable}
+use Rattle.bundle.specs.Limits.{setWords, Within}
 use Rattle.bundle.specs.Lists.{numbers, each, has, different}
 use Rattle.bundle.specs.File.{bundleAt}
 use Rattle.bundle.proofs.Fields.{variables-length}
 use Rattle.bundle.proofs.LinkNotes.{zeros}
-use Rattle.sets.specs.Sets.{holds, member, inserted, cleared}
-use Rattle.sets.proofs.Members.{holds-small, member-inserted, member-cleared, member-same, filled-in}
+use Rattle.sets.specs.Sets.{withBit, holds, member, inserted, cleared}
+use Rattle.sets.proofs.Members.{holds-small, member-inserted, member-cleared, member-same, filled-in, changed-length}
 use Rattle.logic.proofs.Tests.{and-right}
 use Rattle.grammar.specs.Grammar.{Lexeme}
 use Rattle.lexing.specs.Counted.{variableAmong}
@@ -29,9 +29,10 @@ use Rattle.lexing.specs.Lexes.{lexemesAt}
 use Rattle.reading.specs.Called.{numberAfter, variableCalled}
 use Rattle.bracketing.specs.Brackets.{frontOf, restOf, afterFormula, startsPart, partsFrom}
 use Rattle.bracketing.specs.Nodes.{nameIn, sortIn, sortFrom, variableIn, asDeclared, every, boundFrom, distinct}
+use Rattle.bracketing.specs.Places.{Reaches}
 use Rattle.bracketing.proofs.SortPlaces.{variable-is}
 use Rattle.node_tests.specs.Tests.{joinsBy, freshFrom}
-use Rattle.node_tests.proofs.PartLaws.{part-none, part-some}
+use Rattle.node_tests.proofs.PartLaws.{part-none, part-some, ended, goes-on}
 
 -- ---- connectives
 
@@ -68,18 +69,27 @@ module _ (f : List ℕ) (c : Counts) (ls : List Lexeme) (x : ℕ) (is : x ≡ va
 
 -- ---- a test of all parts
 
-module _ (p : List Lexeme → Bool) (ls : List Lexeme) where
-  pub every-none : startsPart ls ≡ false → every (partsFrom p ls) ≡ true
-  unfolding every
-  every-none e = rw (part-none p ls e)
+-- all parts from i on pass where those from `at` on do
+pub record Passing (test : List Lexeme → Bool) (text : List ℕ) (i at : ℕ) : Type 0 where
+  pub inside : at ≤ length text
+  pub same : every (partsFrom test (lexemesAt text i)) ≡ every (partsFrom test (lexemesAt text at))
 
-  pub every-fails : startsPart ls ≡ true → p ls ≡ false → every (partsFrom p ls) ≡ false
+module _ {test : List Lexeme → Bool} {text : List ℕ} {i at : ℕ} (w : Passing test text i at) {p : Bool} (part : p ≡ startsPart (lexemesAt text at)) where
+  pub pass-end : not p ≡ true → true ≡ every (partsFrom test (lexemesAt text i))
   unfolding every
-  every-fails e q = rw (part-some p ls e, q)
+  pass-end n = sym (w .same ∙ rw (part-none test (lexemesAt text at) (ended p part n)))
 
-  pub every-on : startsPart ls ≡ true → p ls ≡ true → (rest : List Lexeme) → rest ≡ afterFormula ls → every (partsFrom p ls) ≡ every (partsFrom p rest)
-  unfolding every
-  every-on e q rest there = rw (part-some p ls e, q, there)
+  module _ (more : not p ≡ false) {q : Bool} (tested : q ≡ test (lexemesAt text at)) where
+    pub pass-fails : not q ≡ true → false ≡ every (partsFrom test (lexemesAt text i))
+    unfolding every
+    pass-fails n = sym (w .same ∙ rw (part-some test (lexemesAt text at) (goes-on p part more), ended q tested n))
+
+    pub pass-on : not q ≡ false → {next : ℕ} → Reaches text at next (afterFormula (lexemesAt text at)) → Passing test text i next
+    unfolding every
+    pass-on n there = record {
+      inside = there .inside;
+      same = w .same ∙ rw (part-some test (lexemesAt text at) (goes-on p part more), goes-on q tested n, there .there);
+    }
 
 -- ---- lets
 
@@ -129,62 +139,85 @@ module _ (f : List ℕ) (c : Counts) (text : List ℕ) where
       go true = called-small (nameIn (frontOf (restOf ls)))
       go false = omega arith
 
-  module _ (seen : List ℕ) (at : ℕ) where
-    pub fresh-none : startsPart (lexemesAt text at) ≡ false → freshFrom (bundleAt f c) text seen setWords at ≡ true
-    unfolding freshFrom
-    fresh-none e = rw (part-none (boundFrom (bundleAt f c)) (lexemesAt text at) e)
-
-    module _ (e : startsPart (lexemesAt text at) ≡ true) (x : ℕ) (is : x ≡ boundFrom (bundleAt f c) (lexemesAt text at)) where
-      abbrev later : List ℕ
-      later = partsFrom (boundFrom (bundleAt f c)) (afterFormula (lexemesAt text at))
-
-      turn : freshFrom (bundleAt f c) text seen setWords at
-          ≡ ((not (member seen 0 setWords x) && each (λ v. not (member seen 0 setWords v)) later)
-          && ((ltb 0 x && each (ltb 0) later) && (not (has x later) && different later)))
-      unfolding freshFrom distinct each different
-      turn = rw (part-some (boundFrom (bundleAt f c)) (lexemesAt text at) e, ← is)
-
-      pub fresh-zero : x ≡ 0 → freshFrom (bundleAt f c) text seen setWords at ≡ false
-      fresh-zero z = turn ∙ rw z (none (not (member seen 0 setWords 0) && each (λ v. not (member seen 0 setWords v)) later))
-        where
-          none : (p : Bool) → (p && false) ≡ false
-          none true = refl
-          none false = refl
-
-      pub fresh-member : member seen 0 setWords x ≡ true → freshFrom (bundleAt f c) text seen setWords at ≡ false
-      fresh-member m = turn ∙ rw m
-
-      pub fresh-on : (x ≡ 0 → ⊥) → member seen 0 setWords x ≡ false → Within c → setWords ≤ length seen → (new : List ℕ) → new ≡ inserted seen 0 setWords x
-          → (next : ℕ) → lexemesAt text next ≡ afterFormula (lexemesAt text at)
-          → freshFrom (bundleAt f c) text seen setWords at ≡ freshFrom (bundleAt f c) text new setWords next
-      unfolding freshFrom distinct
-      fresh-on nz m w l new put next there =
-          let bit : holds setWords x ≡ true = holds-small setWords x (positive x nz) (omega (arith, is, bound-small (lexemesAt text at), w .variables)) in
-          let more = fresh-more (member seen 0 setWords) (member new 0 setWords) x
-          (λ u. ap (λ (a : List ℕ). member a 0 setWords u) put ∙ member-inserted seen 0 setWords x l bit u) later in
-          turn ∙ rw (m, lt-ltb 0 x (positive x nz), there, more) (go (each (λ v. not (member seen 0 setWords v)) later) (each (ltb 0) later) (not (has x later)) (different later))
-        where
-          positive : (x : ℕ) → (x ≡ 0 → ⊥) → 0 < x
-          positive x nz = omega arith
-
-          go : (e z h d : Bool) → ((true && e) && ((true && z) && (h && d))) ≡ ((h && e) && (z && d))
-          go true true true d = refl
-          go true true false d = refl
-          go true false true d = refl
-          go true false false d = refl
-          go false z true d = refl
-          go false z false d = refl
-
   no-member : (n u : ℕ) → member (replicate n 0) 0 n u ≡ false
   no-member n u =
       member-same (replicate n 0) (cleared (replicate n 0) 0 n) 0 n
       (λ k l. zeros n .zero (0 + k) ∙ sym (filled-in (λ j. 0) (replicate n 0) 0 n k (omega (arith, length-replicate {A = ℕ} n 0)) l)) u
       ∙ member-cleared (replicate n 0) 0 n (omega (arith, length-replicate {A = ℕ} n 0)) u
 
-  pub fresh-start : (i : ℕ) → freshFrom (bundleAt f c) text (replicate setWords 0) setWords i ≡ distinct (partsFrom (boundFrom (bundleAt f c)) (lexemesAt text i))
+  pub fresh-start : (i : ℕ) (r : Bool) → r ≡ freshFrom (bundleAt f c) text (replicate setWords 0) setWords i → (ls : List Lexeme) → lexemesAt text i ≡ ls
+      → r ≡ distinct (partsFrom (boundFrom (bundleAt f c)) ls)
   unfolding freshFrom
-  fresh-start i = rw (all (partsFrom (boundFrom (bundleAt f c)) (lexemesAt text i)))
+  fresh-start i r e ls there = e ∙ rw (all (partsFrom (boundFrom (bundleAt f c)) (lexemesAt text i)), there)
     where
       all : (vs : List ℕ) → each (λ v. not (member (replicate setWords 0) 0 setWords v)) vs ≡ true
       all [] = refl
       all (v ∷ vs) = rw (no-member setWords v) (all vs)
+
+-- all bindings from i on fit and are new where those from `at` on are, with the variables so far as seen
+pub record Fresh (f : List ℕ) (c : Counts) (text : List ℕ) (i : ℕ) (first : List ℕ) (at : ℕ) (seen : List ℕ) : Type 0 where
+  pub inside : at ≤ length text
+  pub room : length seen ≡ length first
+  pub same : freshFrom (bundleAt f c) text first setWords i ≡ freshFrom (bundleAt f c) text seen setWords at
+
+module _ {f : List ℕ} {c : Counts} {text : List ℕ} {i : ℕ} {first : List ℕ} {at : ℕ} {seen : List ℕ} (w : Fresh f c text i first at seen) {p : Bool}
+    (part : p ≡ startsPart (lexemesAt text at)) where
+  abbrev all : Bool
+  all = freshFrom (bundleAt f c) text first setWords i
+
+  pub fresh-end : not p ≡ true → true ≡ all
+  unfolding freshFrom
+  fresh-end n = sym (w .same ∙ rw (part-none (boundFrom (bundleAt f c)) (lexemesAt text at) (ended p part n)))
+
+  module _ (more : not p ≡ false) {x : ℕ} (is : x ≡ boundFrom (bundleAt f c) (lexemesAt text at)) where
+    abbrev later : List ℕ
+    later = partsFrom (boundFrom (bundleAt f c)) (afterFormula (lexemesAt text at))
+
+    abbrev unseen : List ℕ → Bool
+    unseen vs = each (λ v. not (member seen 0 setWords v)) vs
+
+    turn : all ≡ ((not (member seen 0 setWords x) && unseen later) && ((ltb 0 x && each (ltb 0) later) && (not (has x later) && different later)))
+    unfolding freshFrom distinct each different
+    turn = w .same ∙ rw (part-some (boundFrom (bundleAt f c)) (lexemesAt text at) (goes-on p part more), ← is)
+
+    pub fresh-zero : x ≡ 0 → false ≡ all
+    fresh-zero z = sym (turn ∙ rw z (none (not (member seen 0 setWords 0) && unseen later)))
+      where
+        none : (p : Bool) → (p && false) ≡ false
+        none true = refl
+        none false = refl
+
+    module _ (nz : x ≡ 0 → ⊥) {m : Bool} (found : m ≡ member seen 0 setWords x) where
+      pub fresh-seen : m ≡ true → false ≡ all
+      fresh-seen e = sym (turn ∙ rw (sym found ∙ e))
+
+      pub fresh-on : m ≡ false → Within c → setWords ≤ length first → {new : List ℕ} → new ≡ inserted seen 0 setWords x
+          → {next : ℕ} → Reaches text at next (afterFormula (lexemesAt text at)) → Fresh f c text i first next new
+      unfolding freshFrom distinct
+      fresh-on e small fits {new} put there =
+          let positive : 0 < x = above x nz in
+          let bit : holds setWords x ≡ true =
+          holds-small setWords x positive (omega (arith, is, bound-small f c text (lexemesAt text at), small .variables)) in
+          let added : (u : ℕ) → member new 0 setWords u ≡ (eqb u x || member seen 0 setWords u) =
+          λ u. ap (λ (a : List ℕ). member a 0 setWords u) put ∙ member-inserted seen 0 setWords x (omega (arith, w .room)) bit u in
+          record {
+            inside = there .inside;
+            room = ap length put ∙ (changed-length withBit seen 0 setWords x ∙ w .room);
+            same = turn ∙ rw (
+              sym found ∙ e,
+              lt-ltb 0 x positive,
+              there .there,
+              fresh-more (member seen 0 setWords) (member new 0 setWords) x added later,
+            ) (swap (unseen later) (each (ltb 0) later) (not (has x later)) (different later));
+          }
+        where
+          above : (x : ℕ) → (x ≡ 0 → ⊥) → 0 < x
+          above x nz = omega arith
+
+          swap : (e z h d : Bool) → ((true && e) && ((true && z) && (h && d))) ≡ ((h && e) && (z && d))
+          swap true true true d = refl
+          swap true true false d = refl
+          swap true false true d = refl
+          swap true false false d = refl
+          swap false z true d = refl
+          swap false z false d = refl

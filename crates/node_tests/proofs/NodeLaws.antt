@@ -1,36 +1,37 @@
 -- Nodes by their heads, every node, and the whole text.
 --     inside-symbol to inside-other            the answers of `nodes::bracket_fine`, by the head's number
---     node-here, fine-over, fine-turn          a node by its first lexeme; all nodes, as `nodes::all_fine` goes over them
+--     AllFine, fine-over, fine-fails, fine-on   all nodes, as `nodes::all_fine` goes over them
 --     judges-not, judges                       the answers of `nodes::text_fine`
 use Prim.Native.Nat.{ℕ, _≤_}
 use native.Mathlib.Omega.{arith}
 use mathlib.Core.Path.{_≡_, refl, sym, ap, _∙_}
 use mathlib.Core.Bool.{Bool, true, false, cond, not, _&&_, _||_, false≢true}
-use mathlib.Core.List.{List, [], _∷_}
-use lib.ListN.{drop}
+use mathlib.Core.List.{List, []}
+use lib.ListN.{length}
 use lib.Dec.{eqb}
-use borrow.Author.Tests.{ne-eqb, eq-eqb}
+use borrow.Author.Tests.{ne-eqb}
 use Rattle.bundle.specs.Bundle.{Bundle}
 use Rattle.bundle.specs.Lists.{sameList}
 use Rattle.logic.specs.Symbols.{truthSort, signatureOf, argumentSorts}
 use Rattle.logic.proofs.Tests.{same-list}
 use Rattle.grammar.specs.Bytes.{Connective, conjunction, disjunction, implication, equality, Word, constant, negation, connective, quantifier, letting, sort}
 use Rattle.grammar.specs.Bytes.{name, bytes, twelve, wordAmong, wordOf}
-use Rattle.grammar.specs.Grammar.{Formula, Lexeme, opens, closes, word, stray, spell, spelling, lexemesFrom, lexemes, Reads}
+use Rattle.grammar.specs.Grammar.{Formula, Lexeme, spell, spelling, lexemes, Reads}
 use Rattle.grammar.proofs.Words.{among}
 use Rattle.lexing.specs.Codes.{wordCode}
 use Rattle.lexing.specs.Lexes.{part, lexemesAt, Lexes}
 use Rattle.lexing.specs.declared.lexemes.Lexed.{Lexed}
 use Rattle.lexing.proofs.LexemeLaws.{word-small}
 use Rattle.reading.specs.Called.{numberAfter, symbolCalled}
-use Rattle.reading.specs.Local.{aloneFine, headSort, fine}
-use Rattle.bracketing.specs.Brackets.{restOf, isOpening, afterFormula, partsFrom}
-use Rattle.bracketing.specs.Nodes.{nameOf, joinedSort, joins, takes, asDeclared, every, boundFrom, distinct, sortFrom, headFine, insideFine, wordFine}
-use Rattle.bracketing.specs.Nodes.{nodeFine, fineFrom}
+use Rattle.reading.specs.Local.{headSort, fine}
+use Rattle.bracketing.specs.Brackets.{restOf, afterFormula, partsFrom}
+use Rattle.bracketing.specs.Nodes.{nameOf, joins, takes, asDeclared, every, boundFrom, distinct, sortFrom, headFine, insideFine}
+use Rattle.bracketing.specs.Nodes.{fineFrom}
 use Rattle.bracketing.specs.Places.{nameHere}
 use Rattle.bracketing.proofs.NodesOff.{bracket-by-bracket}
 use Rattle.bracketing.proofs.Fronts.{name-of, Front, front, over, opening, closing, other, run}
 use Rattle.node_tests.specs.Tests.{joinsBy, namedFine, nodeHere, Judges}
+use Rattle.node_tests.proofs.PartLaws.{ended, goes-on}
 
 -- ---- the word =
 
@@ -190,8 +191,8 @@ module _ (b : Bundle) (text : List ℕ) (i : ℕ) (r : Lexed) (h : Lexes text i 
       (λ w is c. head-symbol b rest w (sym c ∙ q)
       ∙ (ap (λ (u : List ℕ). takes b (symbolCalled b u) (partsFrom (sortFrom b) rest)) (named w is c) ∙ sym e))
 
-  pub inside-not : r .code ≡ 4 → (t : Bool) → t ≡ eqb truthSort (sortFrom b rest) → t ≡ insideFine b (lexemesAt text i)
-  inside-not q t e = inside-word (omega arith) (λ z. omega arith) t (λ w is c. head-not b rest w (sym c ∙ q) ∙ sym e)
+  pub inside-not : r .code ≡ 4 → (s : ℕ) → s ≡ sortFrom b rest → eqb 0 s ≡ insideFine b (lexemesAt text i)
+  inside-not q s e = inside-word (omega arith) (λ z. omega arith) (eqb 0 s) (λ w is c. head-not b rest w (sym c ∙ q) ∙ ap (eqb 0) (sym e))
 
   pub inside-connective : r .code ≡ 5 → (t : Bool)
       → t ≡ joinsBy (sameList (part text (r .start) (r .end)) (bytes "=")) (sortFrom b rest) (sortFrom b (afterFormula rest))
@@ -227,11 +228,7 @@ module _ (b : Bundle) (text : List ℕ) (i : ℕ) (r : Lexed) (h : Lexes text i 
   always true = refl
   always false = refl
 
-  pub fine-over : (head : Bool) → r .code ≡ 10 → fineFrom b head (lexemesAt text i) ≡ true
-  unfolding fineFrom
-  fine-over head q = rw (h .over q)
-
-  pub fine-turn : (head : Bool) → (r .code ≡ 10 → ⊥) → fineFrom b head (lexemesAt text i) ≡ (nodeHere b text head r && fineFrom b (eqb (r .code) 0) rest)
+  fine-turn : (head : Bool) → (r .code ≡ 10 → ⊥) → fineFrom b head (lexemesAt text i) ≡ (nodeHere b text head r && fineFrom b (eqb (r .code) 0) rest)
   unfolding fineFrom nodeHere numberAfter signatureOf argumentSorts
   fine-turn head ne = go (front text i r h)
     where
@@ -245,6 +242,23 @@ module _ (b : Bundle) (text : List ℕ) (i : ℕ) (r : Lexed) (h : Lexes text i 
           ∙ (ap (λ (u : List ℕ). (head || namedFine b u) && fineFrom b false rest) (named w is c)
           ∙ ap (λ (p : Bool). cond p (insideFine b rest) (head || namedFine b (nameHere text r)) && fineFrom b p rest)
           (sym (ne-eqb (r .code) 0 (λ z. omega (arith, word-small w .0)))))
+
+-- all nodes pass where those from `at` on do
+pub record AllFine (b : Bundle) (text : List ℕ) (head : Bool) (at : ℕ) : Type 0 where
+  pub inside : at ≤ length text
+  pub same : fineFrom b false (lexemesAt text 0) ≡ fineFrom b head (lexemesAt text at)
+
+module _ {b : Bundle} {text : List ℕ} {head : Bool} {at : ℕ} (w : AllFine b text head at) {r : Lexed} (h : Lexes text at r) where
+  pub fine-over : r .code ≡ 10 → true ≡ fineFrom b false (lexemesAt text 0)
+  unfolding fineFrom
+  fine-over q = sym (w .same ∙ rw (h .over q))
+
+  module _ (ne : r .code ≡ 10 → ⊥) {p : Bool} (tested : p ≡ nodeHere b text head r) where
+    pub fine-fails : not p ≡ true → false ≡ fineFrom b false (lexemesAt text 0)
+    fine-fails n = sym (w .same ∙ (fine-turn b text at r h head ne ∙ rw (ended p tested n)))
+
+    pub fine-on : not p ≡ false → AllFine b text (eqb (r .code) 0) (r .end)
+    fine-on n = record { inside = h .inside; same = w .same ∙ (fine-turn b text at r h head ne ∙ rw (goes-on p tested n)) }
 
 -- ---- the whole text
 

@@ -1,11 +1,11 @@
 -- The tests of nodes, as code makes them from what it finds at a place; and what is promised of a whole text.
 use Prim.Native.Nat.{ℕ}
 use mathlib.Core.Path.{_≡_}
-use mathlib.Core.Bool.{Bool, true, false, cond, not, _&&_, _||_}
+use mathlib.Core.Bool.{Bool, true, cond, not, _&&_, _||_}
 use mathlib.Core.List.{List, []}
 use lib.Dec.{eqb}
 use Rattle.bundle.specs.Bundle.{Bundle}
-use Rattle.bundle.specs.Lists.{each, different}
+use Rattle.bundle.specs.Lists.{each}
 use Rattle.sets.specs.Sets.{member}
 use Rattle.logic.specs.Symbols.{truthSort, itemSort}
 use Rattle.grammar.specs.Grammar.{Formula, Reads}

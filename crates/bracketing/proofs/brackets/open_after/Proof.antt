@@ -1,7 +1,6 @@
 -- `brackets::open_after` meets its contract.
 use borrow.Author.Needs.{needs}
-use borrow.Author.Tests.{eq-eqb, ne-eqb}
-use native.Mathlib.Omega.{arith}
+use borrow.Author.Tests.{ne-eqb}
 use Rattle.bracketing.specs.Places.{openBy}
 use Rattle.bracketing.proofs.brackets.open_after.Statement.{statement}
 use Rattle.bracketing.proofs.brackets.open_after.Tie as tie

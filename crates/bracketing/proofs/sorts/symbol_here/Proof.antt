@@ -1,6 +1,5 @@
 -- `sorts::symbol_here` meets its contract.
 use borrow.Author.Needs.{needs}
-use mathlib.Core.Path.{refl, sym, ap, _∙_}
 use Rattle.lexing.specs.Counted.{numberWithin}
 use Rattle.bracketing.proofs.SortPlaces.{none-here, name-at}
 use Rattle.bracketing.proofs.sorts.symbol_here.Statement.{statement}

@@ -1,7 +1,6 @@
 -- `sorts::variable_at` meets its contract.
 use borrow.Author.Needs.{needs}
-use mathlib.Core.Path.{sym, ap, _∙_}
-use Rattle.bracketing.proofs.Fronts.{lies, name-here}
+use Rattle.bracketing.proofs.Fronts.{name-here}
 use Rattle.bracketing.proofs.sorts.variable_at.Statement.{statement}
 use Rattle.bracketing.proofs.sorts.variable_at.Tie as tie
 

@@ -1,23 +1,15 @@
--- `arguments::arguments_fit` meets its contract. The invariant: the sorts are the same where those of what is left are.
--- The measure is what is left of the text.
+-- `arguments::arguments_fit` meets its contract. The invariant: all fit where those that are left do. The measure is what is left of the text.
 use borrow.Author.Needs.{needs}
 use native.Mathlib.Omega.{arith}
-use Prim.Native.Nat.{_-_, _≤_}
-use mathlib.Core.Path.{_≡_, refl, sym, _∙_}
+use Prim.Native.Nat.{_-_}
 use lib.ListN.{length}
-use Rattle.bundle.specs.Links.{items}
-use Rattle.bundle.specs.Lists.{sameList}
-use Rattle.bundle.specs.File.{bundleAt}
-use Rattle.bundle.proofs.Walks.{walk-start, walk-start-le, walk-le}
-use Rattle.node_tests.proofs.PartLaws.{part-there, ended, goes-on}
-use Rattle.node_tests.proofs.ArgumentLaws.{sortsAt, fit-end, fit-short, fit-differs, fit-on}
+use Rattle.node_tests.proofs.PartLaws.{part-further}
+use Rattle.node_tests.proofs.ArgumentLaws.{Fits, fits-start, fits-end, fits-short, fits-differs, fits-on}
 use Rattle.node_tests.proofs.arguments.arguments_fit.Statement.{statement}
 use Rattle.node_tests.proofs.arguments.arguments_fit.Tie as tie
 
 abbrev Inv-loop : tie.InvT-loop
-Inv-loop file b text i list k₀ at₀ k at =
-    (k ≤ b .links) × (at ≤ length text)
-    × (sameList (items (bundleAt file b) list) (sortsAt file b text i) ≡ sameList (items (bundleAt file b) k) (sortsAt file b text at))
+Inv-loop file b text i list k₀ at₀ k at = Fits file b text i list k at
 
 abbrev μ-loop : tie.MeasureT-loop
 μ-loop file b text i list k₀ at₀ k at = length text - at
@@ -28,63 +20,48 @@ first-link-requires c κs = search needs
 loop-holds : tie.Need-loop-holds Inv-loop μ-loop
 loop-holds c =
     let a = c .before .before .before .args in
-    let r = c .first-link in (
-      walk-start-le (a .file .now) (a .b) (a .list) (r .result) (r .ensures),
-      c .before .before .before .pre .1,
-      rw (walk-start (a .file .now) (a .b) (a .list) (r .result) (r .ensures)),
-    )
+    fits-start (a .file .now) (a .b) (a .text .now) (a .i) (a .list) (c .first-link .result) (c .first-link .ensures) (c .before .before .before .pre .1)
 
 part-at-requires : tie.Need-part-at-requires Inv-loop μ-loop
-part-at-requires c κs = c .loop .inv .1
+part-at-requires c κs = c .loop .inv .inside
 
 returns : tie.Need-returns Inv-loop μ-loop
-returns c =
-    let a = c .before .before .before .before .before .before .args in
-    let l = c .before .before .loop in
-    sym (l .inv .2 ∙ fit-end (a .file .now) (a .b) (a .text .now) (l .k) (l .at) (let k = c .before .part-at in ended (k .result) (k .ensures) (c .if1 .taken)) (l .inv .0))
+returns c = fits-end (c .before .before .loop .inv) (c .before .part-at .ensures) (c .if1 .taken)
 
 returns-2 : tie.Need-returns-2 Inv-loop μ-loop
-returns-2 c =
-    let a = c .before .before .before .before .before .before .before .args in
-    let l = c .before .before .before .loop in
-    sym (l .inv .2 ∙ fit-short (a .file .now) (a .b) (a .text .now) (l .at) (let k = c .before .before .part-at in goes-on (k .result) (k .ensures) (c .before .if1 .left)) (l .k) (c .if2 .taken))
+returns-2 c = fits-short (c .before .before .before .loop .inv) (c .before .before .part-at .ensures) (c .before .if1 .left) (c .if2 .taken)
 
 link-field-requires : tie.Need-link-field-requires Inv-loop μ-loop
 link-field-requires c κs = (c .before .before .before .before .before .before .before .pre .0, omega arith)
 
 sort-at-requires : tie.Need-sort-at-requires Inv-loop μ-loop
-sort-at-requires c κs = (c .before .before .before .before .before .before .before .before .pre .0, c .before .before .before .before .loop .inv .1)
+sort-at-requires c κs = (c .before .before .before .before .before .before .before .before .pre .0, c .before .before .before .before .loop .inv .inside)
 
 returns-3 : tie.Need-returns-3 Inv-loop μ-loop
 returns-3 c =
-    let a = c .before .before .before .before .before .before .before .before .before .before .args in
-    let l = c .before .before .before .before .before .before .loop in
-    sym (l .inv .2 ∙ fit-differs (a .file .now) (a .b) (a .text .now) (l .at) (let k = c .before .before .before .before .before .part-at in goes-on (k .result) (k .ensures) (c .before .before .before .before .if1 .left)) (l .k) _ _
-    (c .before .before .before .if2 .left) (l .inv .0) (c .before .before .link-field .ensures) (c .before .sort-at .ensures) (c .if3 .taken))
+    let e = c .before .before .before in
+    let l = e .before .before .before in
+    fits-differs (l .loop .inv) (e .before .before .part-at .ensures) (e .before .if1 .left) (e .if2 .left) (c .before .before .link-field .ensures)
+    (c .before .sort-at .ensures) (c .if3 .taken)
 
 next-link-requires : tie.Need-next-link-requires Inv-loop μ-loop
 next-link-requires c κs = c .before .before .before .before .before .before .before .before .before .before .pre .0
 
 after-formula-requires : tie.Need-after-formula-requires Inv-loop μ-loop
-after-formula-requires c κs = c .before .before .before .before .before .before .before .loop .inv .1
+after-formula-requires c κs = c .before .before .before .before .before .before .before .loop .inv .inside
 
 loop-less : tie.Need-loop-less Inv-loop μ-loop
 loop-less c =
-    let e = c .after-formula .ensures in
-    omega (arith, e .inside, e .moves (part-there _ (let k = c .before .before .before .before .before .before .before .part-at in goes-on (k .result) (k .ensures) (c .before .before .before .before .before .before .if1 .left))))
+    let e = c .before .before .before .before .before in
+    let r = c .after-formula .ensures in
+    omega (arith, r .inside, part-further _ (e .before .before .before .loop .at) (e .before .before .part-at .ensures) (e .before .if1 .left) r)
 
 loop-again : tie.Need-loop-again Inv-loop μ-loop
 loop-again c =
-    let a = c .before .before .before .before .before .before .before .before .before .before .before .before .args in
-    let l = c .before .before .before .before .before .before .before .before .loop in
-    let n = c .before .next-link in
-    let e = c .after-formula .ensures in (
-      walk-le (a .file .now) (a .b) (l .k) (n .result) (n .ensures),
-      e .inside,
-      l .inv .2
-          ∙ fit-on (a .file .now) (a .b) (a .text .now) (l .at) (let k = c .before .before .before .before .before .before .before .part-at in goes-on (k .result) (k .ensures) (c .before .before .before .before .before .before .if1 .left)) (l .k) _ _ (c .before .before .before .before .before .if2 .left)
-          (l .inv .0) (c .before .before .before .before .link-field .ensures) (c .before .before .before .sort-at .ensures) (n .result) (c .after-formula .result) (c .before .before .if3 .left) (n .ensures) (e .there),
-    )
+    let e = c .before .before .before .before .before in
+    let l = e .before .before .before in
+    fits-on (l .loop .inv) (e .before .before .part-at .ensures) (e .before .if1 .left) (e .if2 .left) (c .before .before .before .before .link-field .ensures)
+    (c .before .before .before .sort-at .ensures) (c .before .before .if3 .left) (c .before .next-link .ensures) (c .after-formula .ensures)
 
 pub arguments-fit-spec : {M : Type 1} → statement M
 arguments-fit-spec =

@@ -39,10 +39,11 @@ first-link-requires c κs = search needs
 
 returns-3 : tie.Need-returns-3
 returns-3 c =
-    let a = c .before .before .before .before .before .before .before .before .args in
-    let x = c .before .before .before .before .symbol-here in
-    let y = c .before .before .before .before .before .variable-here in
-    fine-list (a .file .now) (a .b) _ (x .result) (x .ensures) (y .result) (y .ensures) (c .before .before .before .if1 .left) (c .before .before .if2 .left) _ _
+    let e = c .before .before .before in
+    let x = e .before .symbol-here in
+    let y = e .before .before .variable-here in
+    let a = e .before .before .before .before .before .args in
+    fine-list (a .file .now) (a .b) _ (x .result) (x .ensures) (y .result) (y .ensures) (e .if1 .left) (c .before .before .if2 .left) _ _
     (c .before .symbol-field .ensures) (c .first-link .ensures)
 
 pub name-fine-spec : {M : Type 1} → statement M

@@ -28,9 +28,10 @@ arguments-fit-requires c κs = search needs
 
 returns-2 : tie.Need-returns-2
 returns-2 c =
-    let a = c .before .before .before .before .before .before .args in
-    let x = c .before .before .before .symbol-here in
-    takes-list (a .file .now) (a .b) _ (x .result) (x .ensures) (c .before .before .if1 .left) _ (c .before .symbol-field .ensures) _ _ (c .arguments-fit .ensures)
+    let e = c .before .before in
+    let x = e .before .symbol-here in
+    let a = e .before .before .before .before .args in
+    takes-list (a .file .now) (a .b) _ (x .result) (x .ensures) (e .if1 .left) _ (c .before .symbol-field .ensures) _ _ (c .arguments-fit .ensures)
 
 pub symbol-fine-spec : {M : Type 1} → statement M
 symbol-fine-spec =

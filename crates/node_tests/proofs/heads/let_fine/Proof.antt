@@ -1,6 +1,5 @@
 -- `heads::let_fine` meets its contract.
 use borrow.Author.Needs.{needs}
-use mathlib.Core.Path.{_∙_}
 use Rattle.node_tests.proofs.HeadLaws.{fresh-start}
 use Rattle.node_tests.proofs.heads.let_fine.Statement.{statement}
 use Rattle.node_tests.proofs.heads.let_fine.Tie as tie
@@ -18,7 +17,7 @@ returns : tie.Need-returns
 returns c =
     let a = c .before .before .before .before .before .before .args in
     let j = c .before .before .before .after-lexeme in
-    rw (← j .ensures .there) (c .before .all-fresh .ensures ∙ fresh-start (a .file .now) (a .b) (a .text .now) (j .result))
+    fresh-start (a .file .now) (a .b) (a .text .now) (j .result) _ (c .before .all-fresh .ensures) _ (j .ensures .there)
 
 pub let-fine-spec : {M : Type 1} → statement M
 let-fine-spec =

@@ -1,8 +1,5 @@
 -- `nodes::bracket_fine` meets its contract: each answer by the head's number.
 use borrow.Author.Needs.{needs}
-use Prim.Native.Nat.{ℕ}
-use mathlib.Core.Path.{ap}
-use lib.Dec.{eqb}
 use Rattle.bundle.specs.File.{bundleAt}
 use Rattle.node_tests.proofs.NodeLaws.{inside-symbol, inside-not, inside-connective, inside-quantifier, inside-let, inside-other}
 use Rattle.node_tests.proofs.nodes.bracket_fine.Statement.{statement}
@@ -27,8 +24,7 @@ returns-2 : tie.Need-returns-2
 returns-2 c =
     let a = c .before .before .before .before .before .before .args in
     let h = c .before .before .before .next-lexeme in
-    inside-not (bundleAt (a .file .now) (a .b)) (a .text .now) (a .i) (h .result) (h .ensures) (c .before .if2 .taken) _
-    (ap (λ (s : ℕ). eqb 0 s) (c .sort-at .ensures))
+    inside-not (bundleAt (a .file .now) (a .b)) (a .text .now) (a .i) (h .result) (h .ensures) (c .before .if2 .taken) _ (c .sort-at .ensures)
 
 connective-fine-requires : tie.Need-connective-fine-requires
 connective-fine-requires c κs = search needs
@@ -61,8 +57,9 @@ returns-6 : tie.Need-returns-6
 returns-6 c =
     let a = c .before .before .before .before .before .before .before .before .args in
     let h = c .before .before .before .before .before .next-lexeme in
-    inside-other (bundleAt (a .file .now) (a .b)) (a .text .now) (a .i) (h .result) (h .ensures) (c .before .before .before .before .if1 .left) (c .before .before .before .if2 .left) (c .before .before .if3 .left)
-    (c .before .if4 .left) (c .if5 .left)
+    let d = c .before .before in
+    inside-other (bundleAt (a .file .now) (a .b)) (a .text .now) (a .i) (h .result) (h .ensures) (d .before .before .if1 .left) (d .before .if2 .left)
+    (d .if3 .left) (c .before .if4 .left) (c .if5 .left)
 
 pub bracket-fine-spec : {M : Type 1} → statement M
 bracket-fine-spec =

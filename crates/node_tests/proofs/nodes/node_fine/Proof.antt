@@ -21,7 +21,9 @@ name-fine-requires c κs = search needs
 
 returns-3 : tie.Need-returns-3
 unfolding nodeHere
-returns-3 c = rw (ne-eqb (c .before .before .before .before .before .before .args .l .code) 0 (c .before .before .if1 .left), c .before .if2 .left) (c .name-fine .ensures)
+returns-3 c =
+    let e = c .before .before in
+    rw (ne-eqb (e .before .before .before .before .args .l .code) 0 (e .if1 .left), c .before .if2 .left) (c .name-fine .ensures)
 
 pub node-fine-spec : {M : Type 1} → statement M
 node-fine-spec =
