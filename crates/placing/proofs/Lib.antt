@@ -4,8 +4,10 @@
 --     StandingKept      what stands for a node stands in every longer bundle; what a visit ends in
 --     OutcomeFacts      what an outcome tells
 --     Indexes           the index after each opener and closer
+--     Pairs             the stack of pairs
 pub mod ScratchOutcomes
 pub mod CallOutcomes
 pub mod StandingKept
 pub mod OutcomeFacts
 pub mod Indexes
+pub mod Pairs

@@ -45,7 +45,7 @@ use Rattle.reading.proofs.Answers.{names-exactly}
 no-number : {A : Type 0} (xs : List A) → xs ≡ [] → (i : ℕ) → Number (length xs) i → ⊥
 no-number xs e i n = omega (arith, ap length e, n .0, n .1)
 
-declared-checked : (f : List ℕ) → DeclarationsFormed f → Checked (bundleOf f)
+pub declared-checked : (f : List ℕ) → DeclarationsFormed f → Checked (bundleOf f)
 declared-checked f d =
     let b : Bundle = bundleOf f in
     record {
@@ -69,7 +69,7 @@ declared-version f d = d .header .version
 -- ---- the formula's records
 
 module _ (f text : List ℕ) (φ : Formula) (d : DeclarationsFormed f) (r : ReadAs (bundleOf f) text φ) where
-  term-sorted : TermSorted (bundleOf f) (plain (bundleOf f) φ)
+  pub term-sorted : TermSorted (bundleOf f) (plain (bundleOf f) φ)
   term-sorted = formula-sorted (bundleOf f) φ truthSort (names-exactly (bundleOf f) (names φ []) .1 (r .named .names)) (r .sorted) .0
 
   pub job-filed : FiledAs (bundleOf f) (plain (bundleOf f) φ) (filedFor (bundleOf f) φ)
@@ -77,7 +77,7 @@ module _ (f text : List ℕ) (φ : Formula) (d : DeclarationsFormed f) (r : Read
       let old : Checked (bundleOf f) = declared-checked f d in
       filed (bundleOf f) (old .formed .tables) (plain (bundleOf f) φ) (bundleOf f) (longer-refl (bundleOf f)) old term-sorted
 
-  not-deep : FitsLimits (bundleOf f) φ → depth (plain (bundleOf f) φ) ≤ 1024
+  pub not-deep : FitsLimits (bundleOf f) φ → depth (plain (bundleOf f) φ) ≤ 1024
   not-deep fit =
       let p : PlacedTerm = filedFor (bundleOf f) φ in
       let low = depth-below (p .bundle) (job-filed .placed .checked .formed .tables) (p .term) (job-filed .placed .is-term) in

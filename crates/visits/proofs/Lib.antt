@@ -1,7 +1,5 @@
 -- Laws that the functions' proofs share. Each file stands on those above it.
---     Pairs       the stack of pairs
 --     ListTurns   the visit to a list, turn by turn
 --     TermTurns   the visit to a term, kind by kind
-pub mod Pairs
 pub mod ListTurns
 pub mod TermTurns

@@ -27,7 +27,7 @@ use Rattle.expansion.proofs.Grown.{visit-longer, visitAll-longer}
 use Rattle.placing.proofs.ScratchOutcomes.{counts-are, holds}
 use Rattle.placing.proofs.StandingKept.{stand-all-on, visit-ends, visitAll-steps}
 use Rattle.placing.proofs.OutcomeFacts.{VisitDone, visit-done, visit-full, more-full, on, contexts-on, steps-are, Words, result-word}
-use Rattle.visits.proofs.Pairs.{Pair, below-same, below-trans, below-set, halves-first}
+use Rattle.placing.proofs.Pairs.{Pair, below-same, below-trans, below-set, halves-first}
 
 -- ---- the measure: how many links are left from a link on
 

@@ -33,7 +33,7 @@ use Rattle.placing.specs.Outcomes.{VisitOutcome, OpenOutcome, BinderOutcome, St
 use Rattle.expansion.proofs.Grown.{open-longer, visit-longer, visitAll-longer}
 use Rattle.placing.proofs.StandingKept.{stands-on, visit-ends, visitAll-steps, replacing-context, open-context, opening, opening-longer, scope-longer}
 use Rattle.placing.proofs.StandingKept.{node-longer, body-longer, block-longer}
-use Rattle.visits.proofs.Pairs.{Pair, below-same, below-trans, below-set, halves-then}
+use Rattle.placing.proofs.Pairs.{Pair, below-same, below-trans, below-set, halves-then}
 use Rattle.placing.proofs.OutcomeFacts.{visit-done, visit-full, OpenDone, open-done, open-full, BinderDone, binder-done, binder-full, ListDone, list-done}
 use Rattle.placing.proofs.OutcomeFacts.{list-full, more-full, on, steps-on, steps-are, contexts-are, Words, result-word}
 

@@ -10,7 +10,7 @@ use lib.ListN.{length, set, length-set}
 use Rattle.logic.specs.Terms.{isBinder}
 use Rattle.scratch.specs.Scratch.{bundleIn, Ready}
 use Rattle.scratch.specs.Stack.{halves}
-use Rattle.visits.proofs.Pairs.{Pair}
+use Rattle.placing.proofs.Pairs.{Pair}
 use Rattle.visits.proofs.ListTurns.{left, left-le, LinkReads, list-none, first-asks, first-full, first-words, first-height, rest-asks, list-more}
 use Rattle.visits.proofs.TermTurns.{Reads, quantified, term-words, term-variable, scope-closed, scope-asks, scope-full, scope-ready, scope-done}
 use Rattle.visits.proofs.TermTurns.{args-asks, args-full, args-ready, apply-done, let-closed, body-asks, body-full, body-words, body-ready, body-done}
