@@ -2,11 +2,11 @@
 --     refused-declared                        a check of the declarations fails
 --     Declared                                none does
 --     formed, areas-long, declared-whole      what is known then, of the file, the areas and the counts that the code has read
---     copied-ready                            the declarations copied into the scratch are ready for more records
+--     copied-formed, copied-ready             the declarations copied into the scratch are ready for more records
 --     refused-text                            19, 20 or 8
 --     Settled, settled, read-as               none of them: the text is read as φ
---     refused-full                            16
---     Held, held-done, held-full              what the answer of the records says
+--     refused-records                         16
+--     Held, held-done, held-ready             the records are in the scratch
 --     term-small                              the term is a word of 32 bits
 --     stored-read                             the job: what is left before the zeros are written
 use Prim.Native.Nat.{ℕ, zero, suc, _≤_}
@@ -19,19 +19,21 @@ use lib.Dec.{eqb}
 use borrow.Author.Tests.{eqb-true}
 use Rattle.bundle.specs.declared.Bundle.{Bundle as Counts}
 use Rattle.bundle.specs.Bundle.{Bundle}
-use Rattle.bundle.specs.Limits.{bytesOf}
+use Rattle.bundle.specs.Limits.{limits, bytesOf}
 use Rattle.bundle.specs.File.{Whole, bundleAt, bundleOf, countsOf}
 use Rattle.bundle.proofs.Limits.{within-words}
 use Rattle.logic.specs.declared.Fault.{Fault}
 use Rattle.logic.specs.Tests.{fault}
 use Rattle.logic.specs.Symbols.{truthSort}
+use Rattle.logic.specs.WellFormed.{TablesFormed}
 use Rattle.logic.proofs.Tests.{and-left, and-right}
 use Rattle.logic.proofs.Headers.{bundle-is}
 use Rattle.scratch.specs.Scratch.{bundleIn, Ready}
-use Rattle.placing.specs.declared.Recorded.{Recorded}
-use Rattle.placing.specs.Outcomes.{StandsFor, TooMuch, PlaceOutcome, done, full as tooMuch}
+use Rattle.placing.specs.Outcomes.{StandsFor}
+use Rattle.endings.specs.declared.ReadTerm.{ReadTerm}
+use Rattle.formulas.specs.ReadGives.{TooLarge, TextOutcome, done, full as tooLarge, ReadsText}
+use Rattle.formulas.proofs.TextTurns.{too-large-never-fits}
 use Rattle.expansion.specs.declared.Answer.the-variants.{Written, Refused}
-use Rattle.expansion.specs.Placed.{PlacedTerm}
 use Rattle.expansion.specs.Visit.{claiming}
 use Rattle.expansion.specs.File.{countsIn, fileOf}
 use Rattle.expansion.specs.Expansion.{Outcome, writes}
@@ -44,7 +46,7 @@ use Rattle.grammar.specs.Names.{names, Resolved, resolved, unreadAt, unknownAt,
 use Rattle.grammar.proofs.NamesExact.{resolved-exactly}
 use Rattle.reading.specs.Called.{knownIn}
 use Rattle.reading.specs.Typing.{Typed, only}
-use Rattle.reading.specs.Local.{headSort, fine, typed}
+use Rattle.reading.specs.Local.{headSort, fine, plain, typed}
 use Rattle.reading.specs.WellSorted.{WellSorted}
 use Rattle.reading.specs.Records.{file}
 use Rattle.reading.specs.Reader.{Answer, job, refused, jobOf, fittingJob, sortedJob, answerOf, readText}
@@ -56,7 +58,7 @@ use Rattle.reading.proofs.LocalSorts.{sorts-local}
 use Rattle.reading.proofs.TypingExactly.{typing-exactly}
 use Rattle.reading.proofs.Answers.{names-exactly, answers-exactly}
 use Rattle.reading.proofs.ReadOrder.{declarations-exactly}
-use Rattle.reading.proofs.Jobs.{job-filed}
+use Rattle.reading.proofs.Jobs.{declared-checked, job-filed}
 
 -- ---- the answer by what refuses the text
 
@@ -122,10 +124,16 @@ module _ {f : List ℕ} {out words sets : ℕ} {c : Counts} (declared : Declared
   pub declared-whole : Whole f c
   declared-whole = rw (declared .counted) (formed .header .whole)
 
-  -- w is the scratch
-  module _ (w : List ℕ) (long : length w ≡ words) where
-    pub copied-ready : Ready w c
-    copied-ready = record {
+  -- w is the scratch, where the declarations were copied
+  module _ (w : List ℕ) (copied : bundleIn w c ≡ bundleAt f c) where
+    pub copied-is : bundleIn w c ≡ bundleOf f
+    copied-is = copied ∙ bundle-is f (declared .counted)
+
+    pub copied-formed : TablesFormed (bundleIn w c)
+    copied-formed = rw copied-is (declared-checked f formed .formed .tables)
+
+    pub copied-ready : length w ≡ words → Ready w c
+    copied-ready long = record {
       room = record { within = declared-whole .within; long = omega (arith, areas-long .scratch, long) };
       version = ap (λ (k : Counts). k .version) (declared .counted) ∙ formed .header .version;
     }
@@ -180,7 +188,7 @@ module _ {f : List ℕ} {out words sets : ℕ} {c : Counts} {text : List ℕ} {�
         sorted = well-sorted (bundleOf f) φ (s .bool);
       }
 
-  pub refused-full : (FitsLimits (bundleOf f) φ → ⊥) → Refused 16 0 ≡ reading f text out words sets .answer
+  refused-full : (FitsLimits (bundleOf f) φ → ⊥) → Refused 16 0 ≡ reading f text out words sets .answer
   refused-full not = refused-by (s .declared) text (answers-exactly (bundleOf f) text (refused 16 0) .1 (full φ read-as not))
 
   written : FitsLimits (bundleOf f) φ → reading f text out words sets ≡ writes (jobOf (filedFor (bundleOf f) φ)) out words sets
@@ -195,18 +203,27 @@ pub record Held (f : List ℕ) (φ : Formula) (w : List ℕ) (d : Counts) (t : �
   pub term : t ≡ filedFor (bundleOf f) φ .term
   pub holds : StandsFor w (filedFor (bundleOf f) φ .bundle)
 
-module _ {p : PlacedTerm} {w : List ℕ} {r : Recorded} where
-  pub held-full : PlaceOutcome p w r → r ≡ Recorded.Full → TooMuch (p .bundle)
-  held-full (done h e) k = let z : _≡_ {A = ℕ} 0 1 = cc in absurd (omega arith)
-  held-full (tooMuch h e) k = h
+-- w is the scratch after the records were read, r their answer
+module _ {f : List ℕ} {out words sets : ℕ} {c : Counts} {text : List ℕ} {φ : Formula} (s : Settled f out words sets c text φ) (w₀ w : List ℕ)
+    (r : ReadTerm) (copied : bundleIn w₀ c ≡ bundleAt f c) (told : ReadsText (bundleAt f c) text (bundleIn w₀ c) w r) where
+  outcome : TextOutcome (bundleOf f) φ (bundleOf f) w r
+  outcome =
+      let e : bundleAt f c ≡ bundleOf f = bundle-is f (s .declared .counted) in
+      subst (λ (D : Bundle). TextOutcome D φ D w r) e (subst (λ (b : Bundle). TextOutcome (bundleAt f c) φ b w r) copied (told φ (read-as s .named .reads)))
 
-  held-told : PlaceOutcome p w r → {d : Counts} {t : ℕ} → r ≡ Recorded.Done d t → (d ≡ countsIn (p .bundle)) × (t ≡ p .term) × StandsFor w (p .bundle)
-  held-told (done h e) k = (cc, cc, h)
-  held-told (tooMuch h e) k = let z : _≡_ {A = ℕ} 0 1 = cc in absurd (omega arith)
+  pub refused-records : r ≡ ReadTerm.Full → Refused 16 0 ≡ reading f text out words sets .answer
+  refused-records k = refused-full s (too-large-never-fits f text φ (formed (s .declared)) (read-as s) (go outcome))
+    where
+      go : TextOutcome (bundleOf f) φ (bundleOf f) w r → TooLarge (plain (bundleOf f) φ) (bundleOf f) 0 (limits .terms)
+      go (done h e i) = let z : _≡_ {A = ℕ} 0 1 = cc in absurd (omega arith)
+      go (tooLarge h e) = h
 
-pub held-done : (f : List ℕ) (φ : Formula) {w : List ℕ} {r : Recorded} → PlaceOutcome (filedFor (bundleOf f) φ) w r → {d : Counts} {t : ℕ}
-    → r ≡ Recorded.Done d t → Held f φ w d t
-held-done f φ o k = let h = held-told o k in record { counts = h .0; term = h .1; holds = h .2 }
+  pub held-done : {d : Counts} {t m e : ℕ} → r ≡ ReadTerm.Done d t m e → Held f φ w d t
+  held-done {d} {t} {m} {e} k = go outcome
+    where
+      go : TextOutcome (bundleOf f) φ (bundleOf f) w r → Held f φ w d t
+      go (done h n i) = record { counts = cc; term = cc; holds = h }
+      go (tooLarge h i) = let z : _≡_ {A = ℕ} 0 1 = cc in absurd (omega arith)
 
 module _ {f : List ℕ} {φ : Formula} {w : List ℕ} {d : Counts} {t : ℕ} (h : Held f φ w d t) where
   pub held-ready : Ready w d

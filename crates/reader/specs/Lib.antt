@@ -1,3 +1,3 @@
 -- What the contracts cite.
---     Texts   what refuses a text before its records are placed; the records of a text's formula
+--     Texts   what refuses a text before its records are placed
 pub mod Texts
