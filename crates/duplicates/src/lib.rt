@@ -123,7 +123,8 @@ pub fn is_new(
     d: usize,
 ) -> bool
     requires { ⌜ (let bundle = bundleAt (now file) b in
-        Whole (now file) b × FiledBelow bundle (now heads) (now next) i × (i < length (now next)) × (d < digests) × (d ≡ termDigest bundle (termOf bundle i))) ⌝ }
+        Whole (now file) b × FiledBelow bundle (now heads) (now next) i × (i < length (now next)) × (d < digests) × (d ≡ termDigest bundle (termOf bundle
+        i))) ⌝ }
     ensures { λ r. ⌜ r ≡ isNew (bundleAt (now (file .entry)) b) i ⌝ }
 {
     let mut j = wide(heads[d]);

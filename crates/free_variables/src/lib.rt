@@ -44,7 +44,8 @@ fn remove_list(file: &[u8], b: Bundle, area: &mut [u64], n: usize, at: usize, li
 fn free_own(file: &[u8], b: Bundle, area: &mut [u64], n: usize, t: usize, at: usize) -> usize
     requires { ⌜ Whole (now file) b × SetRoom (now area) n t at × (b .variables ≤ 64 * n) ⌝ }
     ensures { λ r. ⌜ (let bundle = bundleAt (now (file .entry)) b in
-        (r ≡ listOf (termOf bundle t)) × Put (now (area .entry)) (now (area .exit)) n at (ownBy bundle (setBelow (now (area .entry)) n t) (termOf bundle t))) ⌝ }
+        (r ≡ listOf (termOf bundle t)) × Put (now (area .entry)) (now (area .exit)) n at (ownBy bundle (setBelow (now (area .entry)) n t) (termOf bundle t)))
+        ⌝ }
 {
     let kind = term_field(file, b, t, 0);
     let first = term_field(file, b, t, 1);
@@ -85,7 +86,8 @@ fn free_term(
     marks: &mut [u16],
 )
     requires { ⌜ (let bundle = bundleAt (now file) b in
-        Whole (now file) b × SetRoom (now area) n t at × (b .variables ≤ 64 * n) × SetsBelow (now area) n t bundle × Unions bundle n t (now lists) (now marks)) ⌝ }
+        Whole (now file) b × SetRoom (now area) n t at × (b .variables ≤ 64 * n) × SetsBelow (now area) n t bundle × Unions bundle n t (now lists) (now
+        marks)) ⌝ }
     ensures { λ _. ⌜ (let bundle = bundleAt (now (file .entry)) b in
         Put (now (area .entry)) (now (area .exit)) n at (freeBy bundle (setBelow (now (area .entry)) n t) (termOf bundle t))) ⌝ }
     ensures { λ _. ⌜ Unions (bundleAt (now (file .entry)) b) n t (now (lists .exit)) (now (marks .exit)) ⌝ }

@@ -100,7 +100,8 @@ fn replace(
 )
     requires { ⌜ (let bundle = bundleAt (now file) b in
         Whole (now file) b × RowRoom (now images) (now moved) n k × (b .variables ≤ 64 * n) × (each (numbers (b .variables)) (items bundle variables) ≡ true)
-        × (each (numbers (b .terms)) (items bundle terms) ≡ true) × (different (items bundle variables) ≡ true) × Agrees bundle (now images) (now moved) n k) ⌝ }
+        × (each (numbers (b .terms)) (items bundle terms) ≡ true) × (different (items bundle variables) ≡ true) × Agrees bundle (now images) (now moved) n k)
+        ⌝ }
     ensures { λ _. ⌜ (let bundle = bundleAt (now (file .entry)) b in
         Entered bundle (now (images .entry)) (now (moved .entry)) (now (images .exit)) (now (moved .exit)) n k (λ x m. orAbove (lookup (items bundle
         variables) (items bundle terms) x) m)) ⌝ }

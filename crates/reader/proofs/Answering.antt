@@ -176,7 +176,8 @@ pub record Settled (f : List ℕ) (out words sets : ℕ) (c : Counts) (text : Li
 pub settled : {f : List ℕ} {out words sets : ℕ} {c : Counts} → Declared f out words sets c → (text : List ℕ) (r : Fault)
     → r ≡ textFault (bundleAt f c) (resolve (knownIn (bundleAt f c)) text) → r .number ≡ 0 → (φ : Formula) × Settled f out words sets c text φ
 settled {f} declared text r found z =
-    let (φ, resolves, bool) = by-none (bundleOf f) (resolve (knownIn (bundleOf f)) text) (sym (ap (λ (x : Fault). x .number) (found-is declared text r found)) ∙ z)
+    let (φ, resolves, bool) = by-none (bundleOf f) (resolve (knownIn (bundleOf f)) text) (sym (ap (λ (x : Fault). x .number) (found-is declared text r
+    found)) ∙ z)
     in (φ, record { declared = declared; resolves = resolves; bool = bool })
 
 module _ {f : List ℕ} {out words sets : ℕ} {c : Counts} {text : List ℕ} {φ : Formula} (s : Settled f out words sets c text φ) where

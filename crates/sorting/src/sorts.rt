@@ -215,7 +215,8 @@ pub fn arguments_fit(
 ) -> bool
     requires { ⌜ Whole (now file) b × Sorted (now file) b (now sorts) × Fitting (now file) b (now fitting) ⌝ }
     ensures { λ r. ⌜ (let bundle = bundleAt (now (file .entry)) b in
-        (r ≡ sameList (argumentSorts bundle s) (map (sortAt bundle) (items bundle terms))) × (r ≡ true → Fitting (now (file .entry)) b (now (fitting .exit)))) ⌝ }
+        (r ≡ sameList (argumentSorts bundle s) (map (sortAt bundle) (items bundle terms))) × (r ≡ true → Fitting (now (file .entry)) b (now (fitting
+        .exit)))) ⌝ }
 {
     match s {
         Signature::BuiltIn {

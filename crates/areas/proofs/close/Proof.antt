@@ -26,7 +26,8 @@ zero-bytes-requires-2 : tie.Need-zero-bytes-requires-2
 unfolding kept
 zero-bytes-requires-2 c κs =
     let is = c .before .before .answer2 .given in
-    let e : kept (c .before .before .before .before .before .before .before .before .before .before .before .before .before .before .before .args .answer) ≡ is .0 .0 = ap kept (is .1) in
+    let e : kept (c .before .before .before .before .before .before .before .before .before .before .before .before .before .before .before .args .answer) ≡
+    is .0 .0 = ap kept (is .1) in
     omega (arith, e, c .before .before .before .before .before .before .before .before .before .before .before .before .before .before .before .pre)
 
 same-length : tie.Need-same-length
