@@ -111,7 +111,8 @@ store-file-requires : tie.Need-store-file-requires
 store-file-requires c κs =
     let h = c .before .before .before in
     let e = else2 (h .before .before .before .before) in
-    (held-ready (held h), term-small (held h) (reads e .1), omega arith, omega (arith, areas-long (declared (counted (found e))) .output))
+    let small = term-small (held h) (reads e .1) in
+    (held-ready (held h), omega (arith, small), omega (arith, small), omega (arith, areas-long (declared (counted (found e))) .output))
 
 bytes-requires : tie.Need-bytes-requires
 bytes-requires c κs = held-ready (held (c .before .before .before .before .before .before)) .room .within
