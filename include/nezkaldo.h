@@ -41,6 +41,20 @@ uint64_t nezkaldo_check(const uint8_t *file, size_t file_length, uint64_t *free,
 uint64_t nezkaldo_expand(
     const uint8_t *job, size_t job_length, uint8_t *out, size_t out_length, uint32_t *words, size_t words_length, uint64_t *sets, size_t sets_length);
 
+/* Reads the formula text at `text`, an SMT-LIB 2 term (document 02, Req 01), beside the declarations at `declarations`: a bundle with no terms, no
+ * contexts, no steps and a zero claim.
+ *
+ * Returns the length of the job that now stands at the start of `out`, at most 58,148: the declarations with the formula's records, its left the
+ * formula, its right 0, as nezkaldo_expand takes it where the formula is closed. Else number * 2^32 + record of the first check that the declarations
+ * fail (1 to 6, 18), or number * 2^32 + byte for 19 and 20, or 8 or 16 with record 0. A byte of 2^32 or more is added as it stands.
+ *
+ * The areas are those of nezkaldo_expand, lent and left in the same way. The reading of a formula calls itself as deep as the formula nests, at most
+ * 1,024 levels: give the thread 4 MB of stack (what it takes is still to be measured).
+ *
+ * No pointer is null; with length 0 it may point anywhere that is aligned. The areas do not overlap. */
+uint64_t nezkaldo_read(const uint8_t *declarations, size_t declarations_length, const uint8_t *text, size_t text_length, uint8_t *out, size_t out_length,
+    uint32_t *words, size_t words_length, uint64_t *sets, size_t sets_length);
+
 #ifdef __cplusplus
 }
 #endif

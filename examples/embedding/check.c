@@ -1,4 +1,5 @@
 /* Checks a bundle, or expands a job and checks what comes out: check-c FILE.
+ * Reads a rule typed as SMT-LIB beside its declarations, expands it and checks what comes out: check-c DECLARATIONS TEXT.
  *
  *   cc -std=c11 -O2 -I include -o check-c examples/embedding/check.c target/staticlib/libnezkaldo.a */
 #include "nezkaldo.h"
@@ -6,9 +7,11 @@
 #include <inttypes.h>
 #include <stdio.h>
 
-enum { INPUT = 65536, OUT = 58148, WORDS = 14537, SETS = 1024 };
+enum { INPUT = 65536, TEXT = 1048576, OUT = 58148, WORDS = 14537, SETS = 1024 };
 
 static uint8_t input[INPUT];
+static uint8_t text[TEXT];
+static uint8_t job[OUT];
 static uint8_t out[OUT];
 static uint32_t words[WORDS];
 static uint64_t sets[SETS];
@@ -21,9 +24,11 @@ static uint32_t word_at(const uint8_t *file, size_t k)
     return p[0] | (uint32_t)p[1] << 8 | (uint32_t)p[2] << 16 | (uint32_t)p[3] << 24;
 }
 
+/* 19 and 20 name a byte of the text, the others a record. */
 static void print_refusal(uint64_t answer)
 {
-    printf("refused: check %" PRIu64 ", record %" PRIu64 "\n", answer >> 32, answer & 0xffffffff);
+    const char *what = answer >> 32 >= 19 ? "byte" : "record";
+    printf("refused: check %" PRIu64 ", %s %" PRIu64 "\n", answer >> 32, what, answer & 0xffffffff);
 }
 
 /* Exit status 0 where the file is accepted. */
@@ -38,27 +43,50 @@ static int check(const uint8_t *file, size_t length)
     return 0;
 }
 
-int main(int count, char **arguments)
+/* Expands a job and checks the file. */
+static int expand(const uint8_t *from, size_t length)
 {
-    FILE *file = count == 2 ? fopen(arguments[1], "rb") : NULL;
-    if (file == NULL) {
-        fputs("usage: check-c FILE\n", stderr);
-        return 2;
-    }
-    /* Nothing that is longer than INPUT is accepted, so the rest need not be read. */
-    size_t length = fread(input, 1, INPUT, file);
-    fclose(file);
-
-    /* A job has no contexts, no steps and right 0. */
-    int job = length >= 36 && word_at(input, 5) == 0 && word_at(input, 6) == 0 && word_at(input, 8) == 0;
-    if (!job)
-        return check(input, length);
-
-    uint64_t answer = nezkaldo_expand(input, length, out, OUT, words, WORDS, sets, SETS);
+    uint64_t answer = nezkaldo_expand(from, length, out, OUT, words, WORDS, sets, SETS);
     if (answer >> 32 != 0) {
         print_refusal(answer);
         return 1;
     }
     printf("written %" PRIu64 ", ", answer);
     return check(out, answer);
+}
+
+/* The first bytes of a file, so many as there is room for; 0 where it cannot be read. */
+static int load(const char *path, uint8_t *room, size_t size, size_t *length)
+{
+    FILE *file = fopen(path, "rb");
+    if (file == NULL)
+        return 0;
+    *length = fread(room, 1, size, file);
+    fclose(file);
+    return 1;
+}
+
+int main(int count, char **arguments)
+{
+    size_t length, text_length;
+    if (count < 2 || count > 3 || !load(arguments[1], input, INPUT, &length) || (count == 3 && !load(arguments[2], text, TEXT, &text_length))) {
+        fputs("usage: check-c FILE\n       check-c DECLARATIONS TEXT\n", stderr);
+        return 2;
+    }
+    if (count == 3) {
+        if (text_length == TEXT) {
+            fputs("check-c: the text is too long for this program\n", stderr);
+            return 2;
+        }
+        uint64_t answer = nezkaldo_read(input, length, text, text_length, job, OUT, words, WORDS, sets, SETS);
+        if (answer >> 32 != 0) {
+            print_refusal(answer);
+            return 1;
+        }
+        printf("read %" PRIu64 ", ", answer);
+        return expand(job, answer);
+    }
+    /* Nothing that is longer than INPUT is accepted, so the rest need not be read. A job has no contexts, no steps and right 0. */
+    int is_job = length >= 36 && word_at(input, 5) == 0 && word_at(input, 6) == 0 && word_at(input, 8) == 0;
+    return is_job ? expand(input, length) : check(input, length);
 }

@@ -4,12 +4,13 @@ ghost use Prim.Native.Nat.{_+_, _*_, _≤_};
 ghost use lib.ListN.{length};
 ghost use Rattle.judgement.specs.Judge.{judge, areaAfter};
 ghost use Rattle.expansion.specs.Expansion.{expansion};
+ghost use Rattle.reading.specs.Reading.{reading};
 ghost use Rattle.nezkaldo.specs.Packed.{packed, packedReply};
 use judgement::Answer;
 
 // Number and record in one word.
 fn pack(number: usize, place: usize) -> u64
-    requires { ⌜ (number ≤ 4294967295) × (place ≤ 4294967295) ⌝ }
+    requires { ⌜ 4294967296 * number + place ≤ 18446744073709551615 ⌝ }
     ensures { λ r. ⌜ r ≡ 4294967296 * number + place ⌝ }
 {
     4294967296 * (number as u64) + place as u64
@@ -26,6 +27,17 @@ pub extern "C" fn nezkaldo_check(file: &[u8], free: &mut [u64]) -> u64
     match answer {
         Answer::Accepted(_) => 0,
         Answer::Refused { number, record } => pack(number, record),
+    }
+}
+
+// A file's length, or number and record in one word.
+fn reply_number(reply: expansion::Answer) -> u64
+    requires { ⌜ packedReply reply ≤ 18446744073709551615 ⌝ }
+    ensures { λ r. ⌜ r ≡ packedReply reply ⌝ }
+{
+    match reply {
+        expansion::Answer::Written { length } => length as u64,
+        expansion::Answer::Refused { number, record } => pack(number, record),
     }
 }
 
@@ -48,8 +60,29 @@ pub extern "C" fn nezkaldo_expand(
         (length (now (sets .entry))) .sets ⌝ }
 {
     let reply = writer::expand(job, out, words, sets);
-    match reply {
-        expansion::Answer::Written { length } => length as u64,
-        expansion::Answer::Refused { number, record } => pack(number, record),
-    }
+    reply_number(reply)
+}
+
+// Reads a formula text beside declarations: the job's length where it is written at the start of the output, else number · 2^32 + record, or byte, of
+// what refuses them first. A byte of 2^32 or more is added as it stands. The scratch ends zero, and so do the bytes after the job; where the
+// declarations or the text are refused, all of the output.
+#[no_mangle]
+pub extern "C" fn nezkaldo_read(
+    declarations: &[u8],
+    text: &[u8],
+    out: &mut [u8],
+    words: &mut [u32],
+    sets: &mut [u64],
+) -> u64
+    ensures { λ r. ⌜ r ≡ packedReply (reading (now (declarations .entry)) (now (text .entry)) (length (now (out .entry))) (length (now (words .entry)))
+        (length (now (sets .entry))) .answer) ⌝ }
+    ensures { λ _. ⌜ now (out .exit) ≡ reading (now (declarations .entry)) (now (text .entry)) (length (now (out .entry))) (length (now (words .entry)))
+        (length (now (sets .entry))) .out ⌝ }
+    ensures { λ _. ⌜ now (words .exit) ≡ reading (now (declarations .entry)) (now (text .entry)) (length (now (out .entry))) (length (now (words .entry)))
+        (length (now (sets .entry))) .words ⌝ }
+    ensures { λ _. ⌜ now (sets .exit) ≡ reading (now (declarations .entry)) (now (text .entry)) (length (now (out .entry))) (length (now (words .entry)))
+        (length (now (sets .entry))) .sets ⌝ }
+{
+    let reply = reader::read(declarations, text, out, words, sets);
+    reply_number(reply)
 }

@@ -149,7 +149,7 @@ module _ {f : List ℕ} {out words sets : ℕ} {c : Counts} (declared : Declared
         go zero e = refl
         go (suc m) e = absurd (omega arith)
 
-    answer-is : {a : Answer} → readText (bundleOf f) text ≡ a → reading f text out words sets ≡ leaves a out words sets
+    pub answer-is : {a : Answer} → readText (bundleOf f) text ≡ a → reading f text out words sets ≡ leaves a out words sets
     answer-is e = reading-is ∙ ap (λ (a : Answer). leaves a out words sets) e
 
     refused-by : {m i : ℕ} → readText (bundleOf f) text ≡ refused m i → Refused m i ≡ reading f text out words sets .answer

@@ -236,16 +236,15 @@ areas-left f text out words sets =
 -- ---- the three calls in a row
 
 pub read-expanded : ReadExpanded
-read-expanded f text out words sets n bytes e φ r closed g is fits =
+read-expanded f text out words sets n bytes e φ r closed g is fits out′ words′ sets′ long =
     let b : Bundle = bundleOf f in
-    let s : ReadSo f text out words sets n = written-so f text out words sets n e in
     let (ψ, q, well) = read-formed f text out words sets n bytes e in
     let there : ReadWell f ψ g = subst (ReadWell f ψ) (sym is) well in
     let good : ReadWell f φ g = subst (λ (χ : Formula). ReadWell f χ g) (one-reading b text ψ φ q r) there in
     let shut : Closed (tree (bundleOf g) (bundleOf g .left)) = subst Closed (sym (good .left)) closed in
     let job-bytes : Bytes g = subst Bytes (sym is) (read-bytes f text out words sets n e) in
-    let (m, answers, right) = expansion-right g out words sets job-bytes (good .formed) shut fits (s .long) in
-    let h : List ℕ = take m (expansion g out words sets .out) in
+    let (m, answers, right) = expansion-right g out′ words′ sets′ job-bytes (good .formed) shut fits long in
+    let h : List ℕ = take m (expansion g out′ words′ sets′ .out) in
     let old : tree (bundleOf h) (bundleOf g .left) ≡ tree (bundleOf g) (bundleOf g .left) =
     tree-kept (right .records) (good .formed .tables) (bundleOf g .left) (good .formed .left .1) in (
       m,

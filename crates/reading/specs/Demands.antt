@@ -97,11 +97,12 @@ pub record RuleExpanded (f : List ℕ) (φ : Formula) (h : List ℕ) : Type 0 wh
   pub right : holdsLet (tree (bundleOf h) (bundleOf h .right)) ≡ false
   pub equal : EqualValues (bundleOf h) (bundleOf h .left) (bundleOf h .right)
 
--- The three calls in a row: where a text is read, its formula is closed and the derivation of its job fits, the job is expanded, with the same
+-- The three calls in a row: where a text is read, its formula is closed and the derivation of its job fits, the job is expanded, with long enough
 -- areas, to a file that is as it is to be.
 abbrev pub ReadExpanded : Type 0
 ReadExpanded =
     (f text : List ℕ) (out words sets n : ℕ) → Bytes f → reading f text out words sets .answer ≡ Written n
     → (φ : Formula) → ReadAs (bundleOf f) text φ → Closed (plain (bundleOf f) φ)
     → (g : List ℕ) → g ≡ take n (reading f text out words sets .out) → Fits g
-    → (m : ℕ) × (expansion g out words sets .answer ≡ Written m) × RuleExpanded f φ (take m (expansion g out words sets .out))
+    → (out′ words′ sets′ : ℕ) → LongEnough out′ words′ sets′
+    → (m : ℕ) × (expansion g out′ words′ sets′ .answer ≡ Written m) × RuleExpanded f φ (take m (expansion g out′ words′ sets′ .out))

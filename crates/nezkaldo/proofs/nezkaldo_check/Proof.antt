@@ -20,7 +20,7 @@ pack-requires : tie.Need-pack-requires
 pack-requires c κs =
     let k = c .before .answer .given in
     let s = refused-small _ _ (k .0 .0) (k .0 .1 .0) (sym (c .before .before .before .before .before .check .ensures .0) ∙ k .1) in
-    (omega (arith, s .0), omega (arith, s .1))
+    omega (arith, s .0, s .1)
 
 same-length : tie.Need-same-length
 same-length c = search needs
