@@ -1,0 +1,3 @@
+-- What the contracts cite.
+--     Places   LINES AND COLUMNS of a text's bytes
+pub mod Places
