@@ -14,7 +14,12 @@ fn read_text(declarations: &[u8], text: &[u8]) {
     let answer = reader::read(declarations, text, &mut out, &mut words, &mut sets);
     match answer {
         Answer::Written { length } => text_refusals::write_start(1, &out, length),
-        Answer::Refused { number, record } => text_refusals::refusal(declarations, text, number, record),
+        Answer::Refused { number, record } => text_refusals::refusal(
+            declarations,
+            text,
+            number,
+            record,
+        ),
     }
 }
 

@@ -1,5 +1,5 @@
 // The program show: reads a bundle of up to 65,536 bytes on standard input and prints it as text that can be read, and what the checker says of it.
-// With the argument --dot it prints its steps as a graph, for Graphviz; the rest is comments there.
+// With the argument --dot it prints its steps as a graph, for Graphviz; the rest is comments there. With --rule it prints the formula of its left alone.
 ghost use Rattle.bundle.specs.File.{Whole};
 use bundle::Bundle;
 use bundle::words::claim_left;
@@ -122,6 +122,59 @@ fn show_file(file: &[u8], answer: Answer, is_dot: bool) {
     show_bundle(file, b, left, right, answer, is_dot);
 }
 
+// The most parts of a formula that --rule prints: the longest text that the program read takes has fewer.
+const PARTS: usize = 524288;
+
+// The number of a refusal; 0 where the file is accepted.
+fn refusal_of(answer: Answer) -> usize {
+    match answer {
+        Answer::Accepted(_) => 0,
+        Answer::Refused { number, record: _ } => number,
+    }
+}
+
+// The formula of the left, on one line. One that is too large is cut, and a line on standard error says so.
+fn print_left(file: &[u8], b: Bundle, left: usize)
+    requires { ⌜ Whole (now file) b ⌝ }
+{
+    let rest = show_text::terms::term(file, b, left, PARTS);
+    out::line_end();
+    if rest == 0 {
+        io::write_all(2, b"show: the formula has more than 524,288 parts\n");
+    }
+}
+
+fn no_formula() {
+    io::write_all(
+        2,
+        b"show: there is no formula to print: see what show says without --rule\n",
+    );
+}
+
+// The formula of the left, where the checks 1 to 9 find nothing and the left is a term.
+fn show_rule(file: &[u8], refusal: usize) {
+    if file.len() < Bundle::LEAST {
+        no_formula();
+        return;
+    }
+    let b = counts(file);
+    let left = claim_left(file);
+    if !b.within() {
+        no_formula();
+        return;
+    }
+    let bytes = b.bytes();
+    if file.len() != bytes {
+        no_formula();
+        return;
+    }
+    if (left == 0) | (b.terms < left) | ((0 < refusal) & (refusal < 10)) {
+        no_formula();
+        return;
+    }
+    print_left(file, b, left);
+}
+
 // Whether the first argument is --dot.
 fn wants_dot() -> bool {
     let mut word = [0u8; 8];
@@ -132,6 +185,19 @@ fn wants_dot() -> bool {
         & (word[2] == b'd')
         & (word[3] == b'o')
         & (word[4] == b't')
+}
+
+// Whether it is --rule.
+fn wants_rule() -> bool {
+    let mut word = [0u8; 8];
+    let n = os::arg(1, &mut word);
+    (n == 6)
+        & (word[0] == b'-')
+        & (word[1] == b'-')
+        & (word[2] == b'r')
+        & (word[3] == b'u')
+        & (word[4] == b'l')
+        & (word[5] == b'e')
 }
 
 fn graph_start(is_dot: bool) {
@@ -151,6 +217,10 @@ fn main() {
     let n = io::read_full(0, &mut input);
     let mut free = [0u64; Bundle::SET_WORDS * Bundle::TERMS];
     let answer = checker::check(&input[..n], &mut free);
+    if wants_rule() {
+        show_rule(&input[..n], refusal_of(answer));
+        return;
+    }
     let is_dot = wants_dot();
     graph_start(is_dot);
     show_file(&input[..n], answer, is_dot);

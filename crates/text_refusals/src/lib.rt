@@ -128,7 +128,14 @@ fn put_if(is_due: bool, words: &[u8]) {
 }
 
 // The bytes of a line from `from` up to before `to`, with dots where more stands before or after them, and a mark under the byte `at`.
-fn show_part(text: &[u8], from: usize, at: usize, to: usize, is_cut_before: bool, is_cut_after: bool)
+fn show_part(
+    text: &[u8],
+    from: usize,
+    at: usize,
+    to: usize,
+    is_cut_before: bool,
+    is_cut_after: bool,
+)
     requires { ⌜ (from ≤ at) × (at ≤ to) × (to ≤ length (now text)) × (at ≤ from + 60) × (to ≤ at + 40) ⌝ }
 {
     let mut line = [0u8; 128];
