@@ -1,10 +1,10 @@
 -- Laws of lines and columns, byte by byte.
-use Prim.Native.Nat.{ℕ, zero, suc, _+_, _-_, _≤_, _<_}
+use Prim.Native.Nat.{ℕ, suc, _+_, _-_, _≤_, _<_}
 use native.Mathlib.Omega.{arith}
 use native.Mathlib.Nat.{eq-or-lt-of-le}
 use native.Mathlib.Numerals.{add-one}
 use mathlib.Core.Path.{_≡_, refl, sym, ap, _∙_}
-use mathlib.Core.Bool.{Bool, true, false, cond, not, _&&_, _||_}
+use mathlib.Core.Bool.{Bool, true, false, not}
 use mathlib.Core.Logic.{⊎-elim}
 use mathlib.Core.List.{List}
 use lib.ListN.{length, getD, List·getD-eq-default}
@@ -113,7 +113,11 @@ module _ (text : List ℕ) (i j : ℕ) (h : Passed text i j) where
       off x = omega arith
 
   pub passed-on : j < length text → (getD text j 0 ≡ 10 → ⊥) → (getD text j 0 ≡ 13 → ⊥) → Passed text i (j + 1)
-  passed-on l a b = record { after = omega (arith, h .after); inside = omega arith; none = below-more (λ k. i ≤ k → isBreak (getD text k 0) ≡ false) j (h .none) (λ x. here) }
+  passed-on l a b = record {
+    after = omega (arith, h .after);
+    inside = omega arith;
+    none = below-more (λ k. i ≤ k → isBreak (getD text k 0) ≡ false) j (h .none) (λ x. here);
+  }
     where
       here : isBreak (getD text j 0) ≡ false
       here = rw (ne-eqb (getD text j 0) 10 a, ne-eqb (getD text j 0) 13 b)

@@ -1,6 +1,8 @@
 // How a line is shown around a byte: at most 60 bytes before it and 40 after it, control bytes as '?', and under it a line with a mark.
-ghost use Prim.Native.Nat.{_+_, _-_, _≤_, _<_};
+ghost use mathlib.Core.Path.{_≡_};
+ghost use Prim.Native.Nat.{_+_, _≤_};
 ghost use lib.ListN.{length};
+ghost use Rattle.text_places.specs.Shown.{goesOn, shownByte, underByte, Shows, Marks};
 
 // A part that is shown has at most so many bytes before the mark's byte, and in all.
 pub const BACK: usize = 60;
@@ -8,7 +10,9 @@ pub const BACK: usize = 60;
 pub const SHOWN: usize = 100;
 
 // Whether a byte goes on a character of UTF-8.
-fn goes_on(b: u8) -> bool {
+fn goes_on(b: u8) -> bool
+    ensures { λ r. ⌜ r ≡ goesOn b ⌝ }
+{
     (b >= 128) & (b < 192)
 }
 
@@ -50,7 +54,9 @@ pub fn shown_to(text: &[u8], at: usize, end: usize) -> usize
 }
 
 // A byte as it is shown: a tab and what is no control byte as it is.
-fn shown_byte(b: u8) -> u8 {
+fn shown_byte(b: u8) -> u8
+    ensures { λ r. ⌜ r ≡ shownByte b ⌝ }
+{
     if b == 9 {
         return b;
     }
@@ -65,8 +71,8 @@ fn shown_byte(b: u8) -> u8 {
 
 // The bytes to show, into an area. Gives their number.
 pub fn shown_line(text: &[u8], from: usize, to: usize, line: &mut [u8; 128]) -> usize
-    requires { ⌜ (from ≤ to) × (to ≤ length (now text)) × (to ≤ from + 100) ⌝ }
-    ensures { λ r. ⌜ r ≤ 128 ⌝ }
+    requires { ⌜ (from ≤ to) × (to ≤ length (now text)) × (to ≤ from + 100) × (length (now line) ≡ 128) ⌝ }
+    ensures { λ r. ⌜ Shows (now (text .entry)) from to (now (line .exit)) r ⌝ }
 {
     let mut n = 0;
     while from + n < to {
@@ -76,20 +82,26 @@ pub fn shown_line(text: &[u8], from: usize, to: usize, line: &mut [u8; 128]) -> 
     n
 }
 
+// What stands under a character.
+fn under_byte(b: u8) -> u8
+    ensures { λ r. ⌜ r ≡ underByte b ⌝ }
+{
+    if b == 9 {
+        return 9;
+    }
+    b' '
+}
+
 // What stands under them, up to the mark under the byte `at`: tabs as tabs, a space for any other character.
 pub fn mark_line(text: &[u8], from: usize, at: usize, line: &mut [u8; 128]) -> usize
-    requires { ⌜ (from ≤ at) × (at ≤ length (now text)) × (at ≤ from + 60) ⌝ }
-    ensures { λ r. ⌜ r ≤ 128 ⌝ }
+    requires { ⌜ (from ≤ at) × (at ≤ length (now text)) × (at ≤ from + 60) × (length (now line) ≡ 128) ⌝ }
+    ensures { λ r. ⌜ Marks (now (text .entry)) from at (now (line .exit)) r ⌝ }
 {
     let mut n = 0;
     let mut j = from;
     while j < at {
         if !goes_on(text[j]) {
-            if text[j] == 9 {
-                line[n] = 9;
-            } else {
-                line[n] = b' ';
-            }
+            line[n] = under_byte(text[j]);
             n += 1;
         }
         j += 1;

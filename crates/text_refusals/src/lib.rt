@@ -139,14 +139,15 @@ fn show_part(
     requires { ⌜ (from ≤ at) × (at ≤ to) × (to ≤ length (now text)) × (at ≤ from + 60) × (to ≤ at + 40) ⌝ }
 {
     let mut line = [0u8; 128];
+    let mut under = [0u8; 128];
     let n = shown_line(text, from, to, &mut line);
+    let m = mark_line(text, from, at, &mut under);
     put_if(is_cut_before, b"...");
     put_start(&line, n);
     put_if(is_cut_after, b"...");
     put(b"\n");
-    let m = mark_line(text, from, at, &mut line);
     put_if(is_cut_before, b"   ");
-    put_start(&line, m);
+    put_start(&under, m);
     put(b"\n");
 }
 

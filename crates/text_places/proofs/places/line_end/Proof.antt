@@ -44,7 +44,8 @@ loop-again : tie.Need-loop-again Inv-loop μ-loop
 loop-again c =
     let l = c .before .before .before .before .before in
     let a = l .before .args in
-    passed-on (a .text .now) (a .at) (l .loop .j) (l .loop .inv) (c .before .before .before .before .loop-test .taken) (c .before .before .if1 .left) (c .if2 .left)
+    passed-on (a .text .now) (a .at) (l .loop .j) (l .loop .inv)
+    (c .before .before .before .before .loop-test .taken) (c .before .before .if1 .left) (c .if2 .left)
 
 returns-3 : tie.Need-returns-3 Inv-loop μ-loop
 returns-3 c =

@@ -1,18 +1,21 @@
--- `shown::shown_line` is safe and ends: it writes a byte for each that it passes.
+-- `shown::shown_line` meets its contract. The invariant: the first n bytes are in the area, as they are shown.
 use borrow.Author.Needs.{needs}
 use native.Mathlib.Omega.{arith}
-use Prim.Native.Nat.{_+_, _-_, _≤_}
+use Prim.Native.Nat.{_-_}
+use Rattle.text_places.proofs.ShownLaws.{Showing, showing-none, showing-more, showing-all}
 use Rattle.text_places.proofs.shown.shown_line.Statement.{statement}
 use Rattle.text_places.proofs.shown.shown_line.Tie as tie
 
 abbrev Inv-loop : tie.InvT-loop
-Inv-loop text from to line₀ n₀ line n = from + n ≤ to
+Inv-loop text from to line₀ n₀ line n = Showing text from to line n
 
 abbrev μ-loop : tie.MeasureT-loop
 μ-loop text from to line₀ n₀ line n = to - n
 
 loop-holds : tie.Need-loop-holds Inv-loop μ-loop
-loop-holds c = search needs
+loop-holds c =
+    let s = c .before in
+    showing-none (s .args .text .now) (s .args .from) (s .args .to) (s .args .line .now) (s .pre .0) (s .pre .3)
 
 add-loop : tie.Need-add-loop Inv-loop μ-loop
 add-loop c = search needs
@@ -36,10 +39,18 @@ loop-less : tie.Need-loop-less Inv-loop μ-loop
 loop-less c = search needs
 
 loop-again : tie.Need-loop-again Inv-loop μ-loop
-loop-again c = search needs
+loop-again c =
+    let l = c .before .before .before in
+    let s = l .before .before in
+    showing-more (s .args .text .now) (s .args .from) (s .args .to) (l .loop .line) (l .loop .n) (l .loop .inv) (s .pre .2) (s .pre .1)
+    (c .shown-byte .result) (c .before .before .loop-test .taken) (c .shown-byte .ensures)
 
 returns : tie.Need-returns Inv-loop μ-loop
-returns c = search needs
+returns c =
+    let l = c .before in
+    let s = l .before .before in
+    showing-all (s .args .text .now) (s .args .from) (s .args .to) (l .loop .line) (l .loop .n) (l .loop .inv) (s .pre .2) (s .pre .1)
+    (c .loop-test .left)
 
 pub shown-line-spec : {M : Type 1} → statement M
 shown-line-spec =
