@@ -15,15 +15,10 @@ pub struct Results {
 }
 
 const MISSING: &str = "The proved library was not there: Rust alone.";
-const NO_READER: &str = "The proved library had no reader: Rust alone.";
 
 impl Results {
     fn has_proved(&self) -> bool {
         self.checks.iter().any(|row| row.proved.is_some())
-    }
-
-    fn lacks_reader(&self) -> bool {
-        self.has_proved() && self.readers.iter().any(|row| row.proved.is_none())
     }
 
     /// The page for docs/.
@@ -67,9 +62,6 @@ impl Results {
         page.push_str(&table(&self.writers, Share::Step, "clear µs", true));
         page.push_str("\n## Reading\n\nTexts of these sizes, with the terms of their jobs; \"clear\" as above.\n\n");
         page.push_str(&table(&self.readers, Share::Term, "clear µs", true));
-        if self.lacks_reader() {
-            let _ = writeln!(page, "\n{NO_READER}");
-        }
         page.push_str(include_str!("bench_notes.md"));
         page
     }
@@ -89,9 +81,6 @@ impl Results {
         text.push_str(&table(&self.writers, Share::Step, "clear µs", false));
         text.push('\n');
         text.push_str(&table(&self.readers, Share::Term, "clear µs", false));
-        if self.lacks_reader() {
-            let _ = writeln!(text, "{NO_READER}");
-        }
         for line in self.findings() {
             let _ = writeln!(text, "{line}");
         }

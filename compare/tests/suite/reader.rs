@@ -1,6 +1,6 @@
 //! The reader: its refusals in order, its areas, its limits, and texts of any depth.
 
-use crate::{exact_read, plain_read};
+use crate::{exact, exact_expand, exact_read, plain_read};
 use nezkaldo_compare::answer::{Packed, Reason, Refusal};
 use nezkaldo_compare::bundle::{
     LEFT, MAX_BYTES, MAX_WORDS, RIGHT, Section, counts_of, to_bytes, to_words,
@@ -301,18 +301,18 @@ fn vectors_of_the_request() {
     let text = include_str!("../../vectors/req01.txt");
     let party = |name, read, longest_text| Party {
         name,
-        check: None,
-        expand: None,
-        read: Some(read),
+        check: &exact,
+        expand: &exact_expand,
+        read,
         longest_text,
     };
     let mut parties = vec![
         party("Rust", &exact_read as Reader, usize::MAX),
         party("the plain reading", &plain_read, 2_000),
     ];
-    match ffi::library().and_then(|library| library.read) {
-        Some(read) => parties.push(party("the library", read, usize::MAX)),
-        None => eprintln!("no proved reader in this build: not held to the vectors"),
+    match ffi::library() {
+        Some(library) => parties.push(party("the library", library.read, usize::MAX)),
+        None => eprintln!("no proved library in this build: not held to the vectors"),
     }
     let report = vectors::run(text, &BTreeMap::new(), &parties);
     assert!(report.agrees(), "{report}");
