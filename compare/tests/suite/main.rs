@@ -3,6 +3,7 @@
 mod agreement;
 mod examples;
 mod limits;
+mod long_texts;
 mod parties;
 mod reader;
 mod teeth;
