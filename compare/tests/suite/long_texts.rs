@@ -2,7 +2,7 @@
 //! stack that the header asks for: each ends with the right answer and leaves its areas as
 //! document 01 says. Times are printed (`-- --nocapture`), never judged.
 
-use crate::exact_read;
+use crate::{exact_read, with_stack};
 use nezkaldo_compare::answer::Packed;
 use nezkaldo_compare::bundle::{MAX_BYTES, MAX_WORDS, to_bytes};
 use nezkaldo_compare::compare_reader::{Reader, call};
@@ -10,7 +10,6 @@ use nezkaldo_compare::compare_writer::Areas;
 use nezkaldo_compare::expand::SETS;
 use nezkaldo_compare::ffi;
 use nezkaldo_compare::read::job;
-use std::thread;
 use std::time::Instant;
 
 /// f33 is an item, f34 a predicate of two items, f35 takes so many truth values; v1 is an
@@ -23,7 +22,6 @@ fn declarations(width: u32) -> Vec<u8> {
     to_bytes(&words)
 }
 
-const STACK: usize = 4 << 20;
 const MEGABYTES: usize = 10_000_000;
 const ENOUGH: [usize; 3] = [MAX_BYTES, MAX_WORDS, SETS];
 
@@ -42,16 +40,12 @@ fn hold(name: &str, text: &str, expected: Answer) {
 /// with longer ones too.
 fn hold_with(width: u32, name: &str, text: &str, expected: Answer) {
     let declarations = declarations(width);
-    thread::scope(|scope| {
-        let both = || {
-            hold_one("Rust", &exact_read, name, (&declarations, text), expected);
-            match ffi::library() {
-                Some(it) => hold_one("library", it.read, name, (&declarations, text), expected),
-                None => eprintln!("no proved library in this build: not held to {name}"),
-            }
-        };
-        let thread = thread::Builder::new().stack_size(STACK).spawn_scoped(scope, both);
-        assert!(thread.unwrap().join().is_ok(), "{name}");
+    with_stack(|| {
+        hold_one("Rust", &exact_read, name, (&declarations, text), expected);
+        match ffi::library() {
+            Some(it) => hold_one("library", it.read, name, (&declarations, text), expected),
+            None => eprintln!("no proved library in this build: not held to {name}"),
+        }
     });
 }
 

@@ -1,6 +1,6 @@
 //! The reader: its refusals in order, its areas and its limits.
 
-use crate::{exact, exact_expand, exact_read, plain_read};
+use crate::{exact, exact_expand, exact_read, plain_read, with_stack};
 use nezkaldo_compare::answer::{Packed, Reason, Refusal};
 use nezkaldo_compare::bundle::{
     LEFT, MAX_BYTES, MAX_WORDS, RIGHT, Section, counts_of, to_bytes, to_words,
@@ -260,6 +260,10 @@ fn every_short_text() {
 /// the texts there have every number.
 #[test]
 fn vectors_of_the_request() {
+    with_stack(hold_to_vectors);
+}
+
+fn hold_to_vectors() {
     let text = include_str!("../../vectors/req01.txt");
     let party = |name, read, longest_text| Party {
         name,
