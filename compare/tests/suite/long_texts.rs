@@ -133,6 +133,28 @@ fn twenty_thousand_deep() {
     hold("let, open", &"(let ((v2 ".repeat(depth), Refused(19, 200_000));
 }
 
+/// What comes after the deep part is judged after it. The library's time grows with length
+/// times depth there: it is held to 2,000 levels, the Rust reader to more.
+#[test]
+fn deep_first_parts() {
+    for (open, close) in [("(or ", " v2)"), ("(= ", " v2)"), ("(let ((v2 ", ")) v2)")] {
+        hold(open, &nested(open, 2_000, "v2", close), Refused(16, 0));
+        hold(open, &nested(open, 2_000, "v1", close), Refused(8, 0));
+        let text = format!("(and {} v1)", nested(open, 2_000, "v2", close));
+        hold(open, &text, Refused(8, 0));
+        let rust = |inside, expected| {
+            let text = nested(open, 500_000, inside, close);
+            hold_one("Rust", &exact_read, open, (&declarations(0), &text), expected);
+        };
+        with_stack(|| rust("v2", Refused(16, 0)));
+        with_stack(|| rust("v1", Refused(8, 0)));
+    }
+    for (inside, expected) in [("v2", Refused(16, 0)), ("v1", Refused(8, 0))] {
+        let text = nested("(not ", 2_000_000, inside, ")");
+        hold_one("Rust", &exact_read, "not", (&declarations(0), &text), expected);
+    }
+}
+
 /// The deepest that fits, and one and two more; the thread's stack is enough.
 #[test]
 fn at_the_limit_of_terms() {
