@@ -1,14 +1,11 @@
-//! Looks for the proved library and sets `proved` where it is there: check and expand
-//! are then linked, and an archive that lacks one does not link. Where the archive has
-//! the reader too, `proved_reader` is set. Without the library the project builds
-//! Rust-only.
+//! Looks for the proved library and sets `proved` where it is there: its three calls are
+//! then linked, and an archive that lacks one does not link. Without the library the
+//! project builds Rust-only.
 
+use std::env;
 use std::path::PathBuf;
-use std::{env, fs};
 
 const ARCHIVE: &str = "libnezkaldo.a";
-/// The reader's symbol, as an archive spells it.
-const READER: &[u8] = b"nezkaldo_read\0";
 
 fn main() {
     println!("cargo:rerun-if-env-changed=NEZKALDO_LIB_DIR");
@@ -34,8 +31,4 @@ fn main() {
     println!("cargo:rustc-link-search=native={}", folder.display());
     println!("cargo:rustc-link-lib=static=nezkaldo");
     println!("cargo:rustc-cfg=proved");
-    let bytes = fs::read(&archive).expect("a file that is there");
-    if bytes.windows(READER.len()).any(|window| window == READER) {
-        println!("cargo:rustc-cfg=proved_reader");
-    }
 }

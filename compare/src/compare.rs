@@ -164,7 +164,7 @@ impl Report {
         steps_hold(&plain, 1, &mut rng).err()
     }
 
-    /// The numbers of the checker's table answered fewer than `least` times.
+    /// The numbers of the checker's table, and 0, answered fewer than `least` times.
     pub fn unseen(&self, least: u64) -> Vec<u32> {
         self.tally.unseen(numbers(), least)
     }

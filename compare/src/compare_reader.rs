@@ -1,7 +1,8 @@
 //! The comparison of the proved reader with the Rust reader on the same declarations
 //! and texts: same answer, same bytes and words of every lent area. A share of the short
-//! texts goes to the plain reading too. What is written has to be a job with the formula
-//! that was printed, and its expansion has to be accepted and have the formula's value.
+//! texts goes to the plain reading too, and a share of all to the program read. What is
+//! written has to be a job with the formula that was printed, and its expansion has to be
+//! accepted and have the formula's value.
 
 use crate::answer::{Packed, Reason, Refusal};
 use crate::bundle::{RIGHT, to_words};
@@ -11,6 +12,7 @@ use crate::eval::{Evaluator, World};
 use crate::expand::written;
 use crate::generate::texts::{Text, TextFamily, case};
 use crate::naive::{Plain, Tree, load, tables};
+use crate::programs::{self, TextProgram};
 use crate::rng::Rng;
 use crate::tally::{self, ENOUGH, Tally};
 use std::path::Path;
@@ -46,6 +48,8 @@ pub struct Readers<'a> {
     pub reference: Reader<'a>,
     /// The plain reading.
     pub plain: Option<Reader<'a>>,
+    /// The program read.
+    pub program: Option<TextProgram<'a>>,
     /// Each has to accept the expansion of what is written.
     pub checkers: &'a [Checker<'a>],
 }
@@ -67,8 +71,10 @@ pub struct Report {
     pub differences: Vec<Difference>,
 }
 
-/// The plain reading gets one short text in so many, up to so many bytes.
+/// The plain reading gets one short text in so many, the program one text in so many.
 const PLAIN: u64 = 2;
+const PROGRAM: u64 = 50;
+/// A short text has up to so many bytes.
 pub const SHORT: usize = 1_500;
 /// The formula's value is compared in so many worlds.
 const WORLDS: u32 = 6;
@@ -79,7 +85,7 @@ impl Default for Report {
             texts: 0,
             bytes: 0,
             calls: 0,
-            tally: Tally::new(PLAIN, u64::MAX),
+            tally: Tally::new(PLAIN, PROGRAM),
             formulas: 0,
             expanded: 0,
             values: 0,
@@ -141,13 +147,23 @@ impl Report {
             }
         }
         let too_large = Refusal::whole(Reason::Full).packed();
-        match answer >> 32 {
+        let problem = match answer >> 32 {
             0 => self.misread(readers.checkers, &job, formula.as_deref(), index),
             _ if formula.is_some() && answer != too_large => {
                 Some(format!("the text of a formula is {}", Packed(answer)))
             }
             _ => None,
+        };
+        if problem.is_some() {
+            return problem;
         }
+        let program = readers.program.filter(|_| text.len() <= programs::LONGEST_TEXT)?;
+        if !self.tally.program.takes(*family, answer) {
+            return None;
+        }
+        let refusal = Packed(answer).to_string();
+        let expected = if answer >> 32 == 0 { Ok(&job[..]) } else { Err(&refusal[..]) };
+        programs::text_difference(program, (declarations, text), expected)
     }
 
     /// What is wrong with a job, given the job with the printed formula.

@@ -12,25 +12,14 @@ use crate::compare_writer::Writer;
 pub struct Library {
     pub check: Checker<'static>,
     pub expand: Writer<'static>,
-    /// `None` where the archive has no `nezkaldo_read`.
-    pub read: Option<Reader<'static>>,
+    pub read: Reader<'static>,
 }
 
 /// `None` where the library was not there when this was built.
 pub fn library() -> Option<Library> {
     #[cfg(proved)]
-    return Some(Library { check: &check, expand: &expand, read: reader() });
+    return Some(Library { check: &check, expand: &expand, read: &read });
     #[cfg(not(proved))]
-    None
-}
-
-#[cfg(all(proved, proved_reader))]
-fn reader() -> Option<Reader<'static>> {
-    Some(&read)
-}
-
-#[cfg(all(proved, not(proved_reader)))]
-fn reader() -> Option<Reader<'static>> {
     None
 }
 
@@ -47,7 +36,6 @@ unsafe extern "C" {
         sets: *mut u64,
         sets_len: usize,
     ) -> u64;
-    #[cfg(proved_reader)]
     fn nezkaldo_read(
         declarations: *const u8,
         declarations_len: usize,
@@ -86,7 +74,7 @@ fn expand(job: &[u8], out: &mut [u8], words: &mut [u32], sets: &mut [u64]) -> u6
     }
 }
 
-#[cfg(all(proved, proved_reader))]
+#[cfg(proved)]
 fn read(
     declarations: &[u8],
     text: &[u8],

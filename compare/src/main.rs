@@ -29,7 +29,8 @@ usage: compare COMMAND [OPTIONS]
            [--texts N]          texts for the reader (default: files / 10)
            [--least N]          fail if a number was seen less often (default 1)
            [--failures DIR]     where to write files that differ (default: failures)
-           [--programs DIR]     where check_bundle and expand_job are (default: ../target/bin)
+           [--programs DIR]     where check_bundle, expand_job and read_text are
+                                (default: ../target/bin)
            [--self]             no library and no programs: the plain reading in their place
   mutants  --files N --seed S   how the broken copies are told apart
   bench    [--ms N]             time for each measurement (default 120)
@@ -42,6 +43,7 @@ usage: compare COMMAND [OPTIONS]
   vectors  FILE                 the library and the Rust programs against cases with answers
            [--moves FILE --until NN]
                                 with the answers that requests up to NN move
+           [--self]             no library
   smt      FILE                 the claim of an accepted file as an SMT-LIB query
   file     --seed S --index I --out FILE [--job | --text]
                                 write one generated file, or job, or text (its declarations
@@ -128,7 +130,6 @@ fn run_compare(arguments: &Arguments) -> Result<ExitCode, String> {
         failures: PathBuf::from(arguments.text("failures").unwrap_or("failures")),
     };
     let alone = arguments.flag("self");
-    let proved_reader = ffi::library().and_then(|library| library.read).filter(|_| !alone);
     let good = if alone {
         println!("no library: the Rust programs against a second, plain reading");
         let writers = Writers {
@@ -142,23 +143,17 @@ fn run_compare(arguments: &Arguments) -> Result<ExitCode, String> {
             subject: None,
             reference: &exact_read,
             plain: Some(&plain_read),
+            program: None,
             checkers: &[&plain_check, &exact_check],
         };
         run.compare(Checkers::two(&plain_check, &exact_check), writers, readers)?
     } else {
-        let Some(Library { check, expand, read }) = ffi::library() else {
-            return Err("there is no proved library in this build. Run `rt staticlib nezkaldo` \
-                        in the repository's root, or set NEZKALDO_LIB_DIR to the folder of \
-                        libnezkaldo.a, and build again; or compare with --self."
-                .into());
-        };
+        let Library { check, expand, read } = library()?;
         let folder = Path::new(arguments.text("programs").unwrap_or(programs::FOLDER));
         let check_program = programs::program(folder, programs::CHECK)?;
         let expand_program = programs::program(folder, programs::EXPAND)?;
+        let read_program = programs::text_program(folder, programs::READ)?;
         println!("the proved library and the programs against the Rust programs");
-        if read.is_none() {
-            println!("the library has no reader: the Rust reader against the plain reading alone");
-        }
         let checkers = Checkers {
             subject: check,
             reference: &exact_check,
@@ -173,23 +168,35 @@ fn run_compare(arguments: &Arguments) -> Result<ExitCode, String> {
             checkers: &[check, &exact_check],
         };
         let readers = Readers {
-            subject: read,
+            subject: Some(read),
             reference: &exact_read,
             plain: Some(&plain_read),
+            program: Some(&read_program),
             checkers: &[check, &exact_check],
         };
         run.compare(checkers, writers, readers)?
     };
-    println!(
-        "{}",
-        match (good, alone, proved_reader.is_some()) {
-            (true, false, true) => "no difference",
-            (true, false, false) => "no difference, without the library's reader",
-            (true, true, _) => "no difference, without the library",
-            (false, ..) => "FAILED",
-        }
-    );
+    println!("{}", verdict(good, alone));
     Ok(if good { ExitCode::SUCCESS } else { ExitCode::FAILURE })
+}
+
+/// The library, or what to do where it is not there.
+fn library() -> Result<Library, String> {
+    ffi::library().ok_or_else(|| {
+        "there is no proved library in this build. Run `rt staticlib nezkaldo` in the \
+         repository's root, or set NEZKALDO_LIB_DIR to the folder of libnezkaldo.a, and build \
+         again; or compare with --self."
+            .into()
+    })
+}
+
+/// The last line of a comparison.
+fn verdict(good: bool, alone: bool) -> &'static str {
+    match (good, alone) {
+        (true, false) => "no difference",
+        (true, true) => "no difference, without the library",
+        (false, _) => "FAILED",
+    }
 }
 
 /// What a comparison runs on, and what it has to have seen.
@@ -290,7 +297,7 @@ fn run_bench(arguments: &Arguments) -> Result<ExitCode, String> {
             .iter()
             .filter(|typed| typed.name.contains(only))
             .map(|typed| {
-                let proved = proved.and_then(|library| library.read);
+                let proved = proved.map(|library| library.read);
                 bench::time_reader(typed, proved, &exact_read, budget)
             })
             .collect(),
@@ -370,7 +377,7 @@ fn run_read(arguments: &Arguments) -> Result<ExitCode, String> {
 }
 
 fn run_vectors(arguments: &Arguments) -> Result<ExitCode, String> {
-    arguments.allow(&["moves", "until"], 1)?;
+    arguments.allow(&["moves", "until", "self"], 1)?;
     let path = arguments.plain().first().ok_or("vectors needs a file")?;
     let text = read_text(path)?;
     let name = Path::new(path).file_stem().unwrap_or_default().to_string_lossy();
@@ -383,32 +390,31 @@ fn run_vectors(arguments: &Arguments) -> Result<ExitCode, String> {
     };
     let rust = Party {
         name: "Rust",
-        check: Some(&exact_check),
-        expand: Some(&exact_expand),
-        read: Some(&exact_read),
+        check: &exact_check,
+        expand: &exact_expand,
+        read: &exact_read,
         longest_text: usize::MAX,
     };
     let plain = Party {
         name: "the plain reading",
-        check: Some(&plain_check),
-        expand: Some(&plain_expand),
-        read: Some(&plain_read),
+        check: &plain_check,
+        expand: &plain_expand,
+        read: &plain_read,
         longest_text: vectors::SHORT,
     };
     let mut parties = vec![rust, plain];
-    match ffi::library() {
-        Some(Library { check, expand, read }) => parties.push(Party {
-            name: "the library",
-            check: Some(check),
-            expand: Some(expand),
-            read,
-            longest_text: usize::MAX,
-        }),
-        None => println!("there is no proved library in this build: Rust alone"),
+    let alone = arguments.flag("self");
+    if !alone {
+        let Library { check, expand, read } = library()?;
+        let longest_text = usize::MAX;
+        parties.push(Party { name: "the library", check, expand, read, longest_text });
     }
     let report = vectors::run(&text, &moved, &parties);
+    if report.cases == 0 {
+        return Err(format!("{path} has no case"));
+    }
     print!("{report}");
-    println!("{}", if report.agrees() { "no difference" } else { "FAILED" });
+    println!("{}", verdict(report.agrees(), alone));
     Ok(if report.agrees() { ExitCode::SUCCESS } else { ExitCode::FAILURE })
 }
 

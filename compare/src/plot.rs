@@ -1,11 +1,11 @@
-//! The benchmark as a picture: bars for each file, lines for the time a step.
+//! The benchmark as a picture: bars for each file and each text, lines for the time a step.
 //! Both scales are logarithmic in time.
 
 use crate::bench::{Row, Share};
 use crate::report::{Results, number, thousands};
 use std::fmt::Write;
 
-const WIDTH: f64 = 1180.0;
+const WIDTH: f64 = 1560.0;
 const HEIGHT: f64 = 470.0;
 const TOP: f64 = 70.0;
 const BOTTOM: f64 = 350.0;
@@ -58,8 +58,9 @@ pub fn svg(results: &Results) -> String {
     );
     let proved = results.checks.iter().any(|row| row.proved.is_some());
     picture.legend(proved);
-    picture.bars(&results.checks, 70.0, 780.0);
+    picture.bars("Time to check a file", &results.checks, 70.0, 780.0);
     picture.lines(&results.doubling, 870.0, 1155.0);
+    picture.bars("Time to read a text", &results.readers, 1245.0, 1535.0);
     picture.svg.push_str("</svg>\n");
     picture.svg
 }
@@ -94,7 +95,8 @@ impl Picture {
 
     fn legend(&mut self, proved: bool) {
         let mut x = 70.0;
-        for (name, colour) in [("proved", PROVED), ("Rust", RUST), ("copy", COPY)] {
+        for (name, colour) in [("proved", PROVED), ("Rust", RUST), ("copy; for texts: clear", COPY)]
+        {
             if name == "proved" && !proved {
                 continue;
             }
@@ -115,12 +117,12 @@ impl Picture {
         self.line((left, BOTTOM), (right, BOTTOM), INK, 1.0);
     }
 
-    /// A group of bars for each file.
-    fn bars(&mut self, rows: &[Row], left: f64, right: f64) {
+    /// A group of bars for each file or text.
+    fn bars(&mut self, title: &str, rows: &[Row], left: f64, right: f64) {
         let times =
             rows.iter().flat_map(|row| [Some(row.copy), row.proved, Some(row.rust)]).flatten();
         let scale = Scale::over(times, BOTTOM, TOP);
-        self.frame("Time to check a file", left, right, &scale, "µs");
+        self.frame(title, left, right, &scale, "µs");
         let group = (right - left) / rows.len() as f64;
         for (index, row) in rows.iter().enumerate() {
             let bars: Vec<(f64, &str)> = [

@@ -15,15 +15,10 @@ pub struct Results {
 }
 
 const MISSING: &str = "The proved library was not there: Rust alone.";
-const NO_READER: &str = "The proved library had no reader: Rust alone.";
 
 impl Results {
     fn has_proved(&self) -> bool {
         self.checks.iter().any(|row| row.proved.is_some())
-    }
-
-    fn lacks_reader(&self) -> bool {
-        self.has_proved() && self.readers.iter().any(|row| row.proved.is_none())
     }
 
     /// The page for docs/.
@@ -52,7 +47,7 @@ impl Results {
             "\nSame run, same input, both built for release; the area is cleared before each call, and \
              that is not timed. Each time is the median of many calls, the two checkers in turn. \"Copy\" is \
              the time to copy the file's bytes: no checker can be faster than that.\n\n\
-             ![time for each file, and time a step](benchmark.svg)\n\n## Checking\n\n",
+             ![time for each file, time a step, and time for each text](benchmark.svg)\n\n## Checking\n\n",
         );
         page.push_str(&table(&self.checks, Share::Step, "copy µs", true));
         page.push_str(
@@ -67,9 +62,6 @@ impl Results {
         page.push_str(&table(&self.writers, Share::Step, "clear µs", true));
         page.push_str("\n## Reading\n\nTexts of these sizes, with the terms of their jobs; \"clear\" as above.\n\n");
         page.push_str(&table(&self.readers, Share::Term, "clear µs", true));
-        if self.lacks_reader() {
-            let _ = writeln!(page, "\n{NO_READER}");
-        }
         page.push_str(include_str!("bench_notes.md"));
         page
     }
@@ -89,9 +81,6 @@ impl Results {
         text.push_str(&table(&self.writers, Share::Step, "clear µs", false));
         text.push('\n');
         text.push_str(&table(&self.readers, Share::Term, "clear µs", false));
-        if self.lacks_reader() {
-            let _ = writeln!(text, "{NO_READER}");
-        }
         for line in self.findings() {
             let _ = writeln!(text, "{line}");
         }
@@ -120,6 +109,16 @@ impl Results {
                     most / least
                 ));
             }
+        }
+        // The texts by their size; the deep one is another kind.
+        let sizes = self.readers.iter().filter(|row| row.name.ends_with("KB"));
+        let times: Vec<f64> =
+            sizes.filter_map(|row| Some(row.proved? / row.bytes as f64)).collect();
+        if let Some((least, most)) = range(&times) {
+            lines.push(format!(
+                "The time a byte of text stays within {:.2} times from 1 to 58 KB.",
+                most / least
+            ));
         }
         let full = self.checks.iter().find(|row| row.name == FULL);
         if let Some(copies) = full.and_then(Row::copies) {
@@ -299,17 +298,37 @@ mod tests {
         assert_eq!(number(1234.5), "1,235");
     }
 
+    fn row(proved: Option<f64>) -> Row {
+        let (name, copy, rust) = ("a".into(), 0.05, 2.0);
+        Row { name, bytes: 1024, terms: 2, steps: 4, copy, proved, rust }
+    }
+
+    /// Texts have a table of their own, with the ratio, a line of what it shows, and bars.
+    #[test]
+    fn texts_are_shown() {
+        let text = |name: &str, proved| Row { name: name.into(), ..row(Some(proved)) };
+        let readers = vec![text("text, 1 KB", 1.0), text("text, 58 KB", 1.5), text("deep", 3.0)];
+        let rows = || vec![row(Some(3.0)), row(Some(3.0))];
+        let (checks, terms, doubling, writers) = (rows(), rows(), rows(), rows());
+        let results = Results { checks, terms, doubling, writers, readers };
+        for page in [results.markdown(), results.text()] {
+            for line in [
+                "The proved reader takes 0.50 to 1.50 times as long as the Rust reader.\n",
+                "The time a byte of text stays within 1.50 times from 1 to 58 KB.\n",
+            ] {
+                assert!(page.contains(line), "{page}");
+            }
+        }
+        let page = results.markdown();
+        let (_, reading) = page.split_once("\n## Reading\n").unwrap();
+        assert!(reading.contains("| text, 58 KB | 1,024 |     2 |"), "{reading}");
+        assert!(reading.contains("|  0.75 |\n"), "{reading}");
+        let picture = crate::plot::svg(&results);
+        assert!(picture.contains("Time to read a text") && picture.contains("text, 58 KB"));
+    }
+
     #[test]
     fn tables_with_and_without_the_library() {
-        let row = |proved| Row {
-            name: "a".into(),
-            bytes: 1024,
-            terms: 2,
-            steps: 4,
-            copy: 0.05,
-            proved,
-            rust: 2.0,
-        };
         let alone = table(&[row(None)], Share::Step, "copy µs", true);
         assert!(alone.starts_with("| file | bytes | steps | copy µs | Rust µs |\n"));
         let both = table(&[row(Some(3.0))], Share::Step, "copy µs", true);

@@ -1,11 +1,11 @@
-//! What both comparisons count and print: inputs and calls by the answer's number,
+//! What the comparisons count and print: inputs and calls by the answer's number,
 //! and the inputs on which something differs.
 
 use crate::answer::Reason;
 use std::collections::BTreeMap;
 use std::fmt::{self, Debug, Display};
 use std::path::{Path, PathBuf};
-use std::{fs, io};
+use std::{fs, io, iter};
 
 /// Stop after so many differences.
 pub const ENOUGH: usize = 10;
@@ -95,10 +95,10 @@ impl<F: Ord + Debug> Tally<F> {
         }
     }
 
-    /// Those of the numbers that were answered fewer than `least` times.
+    /// Those of the numbers, and 0, that were answered fewer than `least` times.
     pub fn unseen(&self, numbers: impl Iterator<Item = Reason>, least: u64) -> Vec<u32> {
-        numbers
-            .map(Reason::number)
+        iter::once(0)
+            .chain(numbers.map(Reason::number))
             .filter(|&number| count(&self.calls, u64::from(number)) < least)
             .collect()
     }

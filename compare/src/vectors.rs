@@ -21,15 +21,15 @@ pub enum Call {
     Read { lengths: [usize; 3], declarations: Vec<u8>, text: Vec<u8> },
 }
 
-/// One of those who are held to the lines, with the calls that they have.
+/// One of those who are held to the lines, with its calls.
 #[allow(missing_debug_implementations)]
 #[derive(Clone, Copy)]
 pub struct Party<'a> {
     pub name: &'a str,
-    pub check: Option<Checker<'a>>,
-    pub expand: Option<Writer<'a>>,
-    pub read: Option<Reader<'a>>,
-    /// Longer texts are not given to its reader.
+    pub check: Checker<'a>,
+    pub expand: Writer<'a>,
+    pub read: Reader<'a>,
+    /// Longer texts are not given to its reader; the report names their lines.
     pub longest_text: usize,
 }
 
@@ -62,11 +62,11 @@ impl Call {
     }
 
     /// What a party answers, and what is wrong with the areas that it leaves; `None`
-    /// where it has no such call.
+    /// where the text is too long for it.
     fn ask(&self, party: Party, junk: u64) -> Option<(String, Option<&'static str>)> {
         match self {
             Call::Check { lent, file } => {
-                let (answer, area) = compare::call(party.check?, file, *lent, junk);
+                let (answer, area) = compare::call(party.check, file, *lent, junk);
                 if answer >> 32 != 0 {
                     let dirty = area.iter().any(|&word| word != 0);
                     return Some((refused(answer), dirty.then_some("the area is not zero")));
@@ -75,18 +75,20 @@ impl Call {
                 Some((format!("accepted {} {} 0", words[LEFT], words[RIGHT]), None))
             }
             Call::Sets { lent, file } => {
-                let (_, area) = compare::call(party.check?, file, *lent, junk);
+                let (_, area) = compare::call(party.check, file, *lent, junk);
                 let used = area.iter().rposition(|&word| word != 0).map_or(0, |last| last + 1);
                 let sets: Vec<String> =
                     area[..used].iter().map(|word| format!("{word:016x}")).collect();
                 Some((if used == 0 { "-".into() } else { sets.join(" ") }, None))
             }
             Call::Write { lengths, job } => {
-                Some(written(compare_writer::call(party.expand?, job, *lengths, junk)))
+                Some(written(compare_writer::call(party.expand, job, *lengths, junk)))
             }
             Call::Read { lengths, declarations, text } => {
-                let read = party.read.filter(|_| text.len() <= party.longest_text)?;
-                Some(written(compare_reader::call(read, declarations, text, *lengths, junk)))
+                (text.len() <= party.longest_text).then(|| {
+                    let read = party.read;
+                    written(compare_reader::call(read, declarations, text, *lengths, junk))
+                })
             }
         }
     }
@@ -185,8 +187,8 @@ pub struct Report {
     pub moved: usize,
     /// Cases that a party answered, by its name and the call.
     pub answered: BTreeMap<(String, &'static str), usize>,
-    /// Cases that it did not.
-    pub left_out: BTreeMap<(String, &'static str), usize>,
+    /// The lines, from 1, whose text was too long for it, by its name.
+    pub left_out: BTreeMap<String, Vec<usize>>,
     pub differences: Vec<String>,
 }
 
@@ -215,12 +217,12 @@ pub fn run(text: &str, moved: &BTreeMap<usize, String>, parties: &[Party]) -> Re
 impl Report {
     fn hold(&mut self, place: usize, call: &Call, answer: &str, parties: &[Party]) {
         for &party in parties {
-            let key = (party.name.to_string(), call.name());
+            let name = party.name.to_string();
             let Some((found, problem)) = call.ask(party, place as u64) else {
-                *self.left_out.entry(key).or_default() += 1;
+                self.left_out.entry(name).or_default().push(place);
                 continue;
             };
-            *self.answered.entry(key).or_default() += 1;
+            *self.answered.entry((name, call.name())).or_default() += 1;
             if found != answer {
                 let (found, answer) = (shortened(&found), shortened(answer));
                 let text = format!("line {place}: {} says {found}, not {answer}", party.name);
@@ -248,8 +250,8 @@ impl fmt::Display for Report {
         for ((party, call), count) in &self.answered {
             writeln!(out, "{party}: {count} of {call}")?;
         }
-        for ((party, call), count) in &self.left_out {
-            writeln!(out, "{party}: NOT held to {count} of {call}: no such call, or too long")?;
+        for (party, lines) in &self.left_out {
+            writeln!(out, "{party}: NOT held to lines {lines:?}: too long a text for it")?;
         }
         for difference in &self.differences {
             writeln!(out, "DIFFERENCE: {difference}")?;
@@ -290,6 +292,27 @@ mod tests {
         assert_eq!(found.into_iter().collect::<Vec<_>>(), [(5, "refused 4 0".to_string())]);
         assert_eq!(moves(text, "req01", 5).unwrap().len(), 2);
         assert!(moves(text, "req01", 1).unwrap().is_empty());
+    }
+
+    /// A text that is too long for one party is held to by the others, and its line named.
+    #[test]
+    fn left_out_lines_are_named() {
+        let party = |name, longest_text| Party {
+            name,
+            check: &|_, _| 1 << 32,
+            expand: &|_, _, _, _| 1 << 32,
+            read: &|_, _, out: &mut [u8], _: &mut [u32], _: &mut [u64]| {
+                out.fill(0);
+                1 << 32
+            },
+            longest_text,
+        };
+        let text =
+            "# a comment\nread 3 0 0 - ttrue = refused 1 0\nread 3 0 0 - t(( = refused 1 0\n";
+        let report = run(text, &BTreeMap::new(), &[party("all", 9), party("few", 3)]);
+        assert!(report.agrees(), "{report}");
+        assert_eq!(report.answered.values().copied().collect::<Vec<_>>(), [2, 1]);
+        assert!(report.to_string().contains("few: NOT held to lines [2]"), "{report}");
     }
 
     #[test]

@@ -1,12 +1,12 @@
-//! The comparison on files and jobs: with the proved library and the programs where
+//! The comparison on files, jobs and texts: with the proved library and the programs where
 //! they are there, and with the plain readings always.
 
-use crate::{exact, exact_expand, exact_read, plain, plain_expand, plain_read};
+use crate::{exact, exact_expand, exact_read, plain, plain_expand, plain_read, with_stack};
 use nezkaldo_compare::compare::{self, Checkers};
 use nezkaldo_compare::compare_reader::{self, Readers};
 use nezkaldo_compare::compare_writer::{self, Writers};
 use nezkaldo_compare::ffi::{self, Library};
-use nezkaldo_compare::programs::{self, Program};
+use nezkaldo_compare::programs::{self, Program, TextProgram};
 use std::path::Path;
 
 const SEED: u64 = 20;
@@ -59,6 +59,7 @@ fn the_two_readings_agree_on_texts() {
         subject: None,
         reference: &exact_read,
         plain: Some(&plain_read),
+        program: None,
         checkers: &[&plain, &exact],
     });
 }
@@ -98,15 +99,22 @@ fn the_proved_writer_agrees() {
 
 #[test]
 fn the_proved_reader_agrees() {
-    let Some(Library { check, read: Some(read), .. }) = ffi::library() else {
-        eprintln!("no proved reader in this build: not compared");
-        return;
-    };
-    check_texts(Readers {
-        subject: Some(read),
-        reference: &exact_read,
-        plain: Some(&plain_read),
-        checkers: &[check, &exact],
+    with_stack(|| {
+        let Some(Library { check, read, .. }) = ffi::library() else {
+            eprintln!("no proved library in this build: not compared");
+            return;
+        };
+        let program = programs::text_program(Path::new(programs::FOLDER), programs::READ).ok();
+        if program.is_none() {
+            eprintln!("no program read: not compared");
+        }
+        check_texts(Readers {
+            subject: Some(read),
+            reference: &exact_read,
+            plain: Some(&plain_read),
+            program: program.as_ref().map(|program| program as TextProgram),
+            checkers: &[check, &exact],
+        });
     });
 }
 

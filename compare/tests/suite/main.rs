@@ -3,6 +3,7 @@
 mod agreement;
 mod examples;
 mod limits;
+mod long_texts;
 mod parties;
 mod reader;
 mod teeth;
@@ -14,6 +15,20 @@ use nezkaldo_compare::bundle::{Section, to_bytes};
 use nezkaldo_compare::{
     check, compare_reader, compare_writer, expand, naive, naive_expand, naive_read, read,
 };
+use std::{panic, thread};
+
+/// The stack that the header asks for; a test's thread has less.
+const STACK: usize = 4 << 20;
+
+/// Runs in a thread with that stack.
+pub fn with_stack(work: impl FnOnce() + Send) {
+    thread::scope(|scope| {
+        let thread = thread::Builder::new().stack_size(STACK).spawn_scoped(scope, work);
+        if let Err(panic) = thread.expect("a thread starts").join() {
+            panic::resume_unwind(panic);
+        }
+    });
+}
 
 /// The checker's answer in the library's form.
 pub fn exact(file: &[u8], free: &mut [u64]) -> u64 {

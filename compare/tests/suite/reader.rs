@@ -1,6 +1,6 @@
-//! The reader: its refusals in order, its areas, its limits, and texts of any depth.
+//! The reader: its refusals in order, its areas and its limits.
 
-use crate::{exact_read, plain_read};
+use crate::{exact, exact_expand, exact_read, plain_read, with_stack};
 use nezkaldo_compare::answer::{Packed, Reason, Refusal};
 use nezkaldo_compare::bundle::{
     LEFT, MAX_BYTES, MAX_WORDS, RIGHT, Section, counts_of, to_bytes, to_words,
@@ -11,7 +11,6 @@ use nezkaldo_compare::ffi;
 use nezkaldo_compare::read::{job, read};
 use nezkaldo_compare::vectors::{self, Party};
 use std::collections::BTreeMap;
-use std::time::{Duration, Instant};
 
 /// f33 is an item, f34 a predicate of two items, f35 a truth value; v1 is an item, v2 a
 /// truth value.
@@ -223,43 +222,6 @@ fn sections_fit_to_their_limits() {
     assert_eq!(answer_to(&declarations, many.as_bytes()), (16, 0));
 }
 
-/// 19, 20 and 8 are judged over the whole text, at any depth, before 16.
-#[test]
-fn texts_of_any_depth() {
-    let (open, closed) = ("(not ".repeat(20_000), ")".repeat(20_000));
-    assert_eq!(answer(&open), (19, 100_000));
-    assert_eq!(answer(&format!("{open}v2{closed}")), (16, 0));
-    assert_eq!(answer(&format!("{open}v1{closed}")), (8, 0));
-    assert_eq!(answer(&format!("{open}v9{closed}")), (20, 100_000));
-    assert_eq!(answer(&format!("{open}v2{closed})")), (19, 120_002));
-    assert_eq!(answer(&format!("{open}v2{}", &closed[1..])), (19, 120_001));
-    let lets = "(let ((v2 ".repeat(20_000);
-    assert_eq!(answer(&lets), (19, 200_000));
-    assert_eq!(answer(&format!("{lets}v2{}", ")) v2)".repeat(20_000))), (16, 0));
-    assert_eq!(answer(&format!("{lets}v1{}", ")) v2)".repeat(20_000))), (8, 0));
-    let bindings = "(v2 true)".repeat(5_000);
-    assert_eq!(answer(&format!("(let ({bindings}) v2)")), (8, 0));
-}
-
-/// 10 MB, and neither the stack nor patience runs out.
-#[test]
-fn ten_megabytes() {
-    let begun = Instant::now();
-    let brackets = "(".repeat(10_000_000);
-    assert_eq!(answer(&brackets), (19, 1));
-    let open = "(not ".repeat(2_000_000);
-    assert_eq!(answer(&open), (19, 10_000_000));
-    let closed = format!("{open}v2{}", ")".repeat(2_000_000));
-    assert_eq!(answer(&closed), (16, 0));
-    let wide = format!("(f34{})", " v1".repeat(3_000_000));
-    assert_eq!(answer(&wide), (8, 0));
-    let run = "x".repeat(10_000_000);
-    assert_eq!(answer(&run), (20, 0));
-    let comment = format!(";{}\ntrue", "(".repeat(10_000_000));
-    assert_eq!(answer(&comment), (0, 0));
-    assert!(begun.elapsed() < Duration::from_secs(20), "{:?}", begun.elapsed());
-}
-
 /// Every text of a few lexemes, and every text of a few bytes, goes to both readers.
 #[test]
 fn every_short_text() {
@@ -298,24 +260,33 @@ fn every_short_text() {
 /// the texts there have every number.
 #[test]
 fn vectors_of_the_request() {
+    with_stack(hold_to_vectors);
+}
+
+fn hold_to_vectors() {
     let text = include_str!("../../vectors/req01.txt");
     let party = |name, read, longest_text| Party {
         name,
-        check: None,
-        expand: None,
-        read: Some(read),
+        check: &exact,
+        expand: &exact_expand,
+        read,
         longest_text,
     };
     let mut parties = vec![
         party("Rust", &exact_read as Reader, usize::MAX),
         party("the plain reading", &plain_read, 2_000),
     ];
-    match ffi::library().and_then(|library| library.read) {
-        Some(read) => parties.push(party("the library", read, usize::MAX)),
-        None => eprintln!("no proved reader in this build: not held to the vectors"),
+    match ffi::library() {
+        Some(library) => parties.push(party("the library", library.read, usize::MAX)),
+        None => eprintln!("no proved library in this build: not held to the vectors"),
     }
     let report = vectors::run(text, &BTreeMap::new(), &parties);
     assert!(report.agrees(), "{report}");
     assert_eq!(report.cases, 311);
+    // Those that lend short areas are among them.
+    assert_eq!(text.matches(" = refused 4 0\n").count(), 5);
+    for ((party, _), count) in report.answered {
+        assert!(count == 311 || party == "the plain reading", "{party}: {count}");
+    }
     assert_eq!(vectors::refusals(text), [1, 2, 3, 4, 5, 6, 8, 16, 18, 19, 20]);
 }
