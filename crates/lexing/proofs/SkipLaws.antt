@@ -2,6 +2,7 @@
 --     step, past                                        one byte; the text's end
 --     skip-start, skip-on, skip-here, skip-end          white space and comments, as `lexemes::skipped` goes over them
 --     run-start, run-on, run-low, run-other, run-past   a run of symbol characters, as `lexemes::run_end` goes over it
+--     part-more, grows, stops                           one byte more in a run; one that ends it
 use Prim.Native.Nat.{ℕ, zero, suc, _+_, _-_, _*_, _≤_, _<_}
 use native.Mathlib.Omega.{arith}
 use native.Mathlib.Numerals.{add-one}
@@ -164,7 +165,7 @@ module _ (text : List ℕ) (i m j : ℕ) (h : Skipping text i m j) where
 
 -- ---- runs
 
-part-more : (text : List ℕ) (s j : ℕ) → s ≤ j → j < length text → part text s (suc j) ≡ part text s j ++ (getD text j 0 ∷ [])
+pub part-more : (text : List ℕ) (s j : ℕ) → s ≤ j → j < length text → part text s (suc j) ≡ part text s j ++ (getD text j 0 ∷ [])
 part-more text s j o l =
     let q : suc j - s ≡ suc (j - s) = omega arith in
     let p : s + (j - s) ≡ j = omega arith in
@@ -195,7 +196,7 @@ run-start text s l e =
     first k e = rw (e, one)
 
 -- a byte that goes on a run; one that ends it
-grows : (w : List ℕ) (c : ℕ) (k : Class) (cs : List ℕ) → 5 ≤ classCode k → (classCode k ≡ 7 → ⊥)
+pub grows : (w : List ℕ) (c : ℕ) (k : Class) (cs : List ℕ) → 5 ≤ classCode k → (classCode k ≡ 7 → ⊥)
     → ends (within w) k ++ lexemesFrom (onwards (within w) c k) cs ≡ lexemesFrom (within (w ++ (c ∷ []))) cs
 unfolding ends onwards classCode
 grows w c space cs l ne = absurd (omega arith)
@@ -207,7 +208,7 @@ grows w c digit cs l ne = refl
 grows w c symbol cs l ne = refl
 grows w c other cs l ne = absurd (ne refl)
 
-stops : (w : List ℕ) (c : ℕ) (k : Class) (cs : List ℕ) → (classCode k < 5) ⊎ (classCode k ≡ 7)
+pub stops : (w : List ℕ) (c : ℕ) (k : Class) (cs : List ℕ) → (classCode k < 5) ⊎ (classCode k ≡ 7)
     → ends (within w) k ++ lexemesFrom (onwards (within w) c k) cs ≡ word (wordOf w) ∷ (ends between k ++ lexemesFrom (onwards between c k) cs)
 unfolding ends onwards classCode
 stops w c space cs h = refl

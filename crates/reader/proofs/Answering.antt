@@ -1,7 +1,6 @@
 -- The answer to a text, as the code comes to it.
 --     refused-declared                        a check of the declarations fails
---     Declared                                none does
---     formed, areas-long, declared-whole      what is known then, of the file, the areas and the counts that the code has read
+--     formed, areas-long, declared-whole      none does: what is known then, of the file, the areas and the counts that the code has read
 --     copied-formed, copied-ready             the declarations copied into the scratch are ready for more records
 --     refused-text                            19, 20 or 8
 --     Settled, settled, read-as               none of them: the text is read as φ
@@ -20,7 +19,7 @@ use borrow.Author.Tests.{eqb-true}
 use Rattle.bundle.specs.declared.Bundle.{Bundle as Counts}
 use Rattle.bundle.specs.Bundle.{Bundle}
 use Rattle.bundle.specs.Limits.{limits, bytesOf}
-use Rattle.bundle.specs.File.{Whole, bundleAt, bundleOf, countsOf}
+use Rattle.bundle.specs.File.{Whole, bundleAt, bundleOf}
 use Rattle.bundle.proofs.Limits.{within-words}
 use Rattle.logic.specs.declared.Fault.{Fault}
 use Rattle.logic.specs.Tests.{fault}
@@ -54,6 +53,7 @@ use Rattle.reading.specs.Answers.{ReadAs, filedFor, FitsLimits, full, read}
 use Rattle.reading.specs.Reading.{declarationsFault, answerAfter, leaves, reading}
 use Rattle.reading.specs.Demands.{DeclarationsFormed}
 use Rattle.reader.specs.Texts.{isBool, textFault}
+use Rattle.reader.specs.Storing.{Declared}
 use Rattle.reading.proofs.LocalSorts.{sorts-local}
 use Rattle.reading.proofs.TypingExactly.{typing-exactly}
 use Rattle.reading.proofs.Answers.{names-exactly, answers-exactly}
@@ -110,10 +110,6 @@ module _ (f text : List ℕ) (out words sets : ℕ) where
       go (suc m) ne = refl
 
 -- no check of the declarations fails; c is what the code has read
-pub record Declared (f : List ℕ) (out words sets : ℕ) (c : Counts) : Type 0 where
-  pub none : declarationsFault f out words sets .number ≡ 0
-  pub counted : c ≡ countsOf f
-
 module _ {f : List ℕ} {out words sets : ℕ} {c : Counts} (declared : Declared f out words sets c) where
   pub formed : DeclarationsFormed f
   formed = declarations-exactly f out words sets .0 (declared .none) .0

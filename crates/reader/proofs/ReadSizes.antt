@@ -33,7 +33,8 @@ use Rattle.reading.specs.Demands.{DeclarationsFormed}
 use Rattle.reading.proofs.Answers.{answers-exactly}
 use Rattle.reading.proofs.ReadOrder.{declarations-find, declarations-exactly}
 use Rattle.reading.proofs.Demands.{read-exactly, refused-exactly}
-use Rattle.reader.proofs.Answering.{Declared, answer-is}
+use Rattle.reader.specs.Storing.{Declared}
+use Rattle.reader.proofs.Answering.{answer-is}
 
 -- ---- the declarations
 

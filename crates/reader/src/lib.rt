@@ -1,15 +1,15 @@
 // THE PUBLIC READER of formula texts beside declarations.
 pub mod checks; // checks.rt: the checks of the declarations, before the text is read
 pub mod texts; // texts.rt: what refuses a text before its records are placed
+pub mod jobs; // jobs.rt: the job of a text, stored
 
 ghost use lib.ListN.{length};
 ghost use Rattle.expansion.specs.AreasAfter.{Left, Stored};
 ghost use Rattle.reading.specs.Reading.{reading};
-use endings::ReadTerm;
 use expansion::Answer;
 
-// Checks the declarations and the text, places the formula's records in the scratch and stores the job at the start of the output. The rest of the
-// areas is left as it comes.
+// Checks the declarations and the text, places the formula's records in the scratch and stores the job at the start of the output: in one pass over the
+// text, or by every check in its order where the pass is given up. The rest of the areas is left as it comes.
 fn store_read(
     declarations: &[u8],
     text: &[u8],
@@ -28,32 +28,11 @@ fn store_read(
         };
     }
     let b = bundle::words::counts(declarations);
-    let found = texts::text_fault(declarations, b, text, out);
-    if found.number != 0 {
-        return Answer::Refused {
-            number: found.number,
-            record: found.record,
-        };
+    let length = jobs::store_passed(declarations, b, text, out, words);
+    if length != 0 {
+        return Answer::Written { length };
     }
-    files::copies::copy_job(declarations, b, words);
-    let records = formulas::texts::read_records(declarations, b, text, words, b);
-    match records {
-        ReadTerm::Full => Answer::Refused {
-            number: 16,
-            record: 0,
-        },
-        ReadTerm::Done {
-            counts,
-            term,
-            sort: _,
-            end: _,
-        } => {
-            files::stores::store_file(words, counts, term, 0, out);
-            Answer::Written {
-                length: counts.bytes(),
-            }
-        }
-    }
+    jobs::store_checked(declarations, b, text, out, words)
 }
 
 // Reads a text beside declarations, and writes the job whose left is its formula into the output. Whatever stood in the areas before: the scratch
