@@ -299,11 +299,13 @@ module _ (f text : List ℕ) where
   unfolding file
   applied-gives {w₀} {st₀} {cs₀} {h₀} {i₀} {w} {st} {ix} {cs} {top} {i} {c} {first} {w′} {st′} {ix′} {cs′} {r} n g isg v over some one small p m is =
       let z = closes-at text i (sym (v .byte) ∙ over) in
-      let all : PartsEnded D false (lexemesAt text i₀) (lexemesAt text r) (now w₀ cs₀) (now w cs) (halves true st h₀ top) (halves false st h₀ top) (v .variables)
+      let all : PartsEnded D false (lexemesAt text i₀) (lexemesAt text r) (now w₀ cs₀) (now w cs) (halves true st h₀ top) (halves false st h₀ top) (v
+      .variables)
       = parts-end D (subst (λ (ls : List Lexeme). PartsSoFar D false (lexemesAt text i₀) ls (now w₀ cs₀) (now w cs) (halves true st h₀ top)
       (halves false st h₀ top) (v .variables)) (z .1 ∙ ap (λ (k : ℕ). closes ∷ lexemesAt text k) (sym (p .end))) (v .soFar)) in
       let sorts : halves false st h₀ top ≡ first ∷ halves false st (h₀ + 1) top =
-      halves-more false st h₀ top (omega (arith, v .above, some)) (omega (arith, v .asks .height, v .asks .places)) ∙ ap (λ (x : ℕ). x ∷ halves false st (h₀ + 1) top) (sym one) in
+      halves-more false st h₀ top (omega (arith, v .above, some)) (omega (arith, v .asks .height, v .asks .places)) ∙ ap (λ (x : ℕ). x ∷ halves false st (h₀
+      + 1) top) (sym one) in
       record {
         further = omega (arith, v .from, p .end);
         inside = omega (arith, z .0, p .end);
@@ -314,9 +316,11 @@ module _ (f text : List ℕ) where
             (subst (λ (xs : List ℕ). PartsAs D false (lexemesAt text i₀) (lexemesAt text r) (all .all) xs (v .variables)) sorts (all .read))
             (symbol-is m n first is small ∙ sym isg)
             (subst (λ (xs : List ℕ). accepts D g xs ≡ true) sorts (p .takes));
-        put = subst (λ (b : Bundle). PairPut (placeApplication b g (fileAll (all .all) (now w₀ cs₀) .terms)) (resultSort D (signatureOf D g)) h₀ f w′ st′ ix′ cs′)
+        put = subst (λ (b : Bundle). PairPut (placeApplication b g (fileAll (all .all) (now w₀ cs₀) .terms)) (resultSort D (signatureOf D g)) h₀ f w′ st′ ix′
+            cs′)
             (sym (all .bundle))
-            (subst (λ (xs : List ℕ). PairPut (placeApplication (now w cs) g xs) (resultSort D (signatureOf D g)) h₀ f w′ st′ ix′ cs′) (sym (all .terms)) (p .put));
+            (subst (λ (xs : List ℕ). PairPut (placeApplication (now w cs) g xs) (resultSort D (signatureOf D g)) h₀ f w′ st′ ix′ cs′) (sym (all .terms)) (p
+            .put));
       }
 
   -- ---- a pair of a let

@@ -70,7 +70,11 @@ same-length-4 c = search needs
 returns-4 : tie.Need-returns-4
 returns-4 c = (
   c .before .before .before .before .before .before .before .before .pass-formula .ensures .0,
-  λ ne. text-read (c .before .before .before .before .before .before .before .before .before .before .before .before .before .before .before .before .before .before .before .before .args .file .now) (c .before .before .before .before .before .before .before .before .before .before .before .before .before .before .before .before .before .before .before .before .args .text .now) (c .before .before .before .before .before .before .before .before .before .before .before .before .before .past-blanks .ensures) (c .before .before .before .before .before .before .before .before .pass-formula .ensures .1 (c .before .before .before .before .before .if1 .left)) (c .before .before .before .before .past-blanks2 .ensures)
+  λ ne. text-read (c .before .before .before .before .before .before .before .before .before .before .before .before .before .before .before .before .before
+      .before .before .before .args .file .now) (c .before .before .before .before .before .before .before .before .before .before .before .before .before
+      .before .before .before .before .before .before .before .args .text .now) (c .before .before .before .before .before .before .before .before .before
+      .before .before .before .before .past-blanks .ensures) (c .before .before .before .before .before .before .before .before .pass-formula .ensures .1 (c
+      .before .before .before .before .before .if1 .left)) (c .before .before .before .before .past-blanks2 .ensures)
       (c .before .before .before .if2 .left) (sym (c .before .before .half .ensures .0) ∙ c .before .if3 .left) (c .half2 .ensures .0),
 )
 
