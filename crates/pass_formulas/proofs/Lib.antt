@@ -1,5 +1,5 @@
 -- Laws. Each file stands on those above it.
---     ReadingLaws   what is read, put together from its parts
+--     ListLaws      lists that grow at their end
 --     PassTurns     reading in one pass, turn by turn
-pub mod ReadingLaws
+pub mod ListLaws
 pub mod PassTurns

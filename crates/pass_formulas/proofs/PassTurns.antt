@@ -1,5 +1,4 @@
 -- Reading in one pass, turn by turn: what each return gives, from what its calls gave.
---     opens-at, closes-at                       brackets, by their bytes
 --     gives-from, bracket-gives, alone-gives    a formula
 --     quantifier-gives, last-under, next-under  a quantifier
 --     Applying, applying-first, applying-on, applied-gives     the arguments of a symbol
@@ -39,44 +38,27 @@ use Rattle.reading.specs.Local.{accepts}
 use Rattle.reading.specs.Records.{file, fileAll}
 use Rattle.lexing.specs.Counted.{variableAmong}
 use Rattle.lexing.specs.Lexes.{lexemesAt}
-use Rattle.lexing.proofs.SkipLaws.{step, past}
+use Rattle.lexing.proofs.SkipLaws.{past}
 use Rattle.heads.specs.HeadSymbols.{symbolFor}
 use Rattle.formulas.proofs.PartTerms.{variable-called}
 use Rattle.endings.specs.ReadOutcomes.{Held}
+use Rattle.pass_tokens.proofs.BlankLaws.{opens-at, closes-at}
 use Rattle.pass_tokens.specs.declared.Token.{Token}
 use Rattle.pass_tokens.specs.declared.Item.{Item}
 use Rattle.pass_tokens.specs.Tokens.{Blanks, equalOn, WordAt, BoundAt}
 use Rattle.pass_terms.specs.Passing.{declared, countsBy, DeclaredAt, PairPut, ApplicationPut, AlonePut, BinderPut, TruthClosed, Named, LetPut}
-use Rattle.pass_formulas.specs.Readings.{ReadAs, PartsAs, UnderAs, PartsSoFar}
+use Rattle.pass_readings.specs.Readings.{ReadAs, PartsAs, UnderAs, PartsSoFar}
 use Rattle.pass_formulas.specs.PassGives.{Asks, SymbolIs, Gives, GivesUnder, GivesBound, TextRead}
-use Rattle.pass_formulas.proofs.ReadingLaws.{variable-read, symbol-read, parts-start, part-on, pair-on, PartsEnded, parts-end, under-none, under-more}
-use Rattle.pass_formulas.proofs.ReadingLaws.{application-read, quantifier-read, let-read}
+use Rattle.pass_readings.proofs.ReadingLaws.{variable-read, symbol-read, parts-start, part-on, pair-on, PartsEnded, parts-end, under-none, under-more}
+use Rattle.pass_formulas.proofs.ListLaws.{not-has, different-more, map-more}
+use Rattle.pass_readings.proofs.ReadingLaws.{application-read, quantifier-read, let-read}
 
--- ---- bytes
+-- ---- numbers
 
 -- a number that is at most n wherever it is not 0
 pub within-or : (r n : ℕ) → ((r ≡ 0 → ⊥) → r ≤ n) → r ≤ n
 within-or zero n h = omega arith
 within-or (suc r) n h = h (λ z. omega (arith, z))
-
-inside-text : (text : List ℕ) (i c : ℕ) → getD text i 0 ≡ suc c → i < length text
-inside-text text i c e = go (decLe (length text) i)
-  where
-    go : Dec (length text ≤ i) → i < length text
-    go (yes l) = absurd (omega (arith, List·getD-eq-default text 0 l, e))
-    go (no l) = omega arith
-
-pub opens-at : (text : List ℕ) (i : ℕ) → getD text i 0 ≡ 40 → (i < length text) × (lexemesAt text i ≡ opens ∷ lexemesAt text (i + 1))
-unfolding classOf isSymbol ends onwards outside bracket
-opens-at text i e =
-    let l : i < length text = inside-text text i 39 e in
-    (l, rw (add-one i) (step text i l between ∙ ap (λ (c : ℕ). ends between (classOf c) ++ lexemesFrom (onwards between c (classOf c)) (drop (suc i) text)) e))
-
-pub closes-at : (text : List ℕ) (i : ℕ) → getD text i 0 ≡ 41 → (i < length text) × (lexemesAt text i ≡ closes ∷ lexemesAt text (i + 1))
-unfolding classOf isSymbol ends onwards outside bracket
-closes-at text i e =
-    let l : i < length text = inside-text text i 40 e in
-    (l, rw (add-one i) (step text i l between ∙ ap (λ (c : ℕ). ends between (classOf c) ++ lexemesFrom (onwards between c (classOf c)) (drop (suc i) text)) e))
 
 equal-on-truth : (n : ℕ) → equalOn n 0 ≡ n
 equal-on-truth n = go (eqb n 7)
@@ -325,10 +307,6 @@ module _ (f text : List ℕ) where
 
   -- ---- a pair of a let
 
-  not-has : (p : Bool) → not p ≡ true → p ≡ false
-  not-has true e = absurd (false≢true e)
-  not-has false e = refl
-
   pub bound-gives : {w st cs : List ℕ} {h₀ h i e : ℕ} {w′ st₁ ix′ cs′ st′ : List ℕ} {r : ℕ} {x : Item}
       → BoundAt (countsOf f .variables) text i x → (x .end ≡ 0 → ⊥) → not (has (x .variable) (halves false st h₀ h)) ≡ true
       → Gives f text w st cs h (x .end) (lexemesAt text (x .end)) w′ st₁ ix′ cs′ e → Named f text st₁ h (x .variable) e st′ r
@@ -388,35 +366,6 @@ module _ (f text : List ℕ) where
             (subst (λ (xs : List ℕ). PartsSoFar D true (lexemesAt text i) (lexemesAt text i) (now w cs) (now w cs) [] [] xs)
             (sym (noPair false)) (parts-start D true (lexemesAt text i) (now w cs))));
       }
-
-  or-left-false : (p q : Bool) → (p || q) ≡ false → p ≡ false
-  or-left-false true q e = absurd (true≢false e)
-  or-left-false false q e = refl
-
-  or-right-false : (p q : Bool) → (p || q) ≡ false → q ≡ false
-  or-right-false true q e = absurd (true≢false e)
-  or-right-false false q e = e
-
-  eqb-swap : (x y : ℕ) → eqb x y ≡ false → eqb y x ≡ false
-  eqb-swap x y e = ne-eqb y x (λ z. eqb-false x y e (sym z))
-
-  has-more : (ys : List ℕ) (x y : ℕ) → has y ys ≡ false → eqb y x ≡ false → has y (ys ++ (x ∷ [])) ≡ false
-  unfolding has
-  has-more [] x y n e = ap (λ (p : Bool). p || false) e
-  has-more (z ∷ zs) x y n e = ap₂ (λ (p q : Bool). p || q) (or-left-false (eqb y z) (has y zs) n) (has-more zs x y (or-right-false (eqb y z) (has y zs) n) e)
-
-  different-more : (xs : List ℕ) (x : ℕ) → different xs ≡ true → has x xs ≡ false → different (xs ++ (x ∷ [])) ≡ true
-  unfolding different has
-  different-more [] x d n = refl
-  different-more (y ∷ ys) x d n =
-      let apart : eqb x y ≡ false = or-left-false (eqb x y) (has x ys) n in
-      let rest : has x ys ≡ false = or-right-false (eqb x y) (has x ys) n in
-      let was : has y ys ≡ false = not-has (has y ys) (and-left (not (has y ys)) (different ys) d) in
-      ap₂ (λ (p q : Bool). not p && q) (has-more ys x y was (eqb-swap x y apart)) (different-more ys x (and-right (not (has y ys)) (different ys) d) rest)
-
-  map-more : (g : ℕ → ℕ) (xs : List ℕ) (x : ℕ) → map g (xs ++ (x ∷ [])) ≡ map g xs ++ (g x ∷ [])
-  map-more g [] x = refl
-  map-more g (y ∷ ys) x = ap (λ (zs : List ℕ). g y ∷ zs) (map-more g ys x)
 
   pub letting-on : {w₀ st₀ cs₀ : List ℕ} {h₀ i₀ : ℕ} {w st ix cs : List ℕ} {top i c : ℕ} {w₁ st₁ ix₁ cs₁ : List ℕ} {e at c₁ : ℕ}
       → Letting w₀ st₀ cs₀ h₀ i₀ w st ix cs top i c → length w₁ ≡ length w

@@ -26,8 +26,8 @@ use Rattle.heads.specs.HeadSymbols.{symbolFor}
 use Rattle.endings.specs.ReadOutcomes.{Held}
 use Rattle.pass_tokens.specs.Tokens.{equalOn}
 use Rattle.pass_terms.specs.Passing.{declared, countsBy, PairPut}
-use Rattle.pass_formulas.specs.Spelled.{Known}
-use Rattle.pass_formulas.specs.Readings.{ReadAs, UnderAs}
+use Rattle.pass_readings.specs.Spelled.{Known}
+use Rattle.pass_readings.specs.Readings.{ReadAs, UnderAs}
 
 pub record Asks (f text w st ix cs : List ℕ) (h i : ℕ) : Type 0 where
   pub held : Held w ix (countsBy f cs)

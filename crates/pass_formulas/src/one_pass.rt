@@ -141,7 +141,8 @@ fn pass_applied(
     left: usize,
     symbol: usize,
 ) -> usize
-    requires { ⌜ Whole (now file) (countsOf (now file)) × Asks (now file) (now text) (now words) (now stack) (now index) (now counts) height i × (symbol ≤ 4294967295) ⌝ }
+    requires { ⌜ Whole (now file) (countsOf (now file)) × Asks (now file) (now text) (now words) (now stack) (now index) (now counts) height i
+        × (symbol ≤ 4294967295) ⌝ }
     ensures { λ r. ⌜ (length (now (words .exit)) ≡ length (now (words .entry)))
         × ((r ≡ 0 → ⊥) → (w : Word) → SymbolIs (now (file .entry)) w symbol
         → Gives (now (file .entry)) (now (text .entry)) (now (words .entry)) (now (stack .entry)) (now (counts .entry)) height i
@@ -184,8 +185,8 @@ fn pass_quantified(
     left: usize,
     kind: usize,
 ) -> usize
-    requires { ⌜ Whole (now file) (countsOf (now file)) × Asks (now file) (now text) (now words) (now stack) (now index) (now counts) height i × (isBinder kind ≡ true)
-        × (kind ≤ 4) ⌝ }
+    requires { ⌜ Whole (now file) (countsOf (now file)) × Asks (now file) (now text) (now words) (now stack) (now index) (now counts) height i
+        × (isBinder kind ≡ true) × (kind ≤ 4) ⌝ }
     ensures { λ r. ⌜ (length (now (words .exit)) ≡ length (now (words .entry)))
         × ((r ≡ 0 → ⊥) → (q : Binder) → kind ≡ numberOf (binder q)
         → GivesUnder (now (file .entry)) (now (text .entry)) (now (words .entry)) (now (stack .entry)) (now (counts .entry)) height i q

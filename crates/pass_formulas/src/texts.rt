@@ -21,7 +21,8 @@ pub fn pass_text(
     words: &mut [u32],
     counts: &mut [usize; 2],
 ) -> usize
-    requires { ⌜ Whole (now file) (countsOf (now file)) × (b ≡ countsBy (now file) (now counts)) × Ready (now words) b × TablesFormed (bundleIn (now words) b) ⌝ }
+    requires { ⌜ Whole (now file) (countsOf (now file)) × (b ≡ countsBy (now file) (now counts)) × Ready (now words) b
+        × TablesFormed (bundleIn (now words) b) ⌝ }
     ensures { λ r. ⌜ (length (now (words .exit)) ≡ length (now (words .entry)))
         × ((r ≡ 0 → ⊥) → TextRead (now (file .entry)) (now (text .entry)) (now (words .entry)) (now (counts .entry)) (now (words .exit))
         (now (counts .exit)) r) ⌝ }

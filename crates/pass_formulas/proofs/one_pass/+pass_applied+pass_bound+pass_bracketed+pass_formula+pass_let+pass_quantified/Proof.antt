@@ -11,6 +11,7 @@ use mathlib.Core.List.{List, _∷_}
 use mathlib.Core.Bool.{true, false}
 use Prim.Native.Nat.{_≤_}
 use Rattle.grammar.specs.Grammar.{Lexeme, opens}
+use Rattle.pass_tokens.proofs.BlankLaws.{opens-at, closes-at}
 use Rattle.pass_formulas.proofs.PassTurns as P
 use Prim.Native.Nat.{ℕ, _<_}
 use borrow.Fn.Kinds.{In}
@@ -333,7 +334,7 @@ pass-applied-add-apply : (t : ℕ) → pass-applied-lts.Need-add-apply (pass-app
     pass-applied-μ-loop
 pass-applied-add-apply t c = omega (
   arith,
-  P.closes-at (c .before .before .before .before .before .before .before .before .before .before .before .before
+  closes-at (c .before .before .before .before .before .before .before .before .before .before .before .before
       .before .before .before .before .args .text .now) (c .before .before .before .before .before .before .before .before .before .before .loop .at) (sym (c
       .before .before .before .before .before .before .before .before .before .before .loop .inv .byte) ∙ c .before .before .before .before .before .before
       .before .before .before .loop-test .left) .0,
@@ -514,14 +515,14 @@ pass-formula-byte-at-requires t c κs = search needs
 pass-formula-add-pass-bracketed : (t : ℕ) → pass-formula-lts.Need-add-pass-bracketed (pass-formula-calls t) (pass-formula-at t) pass-formula.Post
 pass-formula-add-pass-bracketed t c = omega (
   arith,
-  P.opens-at (c .before .before .before .before .before .before .before .before .before .args .text .now)
+  opens-at (c .before .before .before .before .before .before .before .before .before .args .text .now)
       (c .before .before .before .before .before .before .before .before .before .args .i) (sym (c .before .before .before .before .before .byte-at .ensures) ∙
       c .before .before .before .before .if1 .taken) .0,
 )
 
 pass-formula-pass-bracketed-requires : (t : ℕ) → pass-formula-lts.Need-pass-bracketed-requires (pass-formula-calls t) (pass-formula-at t) pass-formula.Post
 pass-formula-pass-bracketed-requires t c κs = let s = c .before .before .before .before .before .before .before .before .before in
-    let l = P.opens-at (s .args .text .now) (s .args .i) (sym (c .before .before .before .before .before .byte-at .ensures) ∙ c .before .before .before
+    let l = opens-at (s .args .text .now) (s .args .i) (sym (c .before .before .before .before .before .byte-at .ensures) ∙ c .before .before .before
     .before .if1 .taken) .0 in
     (omega (arith, s .pre .0, l), (s .pre .1 .0, P.asks-at (s .pre .1 .1) (omega (arith, l))))
 
@@ -618,7 +619,7 @@ pass-let-loop-again t c = let g = c .before .before .before .before .before .pas
 pass-let-add-past-blanks : (t : ℕ) → pass-let-lts.Need-add-past-blanks (pass-let-calls t) (pass-let-at t) pass-let.Post pass-let-Inv-loop pass-let-μ-loop
 pass-let-add-past-blanks t c = omega (
   arith,
-  P.closes-at (c .before .before .before .before .before .before .before .args .text .now) (c .before .loop .at)
+  closes-at (c .before .before .before .before .before .before .before .args .text .now) (c .before .loop .at)
       (sym (c .before .loop .inv .byte) ∙ c .loop-test .left) .0,
 )
 
@@ -626,7 +627,7 @@ pass-let-past-blanks-requires-3 : (t : ℕ) → pass-let-lts.Need-past-blanks-re
     pass-let-μ-loop
 pass-let-past-blanks-requires-3 t c κs = omega (
   arith,
-  P.closes-at (c .before .before .before .before .before .before .before .args .text .now) (c .before
+  closes-at (c .before .before .before .before .before .before .before .args .text .now) (c .before
       .loop .at) (sym (c .before .loop .inv .byte) ∙ c .loop-test .left) .0,
 )
 
@@ -691,7 +692,7 @@ pass-quantified-byte-at-requires t c κs = search needs
 pass-quantified-add-past-blanks : (t : ℕ) → pass-quantified-lts.Need-add-past-blanks (pass-quantified-calls t) (pass-quantified-at t) pass-quantified.Post
 pass-quantified-add-past-blanks t c = omega (
   arith,
-  P.closes-at (c .before .before .before .before .before .before .args .text .now) (c .before .before
+  closes-at (c .before .before .before .before .before .before .args .text .now) (c .before .before
       .past-blanks .result) (sym (c .before .byte-at .ensures) ∙ c .if1 .taken) .0,
 )
 
@@ -699,7 +700,7 @@ pass-quantified-past-blanks-requires-2 : (t : ℕ) → pass-quantified-lts.Need-
     pass-quantified.Post
 pass-quantified-past-blanks-requires-2 t c κs = omega (
   arith,
-  P.closes-at (c .before .before .before .before .before .before .args .text .now) (c .before
+  closes-at (c .before .before .before .before .before .before .args .text .now) (c .before
       .before .past-blanks .result) (sym (c .before .byte-at .ensures) ∙ c .if1 .taken) .0,
 )
 

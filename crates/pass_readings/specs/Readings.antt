@@ -12,7 +12,7 @@ use Rattle.reading.specs.Local.{headSort, plain, fine}
 use Rattle.reading.specs.Records.{file, fileAll}
 use Rattle.heads.specs.Places.{Part}
 use Rattle.formulas.specs.ReadGives.{termsOf, variableOf}
-use Rattle.pass_formulas.specs.Spelled.{Spelled, SpelledParts, SpelledUnder}
+use Rattle.pass_readings.specs.Spelled.{Spelled, SpelledParts, SpelledUnder}
 
 -- every part's formula passes its tests
 unfoldable pub partsFine : Bundle → List Part → Bool

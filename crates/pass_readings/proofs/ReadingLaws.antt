@@ -32,8 +32,8 @@ use Rattle.heads.specs.HeadSymbols.{symbolFor}
 use Rattle.heads.specs.Places.{Part, afterPart, spellPart, spellParts}
 use Rattle.formulas.specs.ReadGives.{termsOf, variableOf}
 use Rattle.formulas.proofs.PartTerms.{constant-sort}
-use Rattle.pass_formulas.specs.Spelled.{Known, partNames}
-use Rattle.pass_formulas.specs.Readings.{partsFine, partSort, ReadAs, PartsAs, UnderAs, AllParts, PartsSoFar}
+use Rattle.pass_readings.specs.Spelled.{Known, partNames}
+use Rattle.pass_readings.specs.Readings.{partsFine, partSort, ReadAs, PartsAs, UnderAs, AllParts, PartsSoFar}
 
 some-ltb : (n : ℕ) → (n ≡ 0 → ⊥) → ltb 0 n ≡ true
 some-ltb zero h = absurd (h refl)

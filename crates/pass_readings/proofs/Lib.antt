@@ -1,0 +1,3 @@
+-- Laws.
+--     ReadingLaws   what is read, put together from its parts
+pub mod ReadingLaws
