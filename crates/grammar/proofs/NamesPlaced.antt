@@ -1,15 +1,17 @@
 -- Where the names that are met stand.
 --     names-stand     whole, from their first bytes on
 --     names-before    before the byte where the text is unread
+--     names-all       none of them is left out
 --     names-due       as the first names of a formula that the text can still become
 use Prim.Native.Nat.{ℕ, suc, _+_, _-_, _≤_, _<_}
 use native.Mathlib.Omega.{arith}
-use mathlib.Core.Path.{_≡_, refl, sym, ap, _∙_}
+use mathlib.Core.Path.{_≡_, refl, sym, ap, _∙_, subst}
 use mathlib.Core.Bool.{Bool, true, false, cond, false≢true}
 use mathlib.Core.List.{List, [], _∷_, _++_, append-assoc, append-nil}
 use mathlib.Core.Logic.{_⊎_, inl, inr}
 use mathlib.Core.Option.{Option, none, some, Option·none-ne-some, Option·some-injective}
-use lib.ListN.{length, take, length-append}
+use lib.ListN.{length, take, drop, length-append, take-append-drop}
+use lib.Seq.{length-take-le}
 use Rattle.grammar.specs.Bytes.{Class, space, lineEnd, semicolon, opening, closing, digit, symbol, other, Word, constant, negation, connective}
 use Rattle.grammar.specs.Bytes.{quantifier, letting, sort, name, twelve, classOf, wordOf}
 use Rattle.grammar.specs.Grammar.{word, bracket, Mode, between, comment, within, outside, onwards, ends, lexemesFrom}
@@ -17,8 +19,8 @@ use Rattle.grammar.specs.Parser.{Due, formula, formulas, inside, opener,
 use Rattle.grammar.specs.Parser.{Stack, Move, advance, onFormula, onFormulas, onInside, onVariable, push, takes, mayGrow, andThen, feed, run}
 use Rattle.grammar.specs.Parser.{viable, State, enter, step, steps, finish, unread, onRead, onStep, parseFrom, start, parse}
 use Rattle.grammar.specs.Names.{Place, Name, nameAt, wordAt, metAt, Located, locate, calledOf, endsAt, endedBy, whileSteps, metFrom, met}
-use Rattle.grammar.specs.Names.{Every, inRun, EndsRun, StandsIn}
-use Rattle.grammar.specs.Statements.{NamesStand, NamesBefore, NamesDue}
+use Rattle.grammar.specs.Names.{Every, In, pastOf, inRun, EndsRun, StandsIn}
+use Rattle.grammar.specs.Statements.{NamesStand, NamesBefore, NamesAll, NamesDue}
 use Rattle.grammar.proofs.Exact.{unread-exactly, accepted, apart, Viable, stays}
 use Rattle.grammar.proofs.Bytewise.{agrees}
 use Rattle.grammar.proofs.Completions.{goes-on, supplied}
@@ -210,6 +212,155 @@ module _ {A : Type 0} where
 pub names-before : NamesBefore
 unfolding met start parse
 names-before text n u = befores text [] start n tt (unread-exactly text n .1 u)
+
+-- ---- none is left out
+
+in-append : (l : Located) (xs ys : List Located) → In l (xs ++ ys) → In l xs ⊎ In l ys
+in-append l [] ys h = inr h
+in-append l (x ∷ xs) ys (inl e) = inl (inl e)
+in-append l (x ∷ xs) ys (inr h) = go (in-append l xs ys h)
+  where
+    go : In l xs ⊎ In l ys → In l (x ∷ xs) ⊎ In l ys
+    go (inl a) = inl (inr a)
+    go (inr b) = inr b
+
+in-left : (l : Located) (xs ys : List Located) → In l xs → In l (xs ++ ys)
+in-left l (x ∷ xs) ys (inl e) = inl e
+in-left l (x ∷ xs) ys (inr h) = inr (in-left l xs ys h)
+
+in-right : (l : Located) (xs ys : List Located) → In l ys → In l (xs ++ ys)
+in-right l [] ys h = h
+in-right l (x ∷ xs) ys h = inr (in-right l xs ys h)
+
+every-in : (P : Located → Type 0) (ls : List Located) (l : Located) → Every P ls → In l ls → P l
+every-in P (m ∷ ms) l h (inl e) = subst P (sym e) (h .0)
+every-in P (m ∷ ms) l h (inr i) = every-in P ms l (h .1) i
+
+-- a name that ends here ends no sooner
+ends-late : (p : List ℕ) (m : Mode) (σ : List Due) (u : ℕ) → Held p m → u ≤ length p → Every (λ l. u ≤ pastOf l) (endsAt (length p) m σ)
+unfolding endsAt
+ends-late p between σ u h e = tt
+ends-late p comment σ u h e = tt
+ends-late p (within w) σ u h e = word-spelled (λ l. u ≤ pastOf l) (length p - length w) σ w (λ pl. omega arith)
+
+-- what a byte ends is what ends before it, where it ends a run
+by-ends : (k : Class) (n : ℕ) (m : Mode) (σ : List Due) (l : Located) → In l (endedBy k n m σ) → In l (endsAt n m σ)
+unfolding endedBy
+by-ends space n m σ l h = h
+by-ends lineEnd n m σ l h = h
+by-ends semicolon n m σ l h = h
+by-ends opening n m σ l h = h
+by-ends closing n m σ l h = h
+by-ends digit n m σ l h = absurd h
+by-ends symbol n m σ l h = absurd h
+by-ends other n m σ l h = h
+
+ends-by : (k : Class) (n : ℕ) (m : Mode) (σ : List Due) (l : Located) → inRun k ≡ false → In l (endsAt n m σ) → In l (endedBy k n m σ)
+unfolding endedBy inRun
+ends-by space n m σ l e h = h
+ends-by lineEnd n m σ l e h = h
+ends-by semicolon n m σ l e h = h
+ends-by opening n m σ l e h = h
+ends-by closing n m σ l e h = h
+ends-by digit n m σ l e h = absurd (false≢true (sym e))
+ends-by symbol n m σ l e h = absurd (false≢true (sym e))
+ends-by other n m σ l e h = h
+
+module _ {A : Type 0} where
+  lates : (cs p : List ℕ) (st : State A) (u : ℕ) → Held p (st .mode) → u ≤ length p → Every (λ l. u ≤ pastOf l) (metFrom (length p) cs st)
+  unfolding metFrom whileSteps
+  lates [] p st u h e = ends-late p (st .mode) (st .stack .due) u h e
+  lates (c ∷ cs) p st u h e =
+      every-append (λ l. u ≤ pastOf l) (endedBy (classOf c) (length p) (st .mode) (st .stack .due)) (whileSteps (step st c) (metFrom (suc (length p)) cs))
+      (ended-every (λ l. u ≤ pastOf l) (classOf c) (length p) (st .mode) (st .stack .due) (λ q. ends-late p (st .mode) (st .stack .due) u h e))
+      (go (step st c) refl (λ st′. lates cs (p ++ (c ∷ [])) st′ u))
+    where
+      go : (o : Option (State A)) → step st c ≡ o
+          → ((st′ : State A) → Held (p ++ (c ∷ [])) (st′ .mode) → u ≤ length (p ++ (c ∷ [])) → Every (λ l. u ≤ pastOf l) (metFrom (length (p ++ (c ∷ []))) cs st′))
+          → Every (λ l. u ≤ pastOf l) (whileSteps o (metFrom (suc (length p)) cs))
+      go none q f = tt
+      go (some st′) q f =
+          let n : length (p ++ (c ∷ [])) ≡ suc (length p) = omega (arith, length-append p (c ∷ [])) in
+          rw n at (f st′ (rw (stepped st c st′ q) (held-on p (st .mode) c (classOf c) h)) (omega (arith, n)))
+
+  -- a name that ends here, whatever bytes come, ended here
+  here : (cs p : List ℕ) (st : State A) (l : Located) → Held p (st .mode) → In l (metFrom (length p) cs st) → pastOf l ≤ length p
+      → In l (endsAt (length p) (st .mode) (st .stack .due))
+  unfolding metFrom whileSteps
+  here [] p st l h i e = i
+  here (c ∷ cs) p st l h i e =
+      go (in-append l (endedBy (classOf c) (length p) (st .mode) (st .stack .due)) (whileSteps (step st c) (metFrom (suc (length p)) cs)) i)
+    where
+      later : (o : Option (State A)) → step st c ≡ o → In l (whileSteps o (metFrom (suc (length p)) cs)) → ⊥
+      later none q b = b
+      later (some st′) q b =
+          let n : length (p ++ (c ∷ [])) ≡ suc (length p) = omega (arith, length-append p (c ∷ [])) in
+          let held : Held (p ++ (c ∷ [])) (st′ .mode) = rw (stepped st c st′ q) (held-on p (st .mode) c (classOf c) h) in
+          let past : Every (λ l. suc (length p) ≤ pastOf l) (metFrom (suc (length p)) cs st′) =
+          rw n at (lates cs (p ++ (c ∷ [])) st′ (suc (length p)) held (omega (arith, n))) in
+          omega (arith, every-in (λ l. suc (length p) ≤ pastOf l) (metFrom (suc (length p)) cs st′) l past b, e)
+
+      go : In l (endedBy (classOf c) (length p) (st .mode) (st .stack .due)) ⊎ In l (whileSteps (step st c) (metFrom (suc (length p)) cs))
+          → In l (endsAt (length p) (st .mode) (st .stack .due))
+      go (inl a) = by-ends (classOf c) (length p) (st .mode) (st .stack .due) l a
+      go (inr b) = absurd (later (step st c) refl b)
+
+  -- and so it is met before other bytes that go on no run
+  there : (cs p : List ℕ) (st : State A) (l : Located) → EndsRun cs → In l (endsAt (length p) (st .mode) (st .stack .due)) → In l (metFrom (length p) cs st)
+  unfolding metFrom
+  there [] p st l e i = i
+  there (c ∷ cs) p st l e i =
+      in-left l (endedBy (classOf c) (length p) (st .mode) (st .stack .due)) (whileSteps (step st c) (metFrom (suc (length p)) cs))
+      (ends-by (classOf c) (length p) (st .mode) (st .stack .due) l e i)
+
+  -- the bytes ds, and then s or t
+  kept : (ds s t p : List ℕ) (st : State A) (l : Located) → Held p (st .mode) → In l (metFrom (length p) (ds ++ s) st)
+      → (pastOf l < length p + length ds) ⊎ ((pastOf l ≡ length p + length ds) × EndsRun t) → In l (metFrom (length p) (ds ++ t) st)
+  unfolding metFrom whileSteps
+  kept [] s t p st l h i (inl e) = absurd (omega (
+    arith,
+    every-in (λ l. length p ≤ pastOf l) (metFrom (length p) s st) l (lates s p st (length p) h
+        (omega arith)) i,
+    e,
+  ))
+  kept [] s t p st l h i (inr e) = there t p st l (e .1) (here s p st l h i (omega (arith, e .0)))
+  kept (c ∷ ds) s t p st l h i e =
+      go (in-append l (endedBy (classOf c) (length p) (st .mode) (st .stack .due)) (whileSteps (step st c) (metFrom (suc (length p)) (ds ++ s))) i)
+      (λ st′ held j. kept ds s t (p ++ (c ∷ [])) st′ l held j (moved e))
+    where
+      n : length (p ++ (c ∷ [])) ≡ suc (length p)
+      n = omega (arith, length-append p (c ∷ []))
+
+      moved : (pastOf l < length p + length (c ∷ ds)) ⊎ ((pastOf l ≡ length p + length (c ∷ ds)) × EndsRun t)
+          → (pastOf l < length (p ++ (c ∷ [])) + length ds) ⊎ ((pastOf l ≡ length (p ++ (c ∷ [])) + length ds) × EndsRun t)
+      moved (inl a) = inl (omega (arith, n, a))
+      moved (inr a) = inr (omega (arith, n, a .0), a .1)
+
+      later : (o : Option (State A)) → step st c ≡ o → ((st′ : State A) → Held (p ++ (c ∷ [])) (st′ .mode)
+          → In l (metFrom (length (p ++ (c ∷ []))) (ds ++ s) st′) → In l (metFrom (length (p ++ (c ∷ []))) (ds ++ t) st′))
+          → In l (whileSteps o (metFrom (suc (length p)) (ds ++ s))) → In l (whileSteps o (metFrom (suc (length p)) (ds ++ t)))
+      later none q f b = b
+      later (some st′) q f b =
+          rw n at (f st′ (rw (stepped st c st′ q) (held-on p (st .mode) c (classOf c) h)) (rw n b))
+
+      go : In l (endedBy (classOf c) (length p) (st .mode) (st .stack .due)) ⊎ In l (whileSteps (step st c) (metFrom (suc (length p)) (ds ++ s)))
+          → ((st′ : State A) → Held (p ++ (c ∷ [])) (st′ .mode) → In l (metFrom (length (p ++ (c ∷ []))) (ds ++ s) st′)
+          → In l (metFrom (length (p ++ (c ∷ []))) (ds ++ t) st′)) → In l (metFrom (length p) (c ∷ ds ++ t) st)
+      go (inl a) f = in-left l (endedBy (classOf c) (length p) (st .mode) (st .stack .due)) (whileSteps (step st c) (metFrom (suc (length p)) (ds ++ t))) a
+      go (inr b) f = in-right l (endedBy (classOf c) (length p) (st .mode) (st .stack .due)) (whileSteps (step st c) (metFrom (suc (length p)) (ds ++ t)))
+          (later (step st c) refl f b)
+
+pub names-all : NamesAll
+unfolding met start
+names-all text suffix n l le i past =
+    let m : length (take n text) ≡ n = length-take-le n text le in
+    subst (λ (t : List ℕ). In l (met t)) (take-append-drop n text)
+    (kept (take n text) suffix (drop n text) [] start l tt i (go past))
+  where
+    go : (pastOf l < n) ⊎ ((pastOf l ≡ n) × EndsRun (drop n text)) → (pastOf l < 0 + length (take n text)) ⊎ ((pastOf l ≡ 0 + length (take n text)) × EndsRun
+        (drop n text))
+    go (inl a) = inl (omega (arith, a, length-take-le n text le))
+    go (inr a) = inr (omega (arith, a .0, length-take-le n text le), a .1)
 
 -- ---- as the first names of a formula
 

@@ -1,7 +1,8 @@
 -- Names: the kind that is due where each stands, and refusal 20 ('unknown word, with its first byte, where a name isn't a declared one of
 -- the kind due; the earlier byte wins').
-use Prim.Native.Nat.{ℕ, suc, _-_}
+use Prim.Native.Nat.{ℕ, suc, _+_, _-_}
 use mathlib.Core.Path.{_≡_}
+use mathlib.Core.Logic.{_⊎_}
 use mathlib.Core.Bool.{Bool, true, false, cond, _&&_}
 use mathlib.Core.List.{List, [], _∷_, _++_}
 use mathlib.Core.Option.{Option, none, some}
@@ -138,6 +139,15 @@ met text = metFrom 0 text start
 abbrev pub Every : (Located → Type 0) → List Located → Type 0
 Every P [] = Unit {0}
 Every P (l ∷ ls) = P l × Every P ls
+
+-- it is one of them
+abbrev pub In : Located → List Located → Type 0
+In l [] = ⊥
+In l (m ∷ ms) = (l ≡ m) ⊎ In l ms
+
+-- the byte after it
+abbrev pub pastOf : Located → ℕ
+pastOf l = l .first + length (l .called .spelled)
 
 -- a symbol character
 unfoldable pub inRun : Class → Bool

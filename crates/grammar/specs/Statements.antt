@@ -2,15 +2,15 @@
 use Prim.Native.Nat.{ℕ}
 use mathlib.Core.Path.{_≡_}
 use mathlib.Core.List.{List}
-use mathlib.Core.Logic.{_↔_}
+use mathlib.Core.Logic.{_↔_, _⊎_}
 use mathlib.Core.Bool.{Bool, true}
-use lib.ListN.{take}
-use Prim.Native.Nat.{_<_}
+use lib.ListN.{length, take, drop}
+use Prim.Native.Nat.{_≤_, _<_}
 use mathlib.Core.List.{_++_, []}
 use mathlib.Core.Option.{some}
 use Rattle.grammar.specs.Grammar.{Formula, spelling, Reads, InGrammar, Unread}
 use Rattle.grammar.specs.Names.{Name, names, calledOf, met, Every, StandsIn, firstUnknown, allKnown, resolved, unreadAt}
-use Rattle.grammar.specs.Names.{unknownAt, resolve}
+use Rattle.grammar.specs.Names.{Located, In, pastOf, EndsRun, unknownAt, resolve}
 use Rattle.grammar.specs.Parser.{read, unread, parse, judged}
 
 -- Different formulas are spelled differently; so a text has one reading.
@@ -45,6 +45,12 @@ NamesBefore = (text : List ℕ) (n : ℕ) → Unread text n → Every (λ l. l .
 abbrev pub NamesDue : Type 0
 NamesDue = (text : List ℕ) (n : ℕ) → Unread text n →
     (suffix : List ℕ) × (φ : Formula) × (later : List Name) × Reads (take n text ++ suffix) φ × (names φ [] ≡ calledOf (met text) ++ later)
+
+-- None is left out: of a name that ends before byte n, or at it where no run goes on there, the first n bytes decide whether it is met. So of every
+-- formula that the text can still become up to the byte where it is unread, the names up to there are met in the text.
+abbrev pub NamesAll : Type 0
+NamesAll = (text suffix : List ℕ) (n : ℕ) (l : Located) → n ≤ length text → In l (met (take n text ++ suffix))
+    → (pastOf l < n) ⊎ ((pastOf l ≡ n) × EndsRun (drop n text)) → In l (met text)
 
 -- The answer with 19 and 20: a formula exactly where the text is read and its names are known; 19 exactly where it is unread and no name before
 -- is unknown; 20 exactly at the first unknown name.
