@@ -2,11 +2,10 @@
 ghost use mathlib.Core.Path.{_≡_};
 ghost use mathlib.Core.Bool.{cond};
 ghost use Prim.Native.Nat.{_<_};
-ghost use lib.ListN.{getD};
 ghost use Rattle.bundle.specs.Lists.{sameList};
 ghost use Rattle.grammar.specs.Bytes.{classOf, wordOf};
 ghost use Rattle.grammar.specs.Parser.{starts};
-ghost use Rattle.lexing.specs.Codes.{classes, classCode, wordCode};
+ghost use Rattle.lexing.specs.Codes.{classCode, wordCode};
 ghost use Rattle.lexing.specs.Common.{common};
 
 // A byte as a number.
@@ -16,28 +15,62 @@ pub fn wide(x: u8) -> usize
     x as usize
 }
 
-// The class of a byte, by a table.
-pub fn class_of(at: usize) -> u8
-    requires { ⌜ at < 256 ⌝ }
-    ensures { λ r. ⌜ r ≡ getD classes at 0 ⌝ }
+// The class of a byte that is a symbol character, or of no other use.
+fn symbol_if(p: bool) -> usize
+    ensures { λ r. ⌜ r ≡ cond p 6 7 ⌝ }
 {
-    let table = b"\
-      \x07\x07\x07\x07\x07\x07\x07\x07\x07\x00\x01\x07\x07\x01\x07\x07\x07\x07\x07\x07\x07\x07\x07\x07\x07\x07\x07\x07\x07\x07\x07\x07\
-      \x00\x06\x07\x07\x06\x06\x06\x07\x03\x04\x06\x06\x07\x06\x06\x06\x05\x05\x05\x05\x05\x05\x05\x05\x05\x05\x07\x02\x06\x06\x06\x06\
-      \x06\x06\x06\x06\x06\x06\x06\x06\x06\x06\x06\x06\x06\x06\x06\x06\x06\x06\x06\x06\x06\x06\x06\x06\x06\x06\x06\x07\x07\x07\x06\x06\
-      \x07\x06\x06\x06\x06\x06\x06\x06\x06\x06\x06\x06\x06\x06\x06\x06\x06\x06\x06\x06\x06\x06\x06\x06\x06\x06\x06\x07\x07\x07\x06\x07\
-      \x07\x07\x07\x07\x07\x07\x07\x07\x07\x07\x07\x07\x07\x07\x07\x07\x07\x07\x07\x07\x07\x07\x07\x07\x07\x07\x07\x07\x07\x07\x07\x07\
-      \x07\x07\x07\x07\x07\x07\x07\x07\x07\x07\x07\x07\x07\x07\x07\x07\x07\x07\x07\x07\x07\x07\x07\x07\x07\x07\x07\x07\x07\x07\x07\x07\
-      \x07\x07\x07\x07\x07\x07\x07\x07\x07\x07\x07\x07\x07\x07\x07\x07\x07\x07\x07\x07\x07\x07\x07\x07\x07\x07\x07\x07\x07\x07\x07\x07\
-      \x07\x07\x07\x07\x07\x07\x07\x07\x07\x07\x07\x07\x07\x07\x07\x07\x07\x07\x07\x07\x07\x07\x07\x07\x07\x07\x07\x07\x07\x07\x07\x07";
-    table[at]
+    if p {
+        return 6;
+    }
+    7
 }
 
-// The class of a byte, as the grammar has it.
+// The class of a byte below the digits.
+fn low_code(x: u8) -> usize
+    requires { ⌜ x < 48 ⌝ }
+    ensures { λ r. ⌜ r ≡ classCode (classOf x) ⌝ }
+{
+    if x == 32 {
+        return 0;
+    }
+    if x == 40 {
+        return 3;
+    }
+    if x == 41 {
+        return 4;
+    }
+    if x == 10 {
+        return 1;
+    }
+    if x == 13 {
+        return 1;
+    }
+    if x == 9 {
+        return 0;
+    }
+    symbol_if((x == 33) | ((x > 35) & (x < 39)) | ((x > 41) & (x != 44)))
+}
+
+// The class of a byte, as the grammar has it: by ranges, those of letters first.
 pub fn class_code(x: u8) -> usize
     ensures { λ r. ⌜ r ≡ classCode (classOf x) ⌝ }
 {
-    wide(class_of(wide(x)))
+    if x > 96 {
+        return symbol_if((x < 123) | (x == 126));
+    }
+    if x > 59 {
+        return symbol_if((x < 91) | (x == 94) | (x == 95));
+    }
+    if x < 48 {
+        return low_code(x);
+    }
+    if x == 59 {
+        return 2;
+    }
+    if x == 58 {
+        return 7;
+    }
+    5
 }
 
 // How many bytes a run and a word have in common at their start.
