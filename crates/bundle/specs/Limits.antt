@@ -6,12 +6,12 @@ use lib.Dec.{leb}
 use lib.ListN.{getD}
 use Rattle.bundle.specs.declared.Bundle.{Bundle as Counts}
 
--- S 64, V 64, T 1,024, L 2,048, C 256, P 1,024
+-- S 64, V 256, T 1,024, L 2,048, C 256, P 1,024
 abbrev pub limits : Counts
 limits = record {
   version = 1;
   symbols = 64;
-  variables = 64;
+  variables = 256;
   terms = 1024;
   links = 2048;
   contexts = 256;
@@ -20,7 +20,7 @@ limits = record {
 
 -- words of 64 bits for a set of variables: a bit for each of the variables that there can be
 abbrev pub setWords : ℕ
-setWords = 1
+setWords = 4
 
 -- words of the header of version 1, and bytes of the shortest file, which is a header
 abbrev pub headerLength : ℕ

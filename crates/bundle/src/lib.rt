@@ -30,7 +30,7 @@ impl Bundle {
     // The limits of the counts.
     pub const SYMBOLS: usize = 64;
 
-    pub const VARIABLES: usize = 64;
+    pub const VARIABLES: usize = 256;
 
     pub const TERMS: usize = 1024;
 
@@ -60,7 +60,7 @@ impl Bundle {
     pub const BYTES: usize = 4 * Bundle::WORDS;
 
     // Words of 64 bits for a set of variables: a bit for each of VARIABLES.
-    pub const SET_WORDS: usize = 1;
+    pub const SET_WORDS: usize = 4;
 
     // The bundle with every section at its limit: ties the constants above to `limits` in specs/.
     pub fn largest() -> Self
