@@ -3,7 +3,6 @@ ghost use mathlib.Core.Path.{_≡_};
 ghost use mathlib.Core.Bool.{true};
 ghost use Prim.Native.Nat.{_+_, _*_, _≤_};
 ghost use lib.ListN.{length};
-ghost use Rattle.bundle.specs.Limits.{limits};
 ghost use Rattle.bundle.specs.Links.{items};
 ghost use Rattle.bundle.specs.Lists.{each};
 ghost use Rattle.bundle.specs.File.{Whole, bundleAt};
@@ -137,7 +136,7 @@ pub fn contexts_fault(
     moved: &mut [u64],
 ) -> Fault
     requires { ⌜ (let bundle = bundleAt (now file) b in
-        Whole (now file) b × Sorted (now file) b (now sorts) × FreeSets (now area) n bundle × (b .variables ≤ 64 * n) × (limits .variables * (b .contexts + 1)
+        Whole (now file) b × Sorted (now file) b (now sorts) × FreeSets (now area) n bundle × (b .variables ≤ 64 * n) × (b .variables * (b .contexts + 1)
         ≤ length (now images)) × (n * (b .contexts + 1) ≤ length (now moved)) × Images bundle (now images) 1 × MovedSets bundle (now moved) n 1) ⌝ }
     ensures { λ r. ⌜ r ≡ contextsFault (bundleAt (now (file .entry)) b) ⌝ }
     ensures { λ r. ⌜ (let bundle = bundleAt (now (file .entry)) b in

@@ -4,8 +4,10 @@
 --     as-absent, as-fixed, as-replaced       what a place says
 --     images-none, moved-none                zeros are what is known of the empty context
 --     untouched-refl, untouched-trans        what stays while one context is written
+--     record-below                           a record ends before a later one starts
+--     row-room                               room for a row, in the words of the code
 --     row-kept, set-kept                     so the rows and sets of lower contexts do
---     mention-set, entered-set               one place written
+--     mention-set, entered-place             one place written
 --     Replacing, replacing-on                a list of variables replaced, side by side with a list of terms
 --     moved-inside                           only variables that there are can be moved
 --     inherited, set-copied, agrees-copied   the row and the set of the parent
@@ -23,9 +25,11 @@ use lib.Seq.{getD-set-same, getD-set-other}
 use lib.Dec.{eqb}
 use lib.Bits.{bitOr}
 use borrow.Author.Tests.{eqb-true, eq-eqb, ne-eqb}
+use Rattle.bundle.specs.declared.Bundle.{Bundle as Counts}
 use Rattle.bundle.specs.Bundle.{Bundle}
+use Rattle.bundle.specs.File.{bundleAt}
 use Rattle.bundle.specs.Lists.{numbers, has, different}
-use Rattle.bundle.proofs.Fields.{record-within}
+use Rattle.bundle.proofs.Fields.{record-within, variables-length}
 use Rattle.sets.specs.Sets.{bitAt, holds, member, withBit, withoutBit, inserted, removed, cleared, united, disjointOf}
 use Rattle.sets.proofs.Digits.{bit-none}
 use Rattle.sets.proofs.Members.{holds-small, member-inserted, member-removed, member-cleared, member-united, member-same, changed-length, changed-out}
@@ -55,7 +59,7 @@ module _ (variables : ℕ) (w : List ℕ) (k x : ℕ) where
   unfolding mentionAt
   mention-past h = rw (numbers-past variables x h)
 
-  pub mention-some : 1 ≤ x → x ≤ variables → {t : ℕ} → t ≡ getD w (64 * k + (x - 1)) 0 → mentionAt variables w k x ≡ asMention t
+  pub mention-some : 1 ≤ x → x ≤ variables → {t : ℕ} → t ≡ getD w (variables * k + (x - 1)) 0 → mentionAt variables w k x ≡ asMention t
   unfolding mentionAt
   mention-some one few e = rw (numbers-in variables x one few, e)
 
@@ -78,13 +82,13 @@ unfolding moved
 moved-found b k x = ap (λ (i : Image). movedBy b i x) (image-found b k x)
 
 -- two tables that have the same place for x
-same-place : (b : Bundle) (w v : List ℕ) (k j x : ℕ) → (1 ≤ x → x ≤ length (b .variables) → getD w (64 * k + (x - 1)) 0 ≡ getD v (64 * j + (x - 1)) 0)
+same-place : (b : Bundle) (w v : List ℕ) (k j x : ℕ) → (1 ≤ x → x ≤ length (b .variables) → getD w (length (b .variables) * k + (x - 1)) 0 ≡ getD v (length (b .variables) * j + (x - 1)) 0)
     → mentionIn b w k x ≡ mentionIn b v j x
 unfolding mentionAt
 same-place b w v k j x same = go (numbers (length (b .variables)) x) refl
   where
-    go : (p : Bool) → numbers (length (b .variables)) x ≡ p → cond p (asMention (getD w (64 * k + (x - 1)) 0)) Absent ≡ cond p
-        (asMention (getD v (64 * j + (x - 1)) 0)) Absent
+    go : (p : Bool) → numbers (length (b .variables)) x ≡ p → cond p (asMention (getD w (length (b .variables) * k + (x - 1)) 0)) Absent ≡ cond p
+        (asMention (getD v (length (b .variables) * j + (x - 1)) 0)) Absent
     go true e = let h = numbers-of (length (b .variables)) x e in ap asMention (same (h .0) (h .1))
     go false e = refl
 
@@ -94,15 +98,15 @@ zero-at zero j = refl
 zero-at (suc n) zero = refl
 zero-at (suc n) (suc j) = zero-at n j
 
-pub images-none : (b : Bundle) (m : ℕ) → 64 ≤ m → Images b (replicate m 0) 1
+pub images-none : (b : Bundle) (m : ℕ) → length (b .variables) ≤ m → Images b (replicate m 0) 1
 unfolding mentionAt
 images-none b m h = record {
   long = omega (arith, length-replicate {A = ℕ} m 0);
   same = λ k x l. let z : k ≡ 0 = omega arith in rw z (go x (numbers (length (b .variables)) x) ∙ sym (found-empty b x));
 }
   where
-    go : (x : ℕ) (p : Bool) → cond p (asMention (getD (replicate m 0) (64 * 0 + (x - 1)) 0)) Absent ≡ Absent
-    go x true = as-absent (getD (replicate m 0) (64 * 0 + (x - 1)) 0) (zero-at m (64 * 0 + (x - 1)))
+    go : (x : ℕ) (p : Bool) → cond p (asMention (getD (replicate m 0) (length (b .variables) * 0 + (x - 1)) 0)) Absent ≡ Absent
+    go x true = as-absent (getD (replicate m 0) (length (b .variables) * 0 + (x - 1)) 0) (zero-at m (length (b .variables) * 0 + (x - 1)))
     go x false = refl
 
 pub moved-none : (b : Bundle) (n m : ℕ) → n ≤ m → MovedSets b (replicate m 0) n 1
@@ -122,35 +126,43 @@ moved-none b n m h = record {
 
 -- the row of k copied from that of j
 pub row-copied : (b : Bundle) (w v : List ℕ) (k j count : ℕ) → length (b .variables) ≡ count
-    → ((y : ℕ) → y < count → getD w (64 * k + y) 0 ≡ getD v (64 * j + y) 0) → (x : ℕ) → mentionIn b w k x ≡ mentionIn b v j x
-row-copied b w v k j count e same x = same-place b w v k j x (λ one few. same (x - 1) (omega (arith, e)))
+    → ((y : ℕ) → y < count → getD w (count * k + y) 0 ≡ getD v (count * j + y) 0) → (x : ℕ) → mentionIn b w k x ≡ mentionIn b v j x
+row-copied b w v k j count e same x = same-place b w v k j x (λ one few. rw e (same (x - 1) (omega (arith, e))))
+
+-- record j, counted from 0, ends before record k starts, where each has n places
+pub record-below : (n j k : ℕ) → j < k → n * j + n ≤ n * k
+record-below n j k h =
+    let p : suc j - 1 ≡ j = omega arith in
+    rw p at (record-within n k (suc j) (λ z. omega arith) h)
 
 -- ---- what stays
 
-pub untouched-refl : (w m : List ℕ) (n k : ℕ) → Untouched w m w m n k
-untouched-refl w m n k = record { long-row = refl; long-set = refl; row = λ j h. refl; words = λ j h. refl }
+pub untouched-refl : (b : Bundle) (w m : List ℕ) (n k : ℕ) → Untouched b w m w m n k
+untouched-refl b w m n k = record { long-row = refl; long-set = refl; row = λ j h. refl; words = λ j h. refl }
 
-pub untouched-trans : (w m w′ m′ w″ m″ : List ℕ) (n k : ℕ) → Untouched w m w′ m′ n k → Untouched w′ m′ w″ m″ n k → Untouched w m w″ m″ n k
-untouched-trans w m w′ m′ w″ m″ n k p q = record {
+pub untouched-trans : (b : Bundle) (w m w′ m′ w″ m″ : List ℕ) (n k : ℕ) → Untouched b w m w′ m′ n k → Untouched b w′ m′ w″ m″ n k → Untouched b w m w″ m″ n k
+untouched-trans b w m w′ m′ w″ m″ n k p q = record {
   long-row = q .long-row ∙ p .long-row;
   long-set = q .long-set ∙ p .long-set;
   row = λ j h. q .row j h ∙ p .row j h;
   words = λ j h. q .words j h ∙ p .words j h;
 }
 
-module _ (b : Bundle) (w m w′ m′ : List ℕ) (n k : ℕ) (kept : Untouched w m w′ m′ n k) where
-  pub room-on : RowRoom w m n k → RowRoom w′ m′ n k
+-- room for a row, in the words of the code
+pub row-room : (f : List ℕ) (c : Counts) (w m : List ℕ) (n k : ℕ) → RowRoom (bundleAt f c) w m n k → c .variables * (k + 1) ≤ length w
+row-room f c w m n k r = rw (variables-length f c) at (r .row)
+
+module _ (b : Bundle) (w m w′ m′ : List ℕ) (n k : ℕ) (kept : Untouched b w m w′ m′ n k) where
+  pub room-on : RowRoom b w m n k → RowRoom b w′ m′ n k
   room-on r = record { row = omega (arith, r .row, kept .long-row); words = omega (arith, r .words, kept .long-set) }
 
-  pub row-kept : (j x : ℕ) → j < k → length (b .variables) ≤ 64 → mentionIn b w′ j x ≡ mentionIn b w j x
-  row-kept j x h few = same-place b w′ w j j x (λ one low. kept .row (64 * j + (x - 1)) (omega arith))
+  pub row-kept : (j x : ℕ) → j < k → mentionIn b w′ j x ≡ mentionIn b w j x
+  row-kept j x h = same-place b w′ w j j x (λ one low. kept .row (length (b .variables) * j + (x - 1)) (omega (arith, record-below (length (b .variables)) j k h)))
 
   pub set-kept : (j x : ℕ) → j < k → member m′ (n * j) n x ≡ member m (n * j) n x
   set-kept j x h =
-      let fits : n * (suc j - 1) + n ≤ n * k = record-within n k (suc j) (λ z. omega arith) h in
-      let p : suc j - 1 ≡ j = omega arith in
-      let fits′ : n * j + n ≤ n * k = rw p at fits in
-      member-same m′ m (n * j) n (λ i l. kept .words (n * j + i) (omega arith)) x
+      let fits = record-below n j k h in
+      member-same m′ m (n * j) n (λ i l. kept .words (n * j + i) (omega (arith, fits))) x
 
 -- ---- one place written
 
@@ -158,18 +170,18 @@ cond-eqb : (x y : ℕ) (p : Bool) → eqb x y ≡ p → Dec (x ≡ y)
 cond-eqb x y true e = yes (eqb-true x y e)
 cond-eqb x y false e = no (λ q. false≢true (sym e ∙ eq-eqb x y q))
 
-module _ (b : Bundle) (w : List ℕ) (k x t : ℕ) (one : 1 ≤ x) (few : x ≤ length (b .variables)) (small : length (b .variables) ≤ 64)
-    (room : 64 * (k + 1) ≤ length w) where
-  pub mention-set : (y : ℕ) → mentionIn b (set w (64 * k + (x - 1)) t) k y ≡ cond (eqb x y) (asMention t) (mentionIn b w k y)
+module _ (b : Bundle) (w : List ℕ) (k x t : ℕ) (one : 1 ≤ x) (few : x ≤ length (b .variables))
+    (room : length (b .variables) * (k + 1) ≤ length w) where
+  pub mention-set : (y : ℕ) → mentionIn b (set w (length (b .variables) * k + (x - 1)) t) k y ≡ cond (eqb x y) (asMention t) (mentionIn b w k y)
   mention-set y = go (ℕ-discrete x y)
     where
-      go : Dec (x ≡ y) → mentionIn b (set w (64 * k + (x - 1)) t) k y ≡ cond (eqb x y) (asMention t) (mentionIn b w k y)
+      go : Dec (x ≡ y) → mentionIn b (set w (length (b .variables) * k + (x - 1)) t) k y ≡ cond (eqb x y) (asMention t) (mentionIn b w k y)
       go (yes q) =
           rw (eq-eqb x y q, ← q)
-          (mention-some (length (b .variables)) (set w (64 * k + (x - 1)) t) k x one few (sym (getD-set-same w (64 * k + (x - 1)) t 0 (omega arith))))
+          (mention-some (length (b .variables)) (set w (length (b .variables) * k + (x - 1)) t) k x one few (sym (getD-set-same w (length (b .variables) * k + (x - 1)) t 0 (omega arith))))
       go (no q) =
           rw (ne-eqb x y q)
-          (same-place b (set w (64 * k + (x - 1)) t) w k k y (λ first low. getD-set-other w (64 * k + (x - 1)) (64 * k + (y - 1)) t 0 (λ z. q (omega arith))))
+          (same-place b (set w (length (b .variables) * k + (x - 1)) t) w k k y (λ first low. getD-set-other w (length (b .variables) * k + (x - 1)) (length (b .variables) * k + (y - 1)) t 0 (λ z. q (omega arith))))
 
   module _ (m m′ : List ℕ) (n : ℕ) (words : n * k + n ≤ length m) (bits : length (b .variables) ≤ 64 * n) (agrees : Agrees b w m n k) (moves : Bool)
       (same : moves ≡ movedBy b (asImage (asMention t)) x) where
@@ -200,21 +212,26 @@ module _ (b : Bundle) (w : List ℕ) (k x t : ℕ) (one : 1 ≤ x) (few : x ≤ 
     set-long true = changed-length withBit m (n * k) n x
     set-long false = changed-length withoutBit m (n * k) n x
 
-    pub entered-set : m′ ≡ left-set moves → Entered b w m (set w (64 * k + (x - 1)) t) m′ n k (λ y m. cond (eqb x y) (asMention t) m)
+    entered-set : m′ ≡ left-set moves → Entered b w m (set w (length (b .variables) * k + (x - 1)) t) m′ n k (λ y m. cond (eqb x y) (asMention t) m)
     entered-set e = rw e (record {
       lower = record {
-        long-row = length-set w (64 * k + (x - 1)) t;
+        long-row = length-set w (length (b .variables) * k + (x - 1)) t;
         long-set = set-long moves;
-        row = λ j h. getD-set-other w (64 * k + (x - 1)) j t 0 (λ z. omega arith);
+        row = λ j h. getD-set-other w (length (b .variables) * k + (x - 1)) j t 0 (λ z. omega arith);
         words = set-out moves;
       };
       mentions = mention-set;
       agrees = λ y. in-set moves y ∙ agree y (ℕ-discrete x y);
     })
       where
-        agree : (y : ℕ) → Dec (x ≡ y) → cond (eqb y x) moves (member m (n * k) n y) ≡ movedBy b (asImage (mentionIn b (set w (64 * k + (x - 1)) t) k y)) y
+        agree : (y : ℕ) → Dec (x ≡ y) → cond (eqb y x) moves (member m (n * k) n y) ≡ movedBy b (asImage (mentionIn b (set w (length (b .variables) * k + (x - 1)) t) k y)) y
         agree y (yes q) = rw (mention-set y, eq-eqb x y q, eq-eqb y x (sym q)) (same ∙ ap (movedBy b (asImage (asMention t))) q)
         agree y (no q) = rw (mention-set y, ne-eqb x y q, ne-eqb y x (λ r. q (sym r))) (agrees y)
+
+    -- the same of the place as the code has it
+    pub entered-place : {p : ℕ} → p ≡ length (b .variables) * k + (x - 1) → m′ ≡ left-set moves
+        → Entered b w m (set w p t) m′ n k (λ y m. cond (eqb x y) (asMention t) m)
+    entered-place q e = rw q (entered-set e)
 
 -- ---- a list of variables replaced
 
@@ -277,11 +294,9 @@ moved-inside b w k x same e = go (ℕ-discrete x 0) (decLe x (length (b .variabl
 
 -- ---- a context: the row and the set of its parent, then its own entry
 
-module _ (b : Bundle) (w m w′ m₁ m₂ : List ℕ) (n k p : ℕ) (lower : p < k) (room : RowRoom w m n k) where
+module _ (b : Bundle) (w m w′ m₁ m₂ : List ℕ) (n k p : ℕ) (lower : p < k) (room : RowRoom b w m n k) where
   own-words : n * p + n ≤ n * k
-  own-words =
-      let q : suc p - 1 ≡ p = omega arith in
-      rw q at (record-within n k (suc p) (λ z. omega arith) lower)
+  own-words = record-below n p k lower
 
   pub parent-words : n * p + n ≤ n * k
   parent-words = own-words
@@ -299,7 +314,7 @@ module _ (b : Bundle) (w m w′ m₁ m₂ : List ℕ) (n k p : ℕ) (lower : p <
     out₂ : (j : ℕ) → j < n * k → getD m₂ j 0 ≡ getD m₁ j 0
     out₂ j h = rw unite (filled-out (λ i. bitOr (getD m₁ (n * k + i) 0) (getD m₁ (n * p + i) 0)) m₁ (n * k) n j (inl h))
 
-    pub inherited : length w′ ≡ length w → ((j : ℕ) → j < 64 * k → getD w′ j 0 ≡ getD w j 0) → Untouched w m w′ m₂ n k
+    pub inherited : length w′ ≡ length w → ((j : ℕ) → j < length (b .variables) * k → getD w′ j 0 ≡ getD w j 0) → Untouched b w m w′ m₂ n k
     inherited long row = record { long-row = long; long-set = long₂ ∙ long₁; row = row; words = λ j h. out₂ j h ∙ out₁ j h }
 
     pub set-copied : (x : ℕ) → member m₂ (n * k) n x ≡ member m (n * p) n x
@@ -315,10 +330,10 @@ module _ (b : Bundle) (w m w′ m′ : List ℕ) (n k p : ℕ) (lower : p < k) (
   agrees-copied same x =
       same x ∙ sets .same p x lower ∙ moved-found b p x ∙ ap (λ (m : Mention). movedBy b (asImage m) x) (sym (copied x ∙ images .same p x lower))
 
-  module _ (w″ m″ : List ℕ) (room : RowRoom w m n k) (few : length (b .variables) ≤ 64) (kept : Untouched w m w′ m′ n k) (f : ℕ → Mention → Mention)
+  module _ (w″ m″ : List ℕ) (room : RowRoom b w m n k) (kept : Untouched b w m w′ m′ n k) (f : ℕ → Mention → Mention)
       (entered : Entered b w′ m′ w″ m″ n k f) (own : (x : ℕ) → f x (found b p x) ≡ found b k x) where
-    all : Untouched w m w″ m″ n k
-    all = untouched-trans w m w′ m′ w″ m″ n k kept (entered .lower)
+    all : Untouched b w m w″ m″ n k
+    all = untouched-trans b w m w′ m′ w″ m″ n k kept (entered .lower)
 
     here : (x : ℕ) → mentionIn b w″ k x ≡ found b k x
     here x = entered .mentions x ∙ ap (f x) (copied x ∙ images .same p x lower) ∙ own x
@@ -328,7 +343,7 @@ module _ (b : Bundle) (w m w′ m′ : List ℕ) (n k p : ℕ) (lower : p < k) (
       where
         go : (j x : ℕ) → Dec (j ≡ k) → j < k + 1 → mentionIn b w″ j x ≡ found b j x
         go j x (yes q) h = rw q (here x)
-        go j x (no q) h = row-kept b w m w″ m″ n k all j x (omega arith) few ∙ images .same j x (omega arith)
+        go j x (no q) h = row-kept b w m w″ m″ n k all j x (omega arith) ∙ images .same j x (omega arith)
 
     pub sets-on : MovedSets b m″ n (k + 1)
     sets-on = record {

@@ -139,4 +139,4 @@ module _ (f : List ℕ) (c : Counts) (w : List ℕ) (n : ℕ) (sets : FreeSets w
       fault-right bed short k = ap (λ (g : Reading). stepFaultBy g (bundleAt f c) (k - 1) (stepOf (bundleAt f c) k)) (reading-right bed short)
 
       pub lent-right : Lent c w images m n
-      lent-right = record { free = free-long; images = rows .long; moved = moves .long }
+      lent-right = record { free = free-long; images = rw (variables-length f c) at (rows .long); moved = moves .long }

@@ -7,7 +7,6 @@ use lib.Dec.{leb}
 use Rattle.bundle.specs.declared.Bundle.{Bundle as Counts}
 use Rattle.bundle.specs.Bundle.{Bundle, Step, stepOf}
 use Rattle.bundle.specs.Lists.{numbers}
-use Rattle.bundle.specs.Limits.{limits}
 use Rattle.bundle.specs.File.{tab, recordBy, stepFrom, bundleAt}
 use Rattle.sets.specs.Sets.{member, disjointOf}
 use Rattle.logic.specs.declared.Mention.{Mention}
@@ -58,5 +57,5 @@ readingIn f c w n images moved bed = record {
 -- there is room for the free sets of all terms, and for what is known of all contexts
 pub record Lent (c : Counts) (w i m : List ℕ) (n : ℕ) : Type 0 where
   pub free : n * c .terms ≤ length w
-  pub images : limits .variables * (c .contexts + 1) ≤ length i
+  pub images : c .variables * (c .contexts + 1) ≤ length i
   pub moved : n * (c .contexts + 1) ≤ length m

@@ -2,7 +2,6 @@
 ghost use mathlib.Core.Path.{_≡_};
 ghost use Prim.Native.Nat.{_+_, _*_, _≤_};
 ghost use lib.ListN.{length};
-ghost use Rattle.bundle.specs.Limits.{limits};
 ghost use Rattle.bundle.specs.File.{Whole, bundleAt};
 ghost use Rattle.sets.specs.Sets.{Least};
 ghost use Rattle.logic.specs.Contexts.{isVariable};
@@ -21,7 +20,7 @@ pub const FIXED: usize = 65535;
 
 // What the entries of a context say of variable x.
 pub fn mention_of(b: Bundle, images: &[u16], context: usize, x: usize) -> Mention
-    requires { ⌜ (b .variables ≤ limits .variables) × (limits .variables * (context + 1) ≤ length (now images)) ⌝ }
+    requires { ⌜ b .variables * (context + 1) ≤ length (now images) ⌝ }
     ensures { λ r. ⌜ r ≡ mentionAt (b .variables) (now (images .entry)) context x ⌝ }
 {
     if x == 0 {
@@ -30,7 +29,7 @@ pub fn mention_of(b: Bundle, images: &[u16], context: usize, x: usize) -> Mentio
     if x > b.variables {
         return Mention::Absent;
     }
-    let t = wide(images[Bundle::VARIABLES * context + (x - 1)]);
+    let t = wide(images[b.variables * context + (x - 1)]);
     if t == 0 {
         return Mention::Absent;
     }
@@ -42,7 +41,7 @@ pub fn mention_of(b: Bundle, images: &[u16], context: usize, x: usize) -> Mentio
 
 // The image of variable x in a context.
 pub fn image_of(b: Bundle, images: &[u16], context: usize, x: usize) -> Image
-    requires { ⌜ (b .variables ≤ limits .variables) × (limits .variables * (context + 1) ≤ length (now images)) ⌝ }
+    requires { ⌜ b .variables * (context + 1) ≤ length (now images) ⌝ }
     ensures { λ r. ⌜ r ≡ imageAt (b .variables) (now (images .entry)) context x ⌝ }
 {
     let mention = mention_of(b, images, context, x);

@@ -44,17 +44,17 @@ fn inherit(
     k: usize,
     parent: usize,
 )
-    requires { ⌜ Whole (now file) b × RowRoom (now images) (now moved) n k × (parent < k) ⌝ }
+    requires { ⌜ Whole (now file) b × RowRoom (bundleAt (now file) b) (now images) (now moved) n k × (parent < k) ⌝ }
     ensures { λ _. ⌜ (let bundle = bundleAt (now (file .entry)) b in
-        Untouched (now (images .entry)) (now (moved .entry)) (now (images .exit)) (now (moved .exit)) n k × ((x : ℕ) → mentionIn bundle (now (images .exit)) k
+        Untouched bundle (now (images .entry)) (now (moved .entry)) (now (images .exit)) (now (moved .exit)) n k × ((x : ℕ) → mentionIn bundle (now (images .exit)) k
         x ≡ mentionIn bundle (now (images .entry)) parent x) × ((x : ℕ) → member (now (moved .exit)) (n * k) n x ≡ member (now (moved .entry)) (n * parent) n
         x)) ⌝ }
 {
     let count = b.variables;
     copy_row(
         images,
-        Bundle::VARIABLES * parent,
-        Bundle::VARIABLES * k,
+        count * parent,
+        count * k,
         count,
     );
     sets::clear(moved, n * k, n);
@@ -74,12 +74,12 @@ fn set_image(
     moves: bool,
 )
     requires { ⌜ (let bundle = bundleAt (now file) b in
-        Whole (now file) b × RowRoom (now images) (now moved) n k × (1 ≤ x) × (x ≤ b .variables) × (b .variables ≤ 64 * n) × (t ≤ fixedPlace) × (moves ≡
+        Whole (now file) b × RowRoom (bundleAt (now file) b) (now images) (now moved) n k × (1 ≤ x) × (x ≤ b .variables) × (b .variables ≤ 64 * n) × (t ≤ fixedPlace) × (moves ≡
         movedBy bundle (asImage (asMention t)) x) × Agrees bundle (now images) (now moved) n k) ⌝ }
     ensures { λ _. ⌜ Entered (bundleAt (now (file .entry)) b) (now (images .entry)) (now (moved .entry)) (now (images .exit)) (now (moved .exit)) n k
         (λ y m. cond (eqb x y) (asMention t) m) ⌝ }
 {
-    images[Bundle::VARIABLES * k + (x - 1)] = t as u16;
+    images[b.variables * k + (x - 1)] = t as u16;
     if moves {
         sets::insert(moved, n * k, n, x);
     } else {
@@ -99,7 +99,7 @@ fn replace(
     terms: usize,
 )
     requires { ⌜ (let bundle = bundleAt (now file) b in
-        Whole (now file) b × RowRoom (now images) (now moved) n k × (b .variables ≤ 64 * n) × (each (numbers (b .variables)) (items bundle variables) ≡ true)
+        Whole (now file) b × RowRoom (bundleAt (now file) b) (now images) (now moved) n k × (b .variables ≤ 64 * n) × (each (numbers (b .variables)) (items bundle variables) ≡ true)
         × (each (numbers (b .terms)) (items bundle terms) ≡ true) × (different (items bundle variables) ≡ true) × Agrees bundle (now images) (now moved) n k)
         ⌝ }
     ensures { λ _. ⌜ (let bundle = bundleAt (now (file .entry)) b in
@@ -124,7 +124,7 @@ fn replace(
 // Writes what is known of context k, where that of the lower ones is written.
 pub fn enter(file: &[u8], b: Bundle, images: &mut [u16], moved: &mut [u64], n: usize, k: usize)
     requires { ⌜ (let bundle = bundleAt (now file) b in
-        Whole (now file) b × Images bundle (now images) k × MovedSets bundle (now moved) n k × RowRoom (now images) (now moved) n k × (b .variables ≤ 64 * n)
+        Whole (now file) b × Images bundle (now images) k × MovedSets bundle (now moved) n k × RowRoom (bundleAt (now file) b) (now images) (now moved) n k × (b .variables ≤ 64 * n)
         × (contextRefers bundle k ≡ true)) ⌝ }
     ensures { λ _. ⌜ (let bundle = bundleAt (now (file .entry)) b in
         (length (now (images .exit)) ≡ length (now (images .entry))) × (length (now (moved .exit)) ≡ length (now (moved .entry))) × Images bundle (now (images

@@ -3,7 +3,6 @@ ghost use mathlib.Core.Path.{_≡_};
 ghost use mathlib.Core.Bool.{true, false};
 ghost use Prim.Native.Nat.{_+_, _*_, _≤_};
 ghost use lib.ListN.{length};
-ghost use Rattle.bundle.specs.Limits.{limits};
 ghost use Rattle.bundle.specs.File.{Whole, bundleAt};
 ghost use Rattle.logic.specs.Tests.{passed};
 ghost use Rattle.logic.specs.Rules.{isImage, reflHoldsBy, congWhere, transTestsBy, transSideBy, bindTermsBy, bindContextsBy, freeInImageBy};
@@ -213,7 +212,7 @@ pub fn bind_sides(
     images: &[u16],
     s: StepWords,
 ) -> bool
-    requires { ⌜ Whole (now file) b × (n * b .terms ≤ length (now area)) × (limits .variables * (b .contexts + 1) ≤ length (now images))
+    requires { ⌜ Whole (now file) b × (n * b .terms ≤ length (now area)) × (b .variables * (b .contexts + 1) ≤ length (now images))
         × (s .context ≤ b .contexts) ⌝ }
     ensures { λ r. ⌜ r ≡ bindSidesBy (freeIn (b .terms) (now (area .entry)) n) (imagesIn b (now (images .entry))) (bundleAt (now (file .entry)) b) (asStep s)
         ⌝ }

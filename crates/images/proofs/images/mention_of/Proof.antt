@@ -19,13 +19,13 @@ sub-wide : tie.Need-sub-wide
 sub-wide c = search needs
 
 add-wide : tie.Need-add-wide
-add-wide c = omega (arith, c .before .before .before .before .pre .0, c .before .before .before .before .pre .1)
+add-wide c = omega (arith, c .before .before .before .before .before .pre)
 
 mul-wide-2 : tie.Need-mul-wide-2
-mul-wide-2 c = omega (arith, c .before .before .before .before .pre .0, c .before .before .before .before .pre .1)
+mul-wide-2 c = omega (arith, c .before .before .before .before .before .pre)
 
 shared-slice-read-wide : tie.Need-shared-slice-read-wide
-shared-slice-read-wide c = omega (arith, c .before .before .before .before .before .pre .0, c .before .before .before .before .before .pre .1)
+shared-slice-read-wide c = omega (arith, c .before .before .before .before .before .before .pre)
 
 wide-requires : tie.Need-wide-requires
 wide-requires c κs = search needs

@@ -130,13 +130,6 @@ returns c =
     let i = c .before .before .before .before .before .before .before .before .before .before .before .before .inherit in
     let s = c .before .before .before .before .set-image in
     let p = c .before .before .before .before .before .before .before .before .before .before .before .before .before .before .before .context-field4 in
-    let v : length (b .variables) ≤ 64 =
-    omega (
-      arith,
-      variables-length (a .file .now) (a .b),
-      c .before .before .before .before .before .before .before .before .before .before .before .before .before .before .before .before .before .before
-          .before .before .before .before .pre .0 .within .variables,
-    ) in
     let low : p .result < a .k =
     rw (p .ensures)
     (lower-parent b (a .k)
@@ -150,7 +143,7 @@ returns c =
           (c .before .before .before .before .before .before .before .before .before .before .before .before .before .before .before .before .before .before
           .before .before .before .before .pre .2) (i .ensures .1) (s .last .1 .1 .0) (s .last .1 .1 .1 .0)
           (c .before .before .before .before .before .before .before .before .before .before .before .before .before .before .before .before .before .before
-          .before .before .before .before .pre .3) v (i .ensures .0) _ (s .ensures)
+          .before .before .before .before .pre .3) (i .ensures .0) _ (s .ensures)
           (λ x. rw (
             p .ensures,
             c .before .before .before .before .before .before .before .before .before .before .before .before .before .before .before .before .before
@@ -168,7 +161,7 @@ returns c =
           (c .before .before .before .before .before .before .before .before .before .before .before .before .before .before .before .before .before .before
           .before .before .before .before .pre .2) (i .ensures .1) (s .last .1 .1 .0) (s .last .1 .1 .1 .0)
           (c .before .before .before .before .before .before .before .before .before .before .before .before .before .before .before .before .before .before
-          .before .before .before .before .pre .3) v (i .ensures .0) _ (s .ensures)
+          .before .before .before .before .pre .3) (i .ensures .0) _ (s .ensures)
           (λ x. rw (
             p .ensures,
             c .before .before .before .before .before .before .before .before .before .before .before .before .before .before .before .before .before
@@ -196,13 +189,6 @@ returns-2 c =
     let i = c .before .before .before .before .before .before .before .before .before .before .before .before .inherit in
     let s = c .before .before .before .before .replace in
     let p = c .before .before .before .before .before .before .before .before .before .before .before .before .before .before .before .context-field4 in
-    let v : length (b .variables) ≤ 64 =
-    omega (
-      arith,
-      variables-length (a .file .now) (a .b),
-      c .before .before .before .before .before .before .before .before .before .before .before .before .before .before .before .before .before .before
-          .before .before .before .before .pre .0 .within .variables,
-    ) in
     let low : p .result < a .k =
     rw (p .ensures)
     (lower-parent b (a .k)
@@ -223,7 +209,7 @@ returns-2 c =
           (c .before .before .before .before .before .before .before .before .before .before .before .before .before .before .before .before .before .before
           .before .before .before .before .pre .2) (i .ensures .1) (s .last .1 .1 .0) (s .last .1 .1 .1 .0)
           (c .before .before .before .before .before .before .before .before .before .before .before .before .before .before .before .before .before .before
-          .before .before .before .before .pre .3) v (i .ensures .0) _ (s .ensures)
+          .before .before .before .before .pre .3) (i .ensures .0) _ (s .ensures)
           (λ x. rw (
             p .ensures,
             c .before .before .before .before .before .before .before .before .before .before .before .before .before .before .before .before .before
@@ -241,7 +227,7 @@ returns-2 c =
           (c .before .before .before .before .before .before .before .before .before .before .before .before .before .before .before .before .before .before
           .before .before .before .before .pre .2) (i .ensures .1) (s .last .1 .1 .0) (s .last .1 .1 .1 .0)
           (c .before .before .before .before .before .before .before .before .before .before .before .before .before .before .before .before .before .before
-          .before .before .before .before .pre .3) v (i .ensures .0) _ (s .ensures)
+          .before .before .before .before .pre .3) (i .ensures .0) _ (s .ensures)
           (λ x. rw (
             p .ensures,
             c .before .before .before .before .before .before .before .before .before .before .before .before .before .before .before .before .before

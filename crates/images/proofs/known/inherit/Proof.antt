@@ -2,22 +2,33 @@
 use native.Mathlib.Omega.{arith}
 use Rattle.bundle.specs.File.{bundleAt}
 use Rattle.bundle.proofs.Fields.{variables-length}
-use Rattle.images.proofs.ContextRows.{row-copied, parent-words, inherited, set-copied}
+use Rattle.images.proofs.ContextRows.{record-below, row-room, row-copied, parent-words, inherited, set-copied}
 use borrow.Author.Needs.{needs}
 use Rattle.images.proofs.known.inherit.Statement.{statement}
 use Rattle.images.proofs.known.inherit.Tie as tie
 
 mul-copy-row : tie.Need-mul-copy-row
-mul-copy-row c = omega (arith, c .before .before .before .before .pre .1 .row, c .before .before .before .before .pre .2)
+mul-copy-row c =
+    let a = c .before .before .before .before .args in
+    let p = c .before .before .before .before .pre in
+    omega (
+      arith,
+      record-below (a .b .variables) (a .parent) (a .k) (p .2),
+      row-room (a .file .now) (a .b) (a .images .now) (a .moved .now) (a .n) (a .k) (p .1),
+    )
 
 mul-copy-row-2 : tie.Need-mul-copy-row-2
-mul-copy-row-2 c = omega (arith, c .before .before .before .before .pre .1 .row)
+mul-copy-row-2 c =
+    let a = c .before .before .before .before .args in
+    omega (arith, row-room (a .file .now) (a .b) (a .images .now) (a .moved .now) (a .n) (a .k) (c .before .before .before .before .pre .1))
 
 copy-row-requires : tie.Need-copy-row-requires
-copy-row-requires c κs = (
-  omega (arith, c .before .before .before .before .pre .0 .within .variables, c .before .before .before .before .pre .2),
-  omega (arith, c .before .before .before .before .pre .0 .within .variables, c .before .before .before .before .pre .1 .row),
-)
+copy-row-requires c κs =
+    let a = c .before .before .before .before .args in
+    let p = c .before .before .before .before .pre in (
+      record-below (a .b .variables) (a .parent) (a .k) (p .2),
+      omega (arith, row-room (a .file .now) (a .b) (a .images .now) (a .moved .now) (a .n) (a .k) (p .1)),
+    )
 
 mul-clear : tie.Need-mul-clear
 mul-clear c = omega (arith, c .before .before .before .before .before .before .before .before .pre .1 .words)
@@ -68,7 +79,8 @@ returns c =
           (c .before .before .unite .last .0) (a .n) (a .k) (a .parent)
           (c .before .before .before .before .before .before .before .before .before .before .before .before .before .before .before .pre .2)
           (c .before .before .before .before .before .before .before .before .before .before .before .before .before .before .before .pre .1)
-          (c .before .before .before .before .before .before .clear .ensures) (c .before .before .unite .ensures) (r .ensures .0) (r .ensures .2),
+          (c .before .before .before .before .before .before .clear .ensures) (c .before .before .unite .ensures) (r .ensures .0)
+          (λ j h. r .ensures .2 j (rw (variables-length (a .file .now) (a .b)) at h)),
       row-copied b (r .last .0) (a .images .now) (a .k) (a .parent) (a .b .variables) (variables-length (a .file .now) (a .b)) (r .ensures .1),
       set-copied b (a .images .now) (a .moved .now) (r .last .0) (c .before .before .before .before .before .before .clear .last .0)
           (c .before .before .unite .last .0) (a .n) (a .k) (a .parent)

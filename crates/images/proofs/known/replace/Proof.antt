@@ -30,7 +30,7 @@ abbrev Inv-loop : tie.InvT-loop
 Inv-loop file b images₀ moved₀ n k variables terms i₀ j₀ images moved i j =
     (i ≤ b .links)
     × (j ≤ b .links)
-    × Untouched images₀ moved₀ images moved n k
+    × Untouched (bundleAt file b) images₀ moved₀ images moved n k
     × Agrees (bundleAt file b) images moved n k
     × ((y : ℕ) → orAbove (lookup (items (bundleAt file b) i) (items (bundleAt file b) j) y) (mentionIn (bundleAt file b) images k y) ≡ orAbove
     (lookup (items (bundleAt file b) variables) (items (bundleAt file b) terms) y) (mentionIn (bundleAt file b) images₀ k y))
@@ -57,7 +57,7 @@ loop-holds c =
     let j = walk-start (a .file .now) (a .b) (a .terms) (s .result) (s .ensures) in (
       walk-start-le (a .file .now) (a .b) (a .variables) (r .result) (r .ensures),
       walk-start-le (a .file .now) (a .b) (a .terms) (s .result) (s .ensures),
-      untouched-refl (a .images .now) (a .moved .now) (a .n) (a .k),
+      untouched-refl (bundleAt (a .file .now) (a .b)) (a .images .now) (a .moved .now) (a .n) (a .k),
       p .6,
       (λ y. rw (i, j)),
       rw i at (p .3),
@@ -166,7 +166,7 @@ loop-again c =
     let some = as-replaced (t .result) (λ z. omega (arith, u .0)) (λ z. omega (arith, u .1, few)) in (
       walk-le (a .file .now) (a .b) (l .i) (r .result) (r .ensures),
       walk-le (a .file .now) (a .b) (l .j) (s .result) (s .ensures),
-      untouched-trans (a .images .now) (a .moved .now) (l .images) (l .moved) _ _ (a .n) (a .k) (l .inv .2) (set .ensures .lower),
+      untouched-trans b (a .images .now) (a .moved .now) (l .images) (l .moved) _ _ (a .n) (a .k) (l .inv .2) (set .ensures .lower),
       set .ensures .agrees,
       (λ y. replacing-on (x .result) (t .result) vs ts (mentionIn b (l .images) (a .k)) _ seven some (set .ensures .mentions) y ∙ (rw (i, j) at (l .inv .4 y))),
       each-rest (a .b .variables) (x .result) vs five,

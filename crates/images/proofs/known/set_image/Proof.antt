@@ -2,7 +2,7 @@
 use native.Mathlib.Omega.{arith}
 use Rattle.bundle.specs.File.{bundleAt}
 use Rattle.bundle.proofs.Fields.{variables-length}
-use Rattle.images.proofs.ContextRows.{entered-set}
+use Rattle.images.proofs.ContextRows.{row-room, entered-place}
 use borrow.Author.Needs.{needs}
 use Rattle.images.proofs.known.set_image.Statement.{statement}
 use Rattle.images.proofs.known.set_image.Tie as tie
@@ -11,31 +11,39 @@ cast-images : tie.Need-cast-images
 cast-images c = omega (arith, c .before .before .before .pre .0 .within .terms)
 
 mul-images : tie.Need-mul-images
-mul-images c = search needs
+mul-images c =
+    let a = c .before .before .before .before .args in
+    omega (arith, row-room (a .file .now) (a .b) (a .images .now) (a .moved .now) (a .n) (a .k) (c .before .before .before .before .pre .1))
 
 sub-images : tie.Need-sub-images
 sub-images c = search needs
 
 add-images : tie.Need-add-images
-add-images c = omega (arith, c .before .before .before .pre .0 .within .variables, c .before .before .before .pre .1 .row)
+add-images c =
+    let a = c .before .before .before .before .args in
+    omega (arith, row-room (a .file .now) (a .b) (a .images .now) (a .moved .now) (a .n) (a .k) (c .before .before .before .before .pre .1))
 
 mul-images-2 : tie.Need-mul-images-2
-mul-images-2 c = omega (arith, c .before .before .before .pre .0 .within .variables, c .before .before .before .pre .1 .row)
+mul-images-2 c =
+    let a = c .before .before .before .before .args in
+    omega (arith, row-room (a .file .now) (a .b) (a .images .now) (a .moved .now) (a .n) (a .k) (c .before .before .before .before .pre .1))
 
 slice-write-images : tie.Need-slice-write-images
-slice-write-images c = omega (arith, c .before .before .before .pre .0 .within .variables, c .before .before .before .pre .1 .row)
+slice-write-images c =
+    let a = c .before .before .before .before .args in
+    omega (arith, row-room (a .file .now) (a .b) (a .images .now) (a .moved .now) (a .n) (a .k) (c .before .before .before .before .pre .1))
 
 mul-insert : tie.Need-mul-insert
-mul-insert c = omega (arith, c .before .before .before .before .before .pre .1 .words)
+mul-insert c = omega (arith, c .before .before .before .before .before .before .pre .1 .words)
 
 insert-requires : tie.Need-insert-requires
-insert-requires c κs = c .before .before .before .before .before .pre .1 .words
+insert-requires c κs = c .before .before .before .before .before .before .pre .1 .words
 
 mul-remove : tie.Need-mul-remove
-mul-remove c = omega (arith, c .before .before .before .before .before .pre .1 .words)
+mul-remove c = omega (arith, c .before .before .before .before .before .before .pre .1 .words)
 
 remove-requires : tie.Need-remove-requires
-remove-requires c κs = c .before .before .before .before .before .pre .1 .words
+remove-requires c κs = c .before .before .before .before .before .before .pre .1 .words
 
 same-length : tie.Need-same-length
 same-length c = search needs
@@ -45,12 +53,11 @@ same-length-2 c = search needs
 
 returns : tie.Need-returns
 returns c =
-    let a = c .before .before .before .before .before .before .before .before .args in
-    let p = c .before .before .before .before .before .before .before .before .pre in
+    let a = c .before .before .before .before .before .before .before .before .before .args in
+    let p = c .before .before .before .before .before .before .before .before .before .pre in
     let v = variables-length (a .file .now) (a .b) in
-    entered-set (bundleAt (a .file .now) (a .b)) (a .images .now) (a .k) (a .x) (a .t) (p .2) (omega (arith, v, p .3))
-    (omega (arith, v, p .0 .within .variables)) (p .1 .row)
-    (a .moved .now) (c .before .before .insert .last .0) (a .n) (p .1 .words) (omega (arith, v, p .4)) (p .7) (a .moves) (p .6)
+    entered-place (bundleAt (a .file .now) (a .b)) (a .images .now) (a .k) (a .x) (a .t) (p .2) (omega (arith, v, p .3)) (p .1 .row)
+    (a .moved .now) (c .before .before .insert .last .0) (a .n) (p .1 .words) (omega (arith, v, p .4)) (p .7) (a .moves) (p .6) (rw v)
     (rw (c .before .before .before .before .if1 .taken) (c .before .before .insert .ensures))
 
 same-length-3 : tie.Need-same-length-3
@@ -61,12 +68,11 @@ same-length-4 c = search needs
 
 returns-2 : tie.Need-returns-2
 returns-2 c =
-    let a = c .before .before .before .before .before .before .before .before .args in
-    let p = c .before .before .before .before .before .before .before .before .pre in
+    let a = c .before .before .before .before .before .before .before .before .before .args in
+    let p = c .before .before .before .before .before .before .before .before .before .pre in
     let v = variables-length (a .file .now) (a .b) in
-    entered-set (bundleAt (a .file .now) (a .b)) (a .images .now) (a .k) (a .x) (a .t) (p .2) (omega (arith, v, p .3))
-    (omega (arith, v, p .0 .within .variables)) (p .1 .row)
-    (a .moved .now) (c .before .before .remove .last .0) (a .n) (p .1 .words) (omega (arith, v, p .4)) (p .7) (a .moves) (p .6)
+    entered-place (bundleAt (a .file .now) (a .b)) (a .images .now) (a .k) (a .x) (a .t) (p .2) (omega (arith, v, p .3)) (p .1 .row)
+    (a .moved .now) (c .before .before .remove .last .0) (a .n) (p .1 .words) (omega (arith, v, p .4)) (p .7) (a .moves) (p .6) (rw v)
     (rw (c .before .before .before .before .if1 .left) (c .before .before .remove .ensures))
 
 pub set-image-spec : {M : Type 1} → statement M
