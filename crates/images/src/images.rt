@@ -3,7 +3,6 @@ ghost use mathlib.Core.Path.{_≡_};
 ghost use Prim.Native.Nat.{_+_, _*_, _≤_};
 ghost use lib.ListN.{length};
 ghost use Rattle.bundle.specs.File.{Whole, bundleAt};
-ghost use Rattle.sets.specs.Sets.{Least};
 ghost use Rattle.logic.specs.Contexts.{isVariable};
 ghost use Rattle.images.specs.ContextRows.{mentionAt, imageAt};
 ghost use Rattle.images.specs.LentReading.{freeIn, settledIn};
@@ -74,20 +73,6 @@ pub fn is_free(b: Bundle, area: &[u64], n: usize, t: usize, v: usize) -> bool
         return false;
     }
     sets::member(area, n * (t - 1), n, v)
-}
-
-// The least variable from v on that is free in term t, 0 where there is none. A number that is no term's has no free variables.
-pub fn next_free(b: Bundle, area: &[u64], n: usize, t: usize, v: usize) -> usize
-    requires { ⌜ n * b .terms ≤ length (now area) ⌝ }
-    ensures { λ r. ⌜ Least (freeIn (b .terms) (now (area .entry)) n t) v (b .variables) r ⌝ }
-{
-    if t == 0 {
-        return 0;
-    }
-    if t > b.terms {
-        return 0;
-    }
-    sets::next_member(area, n * (t - 1), n, v, b.variables)
 }
 
 // Whether term t is settled in the context: no free variable of it is moved there.

@@ -3,11 +3,14 @@ ghost use mathlib.Core.Path.{_≡_};
 ghost use mathlib.Core.Bool.{true, false};
 ghost use Prim.Native.Nat.{_+_, _*_, _≤_};
 ghost use lib.ListN.{length};
+ghost use Rattle.bundle.specs.Limits.{limits};
 ghost use Rattle.bundle.specs.File.{Whole, bundleAt};
 ghost use Rattle.logic.specs.Tests.{passed};
 ghost use Rattle.logic.specs.Rules.{isImage, reflHoldsBy, congWhere, transTestsBy, transSideBy, bindTermsBy, bindContextsBy, freeInImageBy};
 ghost use Rattle.logic.specs.Rules.{bindSidesBy, letTestsBy};
 ghost use Rattle.rules.specs.StepWords.{asStep};
+ghost use Rattle.rules.specs.WordSides.{hitBy, WordApart, WordHit};
+ghost use Rattle.images.specs.ContextRows.{imageAt};
 ghost use Rattle.images.specs.LentReading.{Lent, freeIn, stepIn, imagesIn, allSettledIn};
 use super::StepWords;
 use bundle::Bundle;
@@ -22,7 +25,6 @@ use images::images::image_of;
 use images::images::is_free;
 use images::images::is_settled;
 use images::images::is_variable;
-use images::images::next_free;
 use logic::Image;
 use logic::kinds::APPLICATION;
 use logic::kinds::FIXES;
@@ -32,6 +34,7 @@ use logic::kinds::is_binder;
 use premises::all_prove;
 use premises::step_carries;
 use premises::taken_field;
+use sets::lowest_bit;
 
 // ---- REFL
 
@@ -203,7 +206,43 @@ fn free_in_image(b: Bundle, area: &[u64], n: usize, image: Image, x: usize, y: u
     }
 }
 
-// The sides: y is free neither in the left side nor in the image of a free variable of it.
+// Whether y is free in the image of a variable of one word of a set. The bits of the word are the variables from base + 1 on, of which only those that
+// there are count.
+fn word_hits(
+    b: Bundle,
+    area: &[u64],
+    n: usize,
+    images: &[u16],
+    context: usize,
+    y: usize,
+    word: u64,
+    base: usize,
+) -> bool
+    requires { ⌜ (b .variables ≤ limits .variables) × (base ≤ b .variables) × (n * b .terms ≤ length (now area))
+        × (b .variables * (context + 1) ≤ length (now images)) ⌝ }
+    ensures { λ r. ⌜ (let hit = hitBy (freeIn (b .terms) (now (area .entry)) n) (imageAt (b .variables) (now (images .entry)) context) y in
+        (r ≡ false → WordApart word base (b .variables) hit) × (r ≡ true → WordHit word base (b .variables) hit)) ⌝ }
+{
+    let mut j = 0;
+    while j < 64 {
+        let i = lowest_bit(word, j);
+        if i >= 64 {
+            return false;
+        }
+        let z = base + 1 + i;
+        if z > b.variables {
+            return false;
+        }
+        let image = image_of(b, images, context, z);
+        if free_in_image(b, area, n, image, z, y) {
+            return true;
+        }
+        j = i + 1;
+    }
+    false
+}
+
+// The sides: y is free neither in the left side nor in the image of a free variable of it. The left side's set is gone over a word at a time.
 pub fn bind_sides(
     file: &[u8],
     b: Bundle,
@@ -220,21 +259,31 @@ pub fn bind_sides(
     let context = s.context;
     let left = s.left;
     let right = s.right;
+    let variables = b.variables;
     let y = term_field(file, b, right, 1);
     if is_free(b, area, n, left, y) {
         return false;
     }
-    let mut z = 0;
-    loop {
-        z = next_free(b, area, n, left, z + 1);
-        if z == 0 {
+    if left == 0 {
+        return true;
+    }
+    if left > b.terms {
+        return true;
+    }
+    let at = n * (left - 1);
+    let mut k = 0;
+    let mut base = 0;
+    while base < variables {
+        if k >= n {
             return true;
         }
-        let image = image_of(b, images, context, z);
-        if free_in_image(b, area, n, image, z, y) {
+        if word_hits(b, area, n, images, context, y, area[at + k], base) {
             return false;
         }
+        k += 1;
+        base += 64;
     }
+    true
 }
 
 // ---- LET

@@ -5,6 +5,7 @@
 --     member-united       u is in the union: it is in one or the other
 --     member-bit          bit j of word k of the set is number 64 k + 1 + j
 --     disjoint-none, none-disjoint     two sets are disjoint exactly if no u is a member of both
+--     filled-front        the first word written, then the rest; `filled-same`: words that agree
 --     changed-out, filled-out     words outside the set are as they were; `member-same`: so is membership in another set
 use mathlib.Core.Path.{_≡_, refl, sym, ap, _∙_}
 use mathlib.Core.Logic.{_⊎_, inl, inr, ⊎-elim}
@@ -160,6 +161,21 @@ module _ (g : ℕ → ℕ) (w : List ℕ) (at : ℕ) where
       go (yes e) ih = rw e (getD-set-same (filled g w at m) (at + m) (g m) 0 (rw filled-length (omega arith)))
       go (no ne) ih =
           getD-set-other (filled g w at m) (at + m) (at + k) (g m) 0 (λ z. ne (omega arith)) ∙ ih (omega arith) (omega arith)
+
+-- the same words may come from any g that agrees; and the first word may be written before the rest
+pub filled-same : (g h : ℕ → ℕ) (w : List ℕ) (at n : ℕ) → ((k : ℕ) → k < n → g k ≡ h k) → filled g w at n ≡ filled h w at n
+unfolding filled
+filled-same g h w at zero same = refl
+filled-same g h w at (suc n) same = rw (filled-same g h w at n (λ k l. same k (omega arith)), same n (omega arith))
+
+filled-first : (g : ℕ → ℕ) (w : List ℕ) (at n : ℕ) → filled (λ k. g (suc k)) (set w at (g 0)) (at + 1) n ≡ filled g w at (suc n)
+unfolding filled
+filled-first g w at zero = let here : at + 0 ≡ at = omega arith in rw here
+filled-first g w at (suc n) = let here : at + 1 + n ≡ at + suc n = omega arith in rw (filled-first g w at n, here)
+
+-- n words, of which there is one
+pub filled-front : (g : ℕ → ℕ) (w : List ℕ) (at n : ℕ) → (n ≡ 0 → ⊥) → filled (λ k. g (suc k)) (set w at (g 0)) (at + 1) (n - 1) ≡ filled g w at n
+filled-front g w at n some = let one : suc (n - 1) ≡ n = omega arith in rw one at (filled-first g w at (n - 1))
 
 pub member-cleared : (w : List ℕ) (at n : ℕ) → at + n ≤ length w → (u : ℕ) → member (cleared w at n) at n u ≡ false
 unfolding member

@@ -61,8 +61,3 @@ united w to from n = filled (λ k. bitOr (getD w (to + k) 0) (getD w (from + k) 
 unfoldable pub disjointOf : List ℕ → ℕ → List ℕ → ℕ → ℕ → Bool
 disjointOf w first v second zero = true
 disjointOf w first v second (suc k) = eqb (bitAnd (getD w (first + k) 0) (getD v (second + k) 0)) 0 && disjointOf w first v second k
-
--- r is the least number from v to `last` that passes the test p, such as the least member of a set; 0 where none of them does
-pub data Least (p : ℕ → Bool) (v last r : ℕ) : Type 0 where
-  none-is : r ≡ 0 → ((x : ℕ) → v ≤ x → x ≤ last → p x ≡ false) → Least p v last r
-  least-is : v ≤ r → r ≤ last → p r ≡ true → ((x : ℕ) → v ≤ x → x < r → p x ≡ false) → Least p v last r

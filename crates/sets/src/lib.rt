@@ -2,7 +2,7 @@
 ghost use mathlib.Core.Path.{_≡_};
 ghost use Prim.Native.Nat.{_+_, _^_, _≤_, _<_};
 ghost use lib.ListN.{length};
-ghost use Rattle.sets.specs.Sets.{bitAt, withBit, withoutBit, member, inserted, removed, cleared, united, disjointOf, LeastBit, Least};
+ghost use Rattle.sets.specs.Sets.{bitAt, withBit, withoutBit, member, inserted, removed, cleared, united, disjointOf, LeastBit};
 
 // ---- One word
 
@@ -29,14 +29,14 @@ fn without_bit(x: u64, k: usize) -> u64
 }
 
 // The least bit of x from k on that is set, 64 or more where there is none.
-fn lowest_bit(x: u64, k: usize) -> usize
+pub fn lowest_bit(x: u64, k: usize) -> usize
     requires { ⌜ k < 64 ⌝ }
     ensures { λ r. ⌜ LeastBit x k r ⌝ }
 {
     k + u64::trailing_zeros(x >> k) as usize
 }
 
-// ---- Sets: the n words of `area` from `at` on
+// ---- Sets: the n words of `area` from `at` on. Most files have no more variables than one word has bits: the first word takes no loop.
 
 pub fn member(area: &[u64], at: usize, n: usize, v: usize) -> bool
     requires { ⌜ at + n ≤ length (now area) ⌝ }
@@ -82,7 +82,8 @@ pub fn remove(area: &mut [u64], at: usize, n: usize, v: usize)
     area[at + k] = x;
 }
 
-pub fn clear(area: &mut [u64], at: usize, n: usize)
+// The loop of `clear`.
+fn clear_words(area: &mut [u64], at: usize, n: usize)
     requires { ⌜ at + n ≤ length (now area) ⌝ }
     ensures { λ _. ⌜ now (area .exit) ≡ cleared (now (area .entry)) at n ⌝ }
 {
@@ -93,8 +94,19 @@ pub fn clear(area: &mut [u64], at: usize, n: usize)
     }
 }
 
-// Adds the members of the set at `from` to the set at `to`, which stands above it.
-pub fn unite(area: &mut [u64], to: usize, from: usize, n: usize)
+pub fn clear(area: &mut [u64], at: usize, n: usize)
+    requires { ⌜ at + n ≤ length (now area) ⌝ }
+    ensures { λ _. ⌜ now (area .exit) ≡ cleared (now (area .entry)) at n ⌝ }
+{
+    if n == 0 {
+        return;
+    }
+    area[at] = 0;
+    clear_words(area, at + 1, n - 1);
+}
+
+// The loop of `unite`.
+fn unite_words(area: &mut [u64], to: usize, from: usize, n: usize)
     requires { ⌜ (from + n ≤ to) × (to + n ≤ length (now area)) ⌝ }
     ensures { λ _. ⌜ now (area .exit) ≡ united (now (area .entry)) to from n ⌝ }
 {
@@ -105,6 +117,20 @@ pub fn unite(area: &mut [u64], to: usize, from: usize, n: usize)
         area[to + k] = x | y;
         k += 1;
     }
+}
+
+// Adds the members of the set at `from` to the set at `to`, which stands above it.
+pub fn unite(area: &mut [u64], to: usize, from: usize, n: usize)
+    requires { ⌜ (from + n ≤ to) × (to + n ≤ length (now area)) ⌝ }
+    ensures { λ _. ⌜ now (area .exit) ≡ united (now (area .entry)) to from n ⌝ }
+{
+    if n == 0 {
+        return;
+    }
+    let x = area[to];
+    let y = area[from];
+    area[to] = x | y;
+    unite_words(area, to + 1, from + 1, n - 1);
 }
 
 // Whether no number is a member of both the set at `first` of one area and the set at `second` of another.
@@ -122,32 +148,4 @@ pub fn disjoint(area: &[u64], first: usize, other: &[u64], second: usize, n: usi
         }
     }
     true
-}
-
-// The least member from v to `last`, 0 where there is none. No number above `last` is made, so that none can wrap.
-pub fn next_member(area: &[u64], at: usize, n: usize, v: usize, last: usize) -> usize
-    requires { ⌜ at + n ≤ length (now area) ⌝ }
-    ensures { λ r. ⌜ Least (member (now (area .entry)) at n) v last r ⌝ }
-{
-    let mut u = v;
-    if u != 0 {
-        u -= 1;
-    }
-    let mut k = u / 64;
-    let mut j = u % 64;
-    while k < n {
-        let i = lowest_bit(area[at + k], j);
-        if i < 64 {
-            if k > last / 64 {
-                return 0;
-            }
-            if i >= last - 64 * k {
-                return 0;
-            }
-            return 64 * k + i + 1;
-        }
-        k += 1;
-        j = 0;
-    }
-    0
 }

@@ -1,68 +1,51 @@
--- `sets::clear` meets its contract. The invariant: the first k words are cleared.
+-- `sets::clear` meets its contract: the first word, then the rest.
 use native.Mathlib.Omega.{arith}
-use Prim.Native.Nat.{_-_, _≤_}
-use mathlib.Core.Path.{_≡_, refl, _∙_}
+use mathlib.Core.Path.{_≡_, sym, _∙_}
 use lib.ListN.{length, length-set}
-use Rattle.sets.specs.Sets.{filled, cleared}
-use Rattle.sets.proofs.Members.{filled-more}
+use Rattle.sets.specs.Sets.{filled}
+use Rattle.sets.proofs.Members.{filled-front}
+use borrow.Author.Needs.{needs}
 use Rattle.sets.proofs.clear.Statement.{statement}
 use Rattle.sets.proofs.clear.Tie as tie
 
-abbrev Inv-loop : tie.InvT-loop
-Inv-loop area₀ at n k₀ area k = (k ≤ n) × (length area ≡ length area₀) × (area ≡ cleared area₀ at k)
-
-abbrev μ-loop : tie.MeasureT-loop
-μ-loop area₀ at n k₀ area k = n - k
-
-loop-holds : tie.Need-loop-holds Inv-loop μ-loop
+returns : tie.Need-returns
 unfolding filled
-loop-holds c = (omega arith, refl, refl)
+returns c = rw (c .if1 .taken)
 
-add-area : tie.Need-add-area Inv-loop μ-loop
-add-area c = omega arith
+mul-area : tie.Need-mul-area
+mul-area c = search needs
 
-mul-area : tie.Need-mul-area Inv-loop μ-loop
-mul-area c = omega arith
+slice-write-area : tie.Need-slice-write-area
+slice-write-area c = search needs
 
-slice-write-area : tie.Need-slice-write-area Inv-loop μ-loop
-slice-write-area c = omega arith
+add-clear-words : tie.Need-add-clear-words
+add-clear-words c = search needs
 
-add-k : tie.Need-add-k Inv-loop μ-loop
-add-k c = omega arith
+sub-clear-words : tie.Need-sub-clear-words
+sub-clear-words c = search needs
 
-loop-less : tie.Need-loop-less Inv-loop μ-loop
-loop-less c = omega arith
+clear-words-requires : tie.Need-clear-words-requires
+clear-words-requires c κs = rw length-set (omega arith)
 
-loop-again : tie.Need-loop-again Inv-loop μ-loop
-loop-again c =
-    let l = c .before .loop in (
-      omega arith,
-      simp length-set (l .inv .1),
-      filled-more (λ k. 0) (c .before .before .args .area .now) (c .before .before .args .at) (l .k) 0 (l .area)
-          (l .inv .2) refl,
-    )
+same-length : tie.Need-same-length
+same-length c =
+    let a = c .before .before .before .before .before .before .args in
+    c .before .before .clear-words .kept .0 ∙ length-set (a .area .now) (a .at) 0
 
-same-length : tie.Need-same-length Inv-loop μ-loop
-same-length c = c .before .loop .inv .1
-
-returns : tie.Need-returns Inv-loop μ-loop
-returns c =
-    let l = c .before .loop in
-    let past : l .k ≡ c .before .before .args .n = omega arith in
-    l .inv .2 ∙ rw past
+returns-2 : tie.Need-returns-2
+returns-2 c =
+    let a = c .before .before .before .before .before .before .args in
+    c .before .before .clear-words .ensures ∙ filled-front (λ k. 0) (a .area .now) (a .at) (a .n) (c .before .before .before .before .if1 .left)
 
 pub clear-spec : {M : Type 1} → statement M
 clear-spec =
     tie.close
     (tie.spec
-    Inv-loop
-    μ-loop
-    loop-holds
-    add-area
+    returns
     mul-area
     slice-write-area
-    add-k
-    loop-less
-    loop-again
+    add-clear-words
+    sub-clear-words
+    clear-words-requires
     same-length
-    returns)
+    returns-2)

@@ -6,20 +6,15 @@ use Prim.Native.Nat.{_+_, _-_, _*_, _≤_}
 use mathlib.Core.Path.{_≡_, refl, sym, _∙_}
 use lib.ListN.{length}
 use Rattle.bundle.specs.File.{bundleAt}
-use Rattle.bundle.proofs.Fields.{contexts-length, record-within}
+use Rattle.bundle.proofs.Fields.{variables-length, contexts-length}
 use Rattle.logic.specs.Contexts.{contextFault, contextsFault}
 use Rattle.logic.proofs.Firsts.{restFault, rest-start, rest-on, rest-here, rest-end}
 use Rattle.images.specs.ContextRows.{Images, MovedSets}
 use Rattle.logic.proofs.EntryFacts.{refers-passed}
-use Prim.Native.Nat.{ℕ, suc}
+use Rattle.images.proofs.FreeWords.{known-room}
+use Rattle.images.proofs.ContextRows.{record-below}
 use Rattle.contexts.proofs.contexts.contexts_fault.Statement.{statement}
 use Rattle.contexts.proofs.contexts.contexts_fault.Tie as tie
-
--- the set of context k stands within the words for contexts up to c
-context-room : (n k c : ℕ) → k ≤ c → n * k + n ≤ n * (c + 1)
-context-room n k c few =
-    let p : suc k - 1 ≡ k = omega arith in
-    rw p at (record-within n (c + 1) (suc k) (λ z. omega arith) (omega arith))
 
 abbrev Inv-loop : tie.InvT-loop
 Inv-loop file b sorts area n images₀ moved₀ contexts i₀ images moved i =
@@ -70,8 +65,10 @@ enter-requires c κs =
       l .inv .5,
       l .inv .6,
       record {
-        row = omega (arith, p .4, l .inv .3);
-        words = omega (arith, p .5, l .inv .4, context-room (a .n) (l .i) (a .b .contexts) few);
+        row =
+            rw (variables-length (a .file .now) (a .b))
+            (omega (arith, known-room (a .b .variables) (l .i) (a .b .contexts) (length (a .images .now)) few (p .4), l .inv .3));
+        words = omega (arith, p .5, l .inv .4, record-below (a .n) (l .i) (a .b .contexts + 1) (omega arith));
       },
       p .3,
       refers-passed (bundleAt (a .file .now) (a .b)) (l .i) (sym (c .before .before .before .context-fault .ensures) ∙ c .before .before .if1 .left),
