@@ -51,12 +51,7 @@ fn inherit(
         x)) ⌝ }
 {
     let count = b.variables;
-    copy_row(
-        images,
-        count * parent,
-        count * k,
-        count,
-    );
+    copy_row(images, count * parent, count * k, count);
     sets::clear(moved, n * k, n);
     sets::unite(moved, n * k, n * parent, n);
 }

@@ -1,66 +1,30 @@
--- `rules::bind_sides` meets its contract. The invariant: the variables up to z are apart from y. The measure is how many are left above z.
+-- `rules::bind_sides` meets its contract. The invariant: the variables of the first k words are apart from y. The measure is how many are left.
 use borrow.Author.Needs.{needs}
 use native.Mathlib.Omega.{arith}
-use native.Mathlib.Decide.{decLe, ℕ-discrete}
-use Prim.Native.Nat.{ℕ, _+_, _-_, _≤_}
-use mathlib.Core.Path.{_≡_, refl, sym, _∙_}
-use mathlib.Core.Bool.{Bool, true, false, not, _||_, false≢true}
+use Prim.Native.Nat.{_+_, _*_, _-_, _≤_}
+use mathlib.Core.Path.{_≡_, sym, _∙_}
 use borrow.Author.Tests.{le-leb}
-use Rattle.logic.specs.declared.Image.{Image}
+use lib.ListN.{length}
+use Rattle.bundle.specs.File.{bundleAt}
 use Rattle.bundle.proofs.Fields.{variables-length}
-use Rattle.sets.specs.Sets.{Least}
-use Rattle.sets.proofs.LeastMember.{least-some, least-none}
-use Rattle.logic.specs.Tests.{upTo}
-use Rattle.logic.specs.Rules.{freeInImageBy, bindSidesBy}
-use Rattle.logic.proofs.Tests.{up-to, up-to-all}
+use Rattle.logic.specs.Rules.{bindSidesBy}
+use Rattle.images.specs.ContextRows.{imageAt}
 use Rattle.images.specs.LentReading.{freeIn, imagesIn}
-use Rattle.images.proofs.FreeWords.{known-room}
+use Rattle.images.proofs.FreeWords.{free-zero, free-past, set-within, known-room}
+use Rattle.rules.specs.WordSides.{hitBy}
+use Rattle.rules.proofs.BindWords.{Apart, apart-none, words-on, words-end, words-past, words-fail}
 use Rattle.rules.proofs.rules.bind_sides.Statement.{statement}
 use Rattle.rules.proofs.rules.bind_sides.Tie as tie
 
--- the side for one variable: y is not free in the image of z, if z is free in the left side
-abbrev apart : (ℕ → Bool) → (ℕ → Bool) → ℕ → Bool
-apart free hit z = not (free z) || not (hit z)
-
--- y is free in the image of z
-abbrev hits : (ℕ → ℕ → Bool) → (ℕ → Image) → ℕ → ℕ → Bool
-hits free image y z = freeInImageBy free (image z) z y
-
--- a turn: the variables up to z are apart, and r is the next that is free
-module _ (free hit : ℕ → Bool) (last z r : ℕ) (next : Least free (z + 1) last r) (done : (x : ℕ) → 1 ≤ x → x ≤ z → apart free hit x ≡ true) where
-  all-apart : r ≡ 0 → upTo last (apart free hit) ≡ true
-  all-apart e = up-to-all last (apart free hit) (λ x a b. go x a b (decLe x z))
-    where
-      go : (x : ℕ) → 1 ≤ x → x ≤ last → Dec (x ≤ z) → apart free hit x ≡ true
-      go x a b (yes l) = done x a l
-      go x a b (no l) = rw (least-none next (omega arith) e x (omega arith) b)
-
-  one-hit : (r ≡ 0 → ⊥) → hit r ≡ true → upTo last (apart free hit) ≡ false
-  one-hit some e = go (upTo last (apart free hit)) refl
-    where
-      fails : apart free hit r ≡ false
-      fails = rw (least-some next some .2, e)
-
-      go : (t : Bool) → upTo last (apart free hit) ≡ t → t ≡ false
-      go true h = absurd (false≢true (sym fails ∙ up-to last (apart free hit) h r (omega arith) (least-some next some .1)))
-      go false h = refl
-
-  apart-on : (r ≡ 0 → ⊥) → hit r ≡ false → (x : ℕ) → 1 ≤ x → x ≤ r → apart free hit x ≡ true
-  apart-on some e x a b = go (decLe x z) (ℕ-discrete x r)
-    where
-      go : Dec (x ≤ z) → Dec (x ≡ r) → apart free hit x ≡ true
-      go (yes l) q = done x a l
-      go (no l) (yes q) = rw (q, least-some next some .2, e)
-      go (no l) (no q) = rw (least-some next some .3 x (omega arith) (omega arith))
-
 abbrev Inv-loop : tie.InvT-loop
-Inv-loop file b area n images context left right y z₀ z =
-    (z ≤ b .variables)
-    × ((x : ℕ) → 1 ≤ x → x ≤ z
-    → apart (freeIn (b .terms) area n left) (hits (freeIn (b .terms) area n) (imagesIn b images context) y) x ≡ true)
+Inv-loop file b area n images context left right variables y at k₀ base₀ k base =
+    (k ≤ n)
+    × (base ≡ 64 * k)
+    × ((some : left ≡ 0 → ⊥) (few : left ≤ b .terms)
+    → Apart (b .terms) area n left (b .variables) (hitBy (freeIn (b .terms) area n) (imageAt (b .variables) images context) y) some few base)
 
 abbrev μ-loop : tie.MeasureT-loop
-μ-loop file b area n images context left right y z₀ z = b .variables - z
+μ-loop file b area n images context left right variables y at k₀ base₀ k base = b .variables - base
 
 term-field-requires : tie.Need-term-field-requires Inv-loop μ-loop
 term-field-requires c κs = search needs
@@ -72,80 +36,158 @@ returns : tie.Need-returns Inv-loop μ-loop
 unfolding bindSidesBy
 returns c = rw (← c .before .before .term-field .ensures, ← c .before .is-free .ensures, c .if1 .taken)
 
-loop-holds : tie.Need-loop-holds Inv-loop μ-loop
-loop-holds c = (omega arith, (λ x a b. absurd (omega arith)))
-
-add-next-free : tie.Need-add-next-free Inv-loop μ-loop
-add-next-free c = omega (arith, c .loop .inv .0, c .before .before .before .before .before .before .before .pre .0 .within .variables)
-
-next-free-requires : tie.Need-next-free-requires Inv-loop μ-loop
-next-free-requires c κs = c .before .before .before .before .before .before .before .pre .1
-
 returns-2 : tie.Need-returns-2 Inv-loop μ-loop
 unfolding bindSidesBy
 returns-2 c =
-    let a = c .before .before .before .before .before .before .before .before .before .args in
-    let l = c .before .before .loop in
-    let r = c .before .next-free in
+    let a = c .before .before .before .before .before .before .before .args in
     let free = freeIn (a .b .terms) (a .area .now) (a .n) in
-    let y = c .before .before .before .before .before .term-field in
-    let hit = hits free (imagesIn (a .b) (a .images .now) (a .s .context)) (y .result) in
-    rw (
-      ← y .ensures,
-      ← c .before .before .before .before .is-free .ensures,
-      c .before .before .before .if1 .left,
-      variables-length (a .file .now) (a .b),
-    )
-    (sym (all-apart (free (a .s .left)) hit (a .b .variables) (l .z) (r .result) (r .ensures) (l .inv .1) (c .if2 .taken)))
-
-image-of-requires : tie.Need-image-of-requires Inv-loop μ-loop
-image-of-requires c κs =
-    let p = c .before .before .before .before .before .before .before .before .before .pre in
-    (p .0 .within .variables, known-room _ _ _ _ (p .3) (p .2))
-
-free-in-image-requires : tie.Need-free-in-image-requires Inv-loop μ-loop
-free-in-image-requires c κs = c .before .before .before .before .before .before .before .before .before .before .pre .1
+    rw (← c .before .before .before .term-field .ensures, ← c .before .before .is-free .ensures, c .before .if1 .left)
+    (sym (apart-none (free (a .s .left)) (hitBy free (imagesIn (a .b) (a .images .now) (a .s .context)) (c .before .before .before .term-field .result))
+    (length (bundleAt (a .file .now) (a .b) .variables)) (λ x. free-zero (a .b .terms) (a .area .now) (a .n) (a .s .left) x (c .if2 .taken))))
 
 returns-3 : tie.Need-returns-3 Inv-loop μ-loop
 unfolding bindSidesBy
 returns-3 c =
+    let a = c .before .before .before .before .before .before .before .before .before .args in
+    let free = freeIn (a .b .terms) (a .area .now) (a .n) in
+    rw (← c .before .before .before .before .before .term-field .ensures, ← c .before .before .before .before .is-free .ensures, c .before .before .before .if1 .left)
+    (sym (apart-none (free (a .s .left)) (hitBy free (imagesIn (a .b) (a .images .now) (a .s .context)) (c .before .before .before .before .before .term-field .result))
+    (length (bundleAt (a .file .now) (a .b) .variables)) (λ x. free-past (a .b .terms) (a .area .now) (a .n) (a .s .left) x (c .if3 .taken))))
+
+sub-at : tie.Need-sub-at Inv-loop μ-loop
+sub-at c = search needs
+
+mul-at : tie.Need-mul-at Inv-loop μ-loop
+mul-at c =
+    let a = c .before .before .before .before .before .before .before .before .before .args in
+    omega (arith, set-within (a .n) (a .b .terms) (a .s .left) _ (c .before .before .before .before .before .before .before .before .before .pre .1) (c .before .before .if2 .left) (omega (arith, c .if3 .left)))
+
+loop-holds : tie.Need-loop-holds Inv-loop μ-loop
+loop-holds c = (omega arith, omega arith, λ some few x one up most. absurd (omega arith))
+
+returns-4 : tie.Need-returns-4 Inv-loop μ-loop
+unfolding bindSidesBy
+returns-4 c =
     let a = c .before .before .before .before .before .before .before .before .before .before .before .before .args in
     let p = c .before .before .before .before .before .before .before .before .before .before .before .before .pre in
-    let l = c .before .before .before .before .before .loop in
-    let r = c .before .before .before .before .next-free in
+    let l = c .before .before .loop in
     let free = freeIn (a .b .terms) (a .area .now) (a .n) in
     let y = c .before .before .before .before .before .before .before .before .term-field in
-    let hit = hits free (imagesIn (a .b) (a .images .now) (a .s .context)) (y .result) in
-    let h : hit (r .result) ≡ true =
-    rw (le-leb _ _ (p .3), ← c .before .before .image-of .ensures, ← c .before .free-in-image .ensures, c .if3 .taken) in
+    let hit = hitBy free (imageAt (a .b .variables) (a .images .now) (a .s .context)) (y .result) in
+    let some = c .before .before .before .before .before .if2 .left in
+    let few : a .s .left ≤ a .b .terms = omega (arith, c .before .before .before .if3 .left) in
     rw (
+      le-leb _ _ (p .3),
       ← y .ensures,
       ← c .before .before .before .before .before .before .before .is-free .ensures,
       c .before .before .before .before .before .before .if1 .left,
       variables-length (a .file .now) (a .b),
     )
-    (sym (one-hit (free (a .s .left)) hit (a .b .variables) (l .z) (r .result) (r .ensures) (l .inv .1) (c .before .before .before .if2 .left) h))
+    (sym (words-past (a .b .terms) (a .area .now) (a .n) (a .s .left) (a .b .variables) hit some few (l .k) (c .if4 .taken) (l .inv .0)
+    (rw (l .inv .1) at (l .inv .2 some few))))
+
+add-word-hits : tie.Need-add-word-hits Inv-loop μ-loop
+add-word-hits c =
+    let a = c .before .before .before .before .before .before .before .before .before .before .before .before .args in
+    omega (
+      arith,
+      set-within (a .n) (a .b .terms) (a .s .left) _ (c .before .before .before .before .before .before .before .before .before .before .before .before .pre .1) (c .before .before .before .before .before .if2 .left) (omega (arith, c .before .before .before .if3 .left)),
+      c .before .before .loop .inv .0,
+      c .if4 .left,
+    )
+
+mul-word-hits : tie.Need-mul-word-hits Inv-loop μ-loop
+mul-word-hits c =
+    let a = c .before .before .before .before .before .before .before .before .before .before .before .before .args in
+    omega (
+      arith,
+      set-within (a .n) (a .b .terms) (a .s .left) _ (c .before .before .before .before .before .before .before .before .before .before .before .before .pre .1) (c .before .before .before .before .before .if2 .left) (omega (arith, c .before .before .before .if3 .left)),
+      c .before .before .loop .inv .0,
+      c .if4 .left,
+    )
+
+shared-slice-read-word-hits : tie.Need-shared-slice-read-word-hits Inv-loop μ-loop
+shared-slice-read-word-hits c =
+    let a = c .before .before .before .before .before .before .before .before .before .before .before .before .before .args in
+    omega (
+      arith,
+      set-within (a .n) (a .b .terms) (a .s .left) _ (c .before .before .before .before .before .before .before .before .before .before .before .before .before .pre .1) (c .before .before .before .before .before .before .if2 .left) (omega (arith, c .before .before .before .before .if3 .left)),
+      c .before .before .before .loop .inv .0,
+      c .before .if4 .left,
+    )
+
+word-hits-requires : tie.Need-word-hits-requires Inv-loop μ-loop
+word-hits-requires c κs =
+    let p = c .before .before .before .before .before .before .before .before .before .before .before .before .before .pre in
+    (p .0 .within .variables, omega arith, p .1, known-room _ _ _ _ (p .3) (p .2))
+
+returns-5 : tie.Need-returns-5 Inv-loop μ-loop
+unfolding bindSidesBy
+returns-5 c =
+    let a = c .before .before .before .before .before .before .before .before .before .before .before .before .before .before .before .args in
+    let p = c .before .before .before .before .before .before .before .before .before .before .before .before .before .before .before .pre in
+    let l = c .before .before .before .before .before .loop in
+    let free = freeIn (a .b .terms) (a .area .now) (a .n) in
+    let y = c .before .before .before .before .before .before .before .before .before .before .before .term-field in
+    let hit = hitBy free (imageAt (a .b .variables) (a .images .now) (a .s .context)) (y .result) in
+    let some = c .before .before .before .before .before .before .before .before .if2 .left in
+    let few : a .s .left ≤ a .b .terms = omega (arith, c .before .before .before .before .before .before .if3 .left) in
+    rw (
+      le-leb _ _ (p .3),
+      ← y .ensures,
+      ← c .before .before .before .before .before .before .before .before .before .before .is-free .ensures,
+      c .before .before .before .before .before .before .before .before .before .if1 .left,
+      variables-length (a .file .now) (a .b),
+    )
+    (sym (words-fail (a .b .terms) (a .area .now) (a .n) (a .s .left) (a .b .variables) hit some few (l .k) (omega (arith, c .before .before .before .if4 .left))
+    (rw (l .inv .1) at (c .before .word-hits .ensures .1 (c .if5 .taken)))))
+
+add-k : tie.Need-add-k Inv-loop μ-loop
+add-k c = search needs
+
+add-base : tie.Need-add-base Inv-loop μ-loop
+add-base c = search needs
 
 loop-less : tie.Need-loop-less Inv-loop μ-loop
-loop-less c =
-    let r = c .before .before .before .before .next-free in
-    let some = least-some (r .ensures) (c .before .before .before .if2 .left) in
-    omega (arith, some .0, some .1)
+loop-less c = search needs
 
 loop-again : tie.Need-loop-again Inv-loop μ-loop
 loop-again c =
-    let a = c .before .before .before .before .before .before .before .before .before .before .before .before .args in
-    let p = c .before .before .before .before .before .before .before .before .before .before .before .before .pre in
+    let a = c .before .before .before .before .before .before .before .before .before .before .before .before .before .before .before .args in
+    let p = c .before .before .before .before .before .before .before .before .before .before .before .before .before .before .before .pre in
     let l = c .before .before .before .before .before .loop in
-    let r = c .before .before .before .before .next-free in
     let free = freeIn (a .b .terms) (a .area .now) (a .n) in
-    let y = c .before .before .before .before .before .before .before .before .term-field in
-    let hit = hits free (imagesIn (a .b) (a .images .now) (a .s .context)) (y .result) in
-    let h : hit (r .result) ≡ false =
-    rw (le-leb _ _ (p .3), ← c .before .before .image-of .ensures, ← c .before .free-in-image .ensures, c .if3 .left) in (
-      least-some (r .ensures) (c .before .before .before .if2 .left) .1,
-      apart-on (free (a .s .left)) hit (a .b .variables) (l .z) (r .result) (r .ensures) (l .inv .1) (c .before .before .before .if2 .left) h,
+    let y = c .before .before .before .before .before .before .before .before .before .before .before .term-field in
+    let hit = hitBy free (imageAt (a .b .variables) (a .images .now) (a .s .context)) (y .result) in
+    let here = c .before .before .before .before .before .before .before .before .if2 .left in
+    let low : a .s .left ≤ a .b .terms = omega (arith, c .before .before .before .before .before .before .if3 .left) in (
+      omega (arith, c .before .before .before .if4 .left),
+      omega (arith, l .inv .1),
+      λ some few. rw (l .inv .1)
+          (words-on (a .b .terms) (a .area .now) (a .n) (a .s .left) (a .b .variables) hit some few (l .k) (omega (arith, c .before .before .before .if4 .left))
+          (rw (l .inv .1) at (l .inv .2 some few)) (rw (l .inv .1) at (c .before .word-hits .ensures .0 (c .if5 .left)))),
     )
+
+returns-6 : tie.Need-returns-6 Inv-loop μ-loop
+unfolding bindSidesBy
+returns-6 c =
+    let a = c .before .before .before .before .before .before .before .before .before .before .before .args in
+    let p = c .before .before .before .before .before .before .before .before .before .before .before .pre in
+    let l = c .before .loop in
+    let free = freeIn (a .b .terms) (a .area .now) (a .n) in
+    let y = c .before .before .before .before .before .before .before .term-field in
+    let hit = hitBy free (imageAt (a .b .variables) (a .images .now) (a .s .context)) (y .result) in
+    let some = c .before .before .before .before .if2 .left in
+    let few : a .s .left ≤ a .b .terms = omega (arith, c .before .before .if3 .left) in
+    rw (
+      le-leb _ _ (p .3),
+      ← y .ensures,
+      ← c .before .before .before .before .before .before .is-free .ensures,
+      c .before .before .before .before .before .if1 .left,
+      variables-length (a .file .now) (a .b),
+    )
+    (sym (words-end (a .b .terms) (a .area .now) (a .n) (a .s .left) (a .b .variables) hit some few (l .base) (omega (arith, c .loop-test .left))
+    (l .inv .2 some few)))
 
 pub bind-sides-spec : {M : Type 1} → statement M
 bind-sides-spec =
@@ -156,12 +198,19 @@ bind-sides-spec =
     term-field-requires
     is-free-requires
     returns
-    loop-holds
-    add-next-free
-    next-free-requires
     returns-2
-    image-of-requires
-    free-in-image-requires
     returns-3
+    sub-at
+    mul-at
+    loop-holds
+    returns-4
+    add-word-hits
+    mul-word-hits
+    shared-slice-read-word-hits
+    word-hits-requires
+    returns-5
+    add-k
+    add-base
     loop-less
-    loop-again)
+    loop-again
+    returns-6)

@@ -44,7 +44,7 @@ term-field-requires-2 c κs = search needs
 image-of-requires : tie.Need-image-of-requires
 image-of-requires c κs =
     let p = c .before .before .before .before .before .before .before .before .pre in
-    (p .0 .within .variables, known-room _ _ _ _ (p .2) (p .1 .images))
+    known-room _ _ _ _ (p .2) (p .1 .images)
 
 is-image-requires : tie.Need-is-image-requires
 is-image-requires c κs = search needs

@@ -1,0 +1,3 @@
+-- Laws of the rules.
+--     BindWords      BIND's side, word by word
+mod BindWords
