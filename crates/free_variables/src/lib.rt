@@ -1,9 +1,11 @@
 // The free sets of all terms, n words each, written into a lent area. What lists share is united once for all of them (crate `unions`).
+pub mod spread; // spread.rt: sets of few words made sets of as many as a term has
+
 ghost use mathlib.Core.Path.{_≡_};
 ghost use mathlib.Core.Bool.{not, _&&_};
 ghost use Prim.Native.Nat.{_+_, _*_, _-_, _≤_, _<_};
 ghost use lib.ListN.{length};
-ghost use Rattle.bundle.specs.Limits.{setWords};
+ghost use Rattle.bundle.specs.Limits.{limits, setWords};
 ghost use Rattle.bundle.specs.Bundle.{termOf};
 ghost use Rattle.bundle.specs.Links.{items};
 ghost use Rattle.bundle.specs.Lists.{has};
@@ -118,52 +120,34 @@ fn free_terms(
     }
 }
 
-// The same, with room for the unions of the lists of up to 64, 512, or 2,048 links: small files ask for little room, since all of it is cleared.
-fn with_64_links(file: &[u8], b: Bundle, area: &mut [u64], n: usize)
-    requires { ⌜ Whole (now file) b × (1 ≤ n) × (n ≤ setWords) × (n * b .terms ≤ length (now area)) × (b .variables ≤ 64 * n) × (b .links ≤ 64) ⌝ }
-    ensures { λ _. ⌜ (length (now (area .exit)) ≡ length (now (area .entry)))
-        × SetsBelow (now (area .exit)) n (b .terms + 1) (bundleAt (now (file .entry)) b) ⌝ }
-{
-    let mut lists = [0u64; Bundle::SET_WORDS * 65];
-    let mut marks = [0u16; 65];
-    free_terms(file, b, area, n, &mut lists, &mut marks);
-}
-
-fn with_512_links(file: &[u8], b: Bundle, area: &mut [u64], n: usize)
-    requires { ⌜ Whole (now file) b × (1 ≤ n) × (n ≤ setWords) × (n * b .terms ≤ length (now area)) × (b .variables ≤ 64 * n) × (b .links ≤ 512) ⌝ }
-    ensures { λ _. ⌜ (length (now (area .exit)) ≡ length (now (area .entry)))
-        × SetsBelow (now (area .exit)) n (b .terms + 1) (bundleAt (now (file .entry)) b) ⌝ }
-{
-    let mut lists = [0u64; Bundle::SET_WORDS * 513];
-    let mut marks = [0u16; 513];
-    free_terms(file, b, area, n, &mut lists, &mut marks);
-}
-
-fn with_all_links(file: &[u8], b: Bundle, area: &mut [u64], n: usize)
-    requires { ⌜ Whole (now file) b × (1 ≤ n) × (n ≤ setWords) × (n * b .terms ≤ length (now area)) × (b .variables ≤ 64 * n) ⌝ }
-    ensures { λ _. ⌜ (length (now (area .exit)) ≡ length (now (area .entry)))
-        × SetsBelow (now (area .exit)) n (b .terms + 1) (bundleAt (now (file .entry)) b) ⌝ }
-{
-    let mut lists = [0u64; Bundle::SET_WORDS * (Bundle::LINKS + 1)];
-    let mut marks = [0u16; Bundle::LINKS + 1];
-    free_terms(file, b, area, n, &mut lists, &mut marks);
-}
-
-// The same, with room as the file asks for it.
+// The same, with room for the unions of the lists, of one of four sizes: small files ask for little room, since all of it is cleared.
 fn fitting(file: &[u8], b: Bundle, area: &mut [u64], n: usize)
     requires { ⌜ Whole (now file) b × (1 ≤ n) × (n ≤ setWords) × (n * b .terms ≤ length (now area)) × (b .variables ≤ 64 * n) ⌝ }
     ensures { λ _. ⌜ (length (now (area .exit)) ≡ length (now (area .entry)))
         × SetsBelow (now (area .exit)) n (b .terms + 1) (bundleAt (now (file .entry)) b) ⌝ }
 {
-    if b.links <= 64 {
-        with_64_links(file, b, area, n);
+    let words = n * (b.links + 1);
+    if words <= 65 {
+        let mut few_lists = [0u64; 65];
+        let mut few_marks = [0u16; 65];
+        free_terms(file, b, area, n, &mut few_lists, &mut few_marks);
         return;
     }
-    if b.links <= 512 {
-        with_512_links(file, b, area, n);
+    if words <= 513 {
+        let mut some_lists = [0u64; 513];
+        let mut some_marks = [0u16; 513];
+        free_terms(file, b, area, n, &mut some_lists, &mut some_marks);
         return;
     }
-    with_all_links(file, b, area, n);
+    if words <= 2049 {
+        let mut more_lists = [0u64; 2049];
+        let mut more_marks = [0u16; 2049];
+        free_terms(file, b, area, n, &mut more_lists, &mut more_marks);
+        return;
+    }
+    let mut lists = [0u64; Bundle::SET_WORDS * (Bundle::LINKS + 1)];
+    let mut marks = [0u16; Bundle::LINKS + 1];
+    free_terms(file, b, area, n, &mut lists, &mut marks);
 }
 
 // Writes the free sets of all terms, n words each, and zeros after them.
@@ -174,4 +158,15 @@ pub fn free_sets(file: &[u8], b: Bundle, area: &mut [u64], n: usize)
     fitting(file, b, area, n);
     let end = n * b.terms;
     sets::clear(area, end, area.len() - end);
+}
+
+// The words that a file's sets take while it is checked: as many as its variables ask for. Most files get by with one.
+pub fn words_for(variables: usize) -> usize
+    requires { ⌜ variables ≤ limits .variables ⌝ }
+    ensures { λ r. ⌜ (1 ≤ r) × (r ≤ setWords) × (variables ≤ 64 * r) ⌝ }
+{
+    if variables <= 64 {
+        return 1;
+    }
+    (variables + 63) / 64
 }
