@@ -2,6 +2,7 @@
 -- and the array of sorts is zero at first and large enough.
 use borrow.Author.Needs.{needs}
 use mathlib.Core.Path.{_≡_, sym, _∙_}
+use Prim.Native.Nat.{_+_}
 use native.Mathlib.Omega.{arith}
 use denote.Ref.{now}
 use Rattle.bundle.specs.Limits.{limits}

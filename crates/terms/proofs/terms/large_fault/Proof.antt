@@ -1,5 +1,6 @@
 -- `terms::large_fault` meets its contract: the arrays are zero at first and large enough.
 use borrow.Author.Needs.{needs}
+use Prim.Native.Nat.{_+_}
 use native.Mathlib.Omega.{arith}
 use Rattle.bundle.specs.Limits.{limits}
 use Rattle.bundle.proofs.LinkNotes.{zeros}
