@@ -120,8 +120,12 @@ module _ {b : Bundle} (formed : TablesFormed b) (B : Bundle) (more : Longer b B)
 
 -- ---- filing
 
-pub filed-none : (b : Bundle) → FiledTo b (replicate (digests + limits .terms + 1) 0) 0
-filed-none b = record { long = length-replicate {A = ℕ} (digests + limits .terms + 1) 0; held = λ B more. none-filed _ _ _ (zero-at (digests + limits .terms + 1)) (λ j. zero-at (digests + limits .terms + 1) (digests + j)) }
+-- words of the index
+abbrev places : ℕ
+places = digests + limits .terms + 1
+
+pub filed-none : (b : Bundle) → FiledTo b (replicate places 0) 0
+filed-none b = record { long = length-replicate {A = ℕ} places 0; held = λ B more. none-filed _ _ _ (zero-at places) (λ j. zero-at places (digests + j)) }
   where
     zero-at : (n d : ℕ) → _≡_ {A = ℕ} (getD (replicate n 0) d 0) 0
     zero-at zero d = refl
@@ -136,7 +140,7 @@ module _ (b : Bundle) (ix : List ℕ) (n d : ℕ) (filed : FiledTo b ix n) (t n�
   abbrev new : List ℕ
   new = set mid d t
 
-  mid-long : length mid ≡ digests + limits .terms + 1
+  mid-long : length mid ≡ places
   mid-long = length-set ix (digests + t) (getD ix d 0) ∙ filed .long
 
   -- the index after, place by place
