@@ -13,7 +13,7 @@ use mathlib.Core.List.{List, [], _∷_}
 use lib.ListN.{length, length-append}
 use Rattle.bundle.specs.declared.Bundle.{Bundle as Counts}
 use Rattle.bundle.specs.Bundle.{Bundle, TermRecord, sortOfVariable}
-use Rattle.bundle.specs.Limits.{Within}
+use Rattle.bundle.specs.Limits.{limits, Within}
 use Rattle.logic.specs.Symbols.{signatureOf, resultSort}
 use Rattle.logic.specs.Terms.{Binder, binder, numberOf, isBinder}
 use Rattle.logic.proofs.TermKinds.{binder-kind, is-binder-exactly}
@@ -158,7 +158,7 @@ kind-binder k e = let h = is-binder-exactly k .0 e in (h .0, binder-kind k (h .0
 pub zero-is : {x y : ℕ} → x ≡ y → x ≡ 0 → y ≡ 0
 zero-is e z = sym e ∙ z
 
-pub variable-word : (n : ℕ) (w : List ℕ) {x : ℕ} → x ≡ variableAmong n w → n ≤ 64 → x ≤ 4294967295
+pub variable-word : (n : ℕ) (w : List ℕ) {x : ℕ} → x ≡ variableAmong n w → n ≤ limits .variables → x ≤ 4294967295
 unfolding numberWithin
 variable-word n w {x} e h = rw e (go (leb 1 (numberAfter 118 w)) (leb (numberAfter 118 w) n) refl)
   where

@@ -8,7 +8,7 @@ use Rattle.logic.proofs.CounterExample.{counterExample}
 use Rattle.judgement.specs.Judge.{judge, areaAfter}
 use Rattle.expansion.specs.Expansion.{expansion}
 use Rattle.expansion.specs.ExampleFiles.{nameClash}
-use Rattle.expansion.specs.Examples.{TwelveRight}
+use Rattle.expansion.specs.Examples.{firsts, TwelveRight}
 
 -- a row, and those after it
 infixr 40 _and_
@@ -16,7 +16,7 @@ _and_ : {P Q : Type 0} → P → Q → P × Q
 p and q = (p, q)
 
 pub twelve-right : TwelveRight
-unfolding encode judge areaAfter expansion
+unfolding encode judge areaAfter expansion firsts
 twelve-right =
     -- 1, and with two words more
     (refl, refl)

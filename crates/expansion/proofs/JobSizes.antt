@@ -3,6 +3,7 @@ use mathlib.Core.Path.{_≡_, subst}
 use Prim.Native.Nat.{ℕ, _≤_}
 use mathlib.Core.List.{List}
 use native.Mathlib.Omega.{arith}
+use Rattle.bundle.specs.Limits.{limits}
 use Rattle.bundle.specs.File.{bundleOf}
 use Rattle.logic.specs.Tests.{firstFailing, fault, orElse}
 use Rattle.logic.specs.Checks.{tablesFault}
@@ -19,7 +20,7 @@ job-small f out words sets =
     (else-small (firstFailing (jobTests (bundleOf f))) 0 (fault 0 0)
     (failing-le (jobTests (bundleOf f)) (omega arith, (omega arith, (omega arith, (omega arith, tt))))) (omega arith) none-small)
 
-pub refused-job-small : (f : List ℕ) (out words sets n i : ℕ) → expansion f out words sets .answer ≡ Refused n i → (n ≤ 18) × (i ≤ 2048)
+pub refused-job-small : (f : List ℕ) (out words sets n i : ℕ) → expansion f out words sets .answer ≡ Refused n i → (n ≤ 18) × (i ≤ limits .links)
 refused-job-small f out words sets n i e =
     let s : SmallFault (fault n i) = subst SmallFault (refused-job-where f out words sets n i .0 e .1) (job-small f out words sets) in
     (s .number, s .place)

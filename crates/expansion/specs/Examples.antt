@@ -33,6 +33,11 @@ Right (expand f out words sets answer out′ words′ sets′) =
     × (expansion f out words sets .words ≡ words′)
     × (expansion f out words sets .sets ≡ sets′)
 
+-- free sets of four words each, one after another, with no variable above 64: the first word of each is given here, the others are zero
+unfoldable pub firsts : List ℕ → List ℕ
+firsts [] = []
+firsts (x ∷ xs) = x ∷ 0 ∷ 0 ∷ 0 ∷ firsts xs
+
 abbrev pub accepted : List ℕ → ℕ → ℕ → ℕ → List ℕ → Row
 accepted f lent left right area = check f lent (Accepted (record { left = left; right = right })) area
 
@@ -43,38 +48,38 @@ refused f lent number i = check f lent (Refused number i) (replicate lent 0)
 abbrev pub rows : List Row
 rows =
     -- 1. The printed file; free sets 1, 0, 1, 0, 0.
-    accepted (encode (printed 4 4 0)) 5 5 4 (1 ∷ 0 ∷ 1 ∷ 0 ∷ 0 ∷ [])
+    accepted (encode (printed 4 4 0)) 20 5 4 (firsts (1 ∷ 0 ∷ 1 ∷ 0 ∷ 0 ∷ []))
     -- The same with two words more: the rest is zero.
-    ∷ accepted (encode (printed 4 4 0)) 7 5 4 (1 ∷ 0 ∷ 1 ∷ 0 ∷ 0 ∷ 0 ∷ 0 ∷ [])
+    ∷ accepted (encode (printed 4 4 0)) 22 5 4 (firsts (1 ∷ 0 ∷ 1 ∷ 0 ∷ 0 ∷ []) ++ (0 ∷ 0 ∷ []))
     -- 2. Claimed right 2: 15, record 0.
-    ∷ refused (encode (printed 2 4 0)) 5 15 0
+    ∷ refused (encode (printed 2 4 0)) 20 15 0
     -- 3. Step 3's right 3: 13, record 3.
-    ∷ refused (encode (printed 4 3 0)) 5 13 3
+    ∷ refused (encode (printed 4 3 0)) 20 13 3
     -- 4. Link 2's next 1: 5, record 2.
-    ∷ refused (encode (printed 4 4 1)) 5 5 2
+    ∷ refused (encode (printed 4 4 1)) 20 5 2
     -- 5. Empty input, and 35 bytes: 1.
-    ∷ refused [] 5 1 0
-    ∷ refused (replicate 35 0) 5 1 0
+    ∷ refused [] 20 1 0
+    ∷ refused (replicate 35 0) 20 1 0
     -- 6. 36 bytes, version 1, all else zero: 15.
-    ∷ refused (encode bare) 5 15 0
+    ∷ refused (encode bare) 20 15 0
     -- 7. The ∀y example: 14 at the inner BIND.
-    ∷ refused (encode nameClash) 11 14 5
+    ∷ refused (encode nameClash) 44 14 5
     -- 8. Replacing x by a, then fixing x: the image is x,
-    ∷ accepted (encode (fixed 1)) 5 5 4 (1 ∷ 0 ∷ 1 ∷ 0 ∷ 0 ∷ [])
+    ∷ accepted (encode (fixed 1)) 20 5 4 (firsts (1 ∷ 0 ∷ 1 ∷ 0 ∷ 0 ∷ []))
     -- and not a.
-    ∷ refused (encode (fixed 2)) 5 13 2
+    ∷ refused (encode (fixed 2)) 20 13 2
     -- 9. TRANS with middle p(x,x) where x becomes a: 14.
-    ∷ refused (encode unsettled) 9 14 6
+    ∷ refused (encode unsettled) 36 14 6
     -- 10. A let over x, x: 8.
-    ∷ refused (encode repeated) 5 8 5
+    ∷ refused (encode repeated) 20 8 5
     -- 11. The writer on let x≃a in p(x,x) with four terms, with areas of the least lengths: a file of 356 bytes, zeros after them, scratch ends zero.
-    ∷ expand (encode job) 58148 14537 1024 (Written 356) (encode file ++ replicate 57792 0) (replicate 14537 0) (replicate 1024 0)
+    ∷ expand (encode job) 58916 14729 4096 (Written 356) (encode file ++ replicate 58560 0) (replicate 14729 0) (replicate 4096 0)
     -- That file is accepted; right is term 5.
-    ∷ accepted (encode file) 5 4 5 (1 ∷ 0 ∷ 1 ∷ 0 ∷ 0 ∷ [])
+    ∷ accepted (encode file) 20 4 5 (firsts (1 ∷ 0 ∷ 1 ∷ 0 ∷ 0 ∷ []))
     -- 12. x and y fixed, then replaced by y and x together: REFL takes x to y,
-    ∷ accepted (encode (swapped 2)) 9 7 9 (1 ∷ 2 ∷ 3 ∷ 3 ∷ 3 ∷ 1 ∷ 0 ∷ 1 ∷ 0 ∷ [])
+    ∷ accepted (encode (swapped 2)) 36 7 9 (firsts (1 ∷ 2 ∷ 3 ∷ 3 ∷ 3 ∷ 1 ∷ 0 ∷ 1 ∷ 0 ∷ []))
     -- and not to x.
-    ∷ refused (encode (swapped 1)) 9 13 3
+    ∷ refused (encode (swapped 1)) 36 13 3
     ∷ []
 
 -- ---- the statement

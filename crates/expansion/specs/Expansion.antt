@@ -23,7 +23,7 @@ use Rattle.expansion.specs.File.{countsIn, fileOf}
 abbrev pub stackWords : ℕ
 stackWords = setWords * limits .terms
 
--- An output of at least 58,148 bytes, and scratch of at least 14,537 words of 32 bits and 1,024 of 64: how many of the three areas are long
+-- An output of at least 58,916 bytes, and scratch of at least 14,729 words of 32 bits and 4,096 of 64: how many of the three areas are long
 -- enough, where three are required.
 unfoldable pub longEnough : ℕ → ℕ → ℕ → ℕ
 unfolding headerWords

@@ -16,6 +16,7 @@ use lib.Seq.{getD-set-same, getD-set-other}
 use lib.Dec.{eqb}
 use borrow.Author.Tests.{eqb-true, ne-eqb}
 use Rattle.bundle.specs.Bundle.{Bundle, TermRecord, termOf}
+use Rattle.bundle.specs.Limits.{limits}
 use Rattle.bundle.specs.Links.{items}
 use Rattle.bundle.specs.Lists.{sameList}
 use Rattle.bundle.specs.Filed.{digests, mix, Filed}
@@ -119,8 +120,12 @@ module _ {b : Bundle} (formed : TablesFormed b) (B : Bundle) (more : Longer b B)
 
 -- ---- filing
 
-pub filed-none : (b : Bundle) → FiledTo b (replicate 3073 0) 0
-filed-none b = record { long = length-replicate {A = ℕ} 3073 0; held = λ B more. none-filed _ _ _ (zero-at 3073) (λ j. zero-at 3073 (digests + j)) }
+-- words of the index
+abbrev places : ℕ
+places = digests + limits .terms + 1
+
+pub filed-none : (b : Bundle) → FiledTo b (replicate places 0) 0
+filed-none b = record { long = length-replicate {A = ℕ} places 0; held = λ B more. none-filed _ _ _ (zero-at places) (λ j. zero-at places (digests + j)) }
   where
     zero-at : (n d : ℕ) → _≡_ {A = ℕ} (getD (replicate n 0) d 0) 0
     zero-at zero d = refl
@@ -128,14 +133,14 @@ filed-none b = record { long = length-replicate {A = ℕ} 3073 0; held = λ B mo
     zero-at (suc n) (suc d) = zero-at n d
 
 module _ (b : Bundle) (ix : List ℕ) (n d : ℕ) (filed : FiledTo b ix n) (t n′ : ℕ) (next : t ≡ suc n) (last : n′ ≡ t)
-    (own : (B : Bundle) → Longer b B → lookupDigest B (termOf B t) ≡ d) (small : d < digests) (room : t ≤ 1024) where
+    (own : (B : Bundle) → Longer b B → lookupDigest B (termOf B t) ≡ d) (small : d < digests) (room : t ≤ limits .terms) where
   abbrev mid : List ℕ
   mid = set ix (digests + t) (getD ix d 0)
 
   abbrev new : List ℕ
   new = set mid d t
 
-  mid-long : length mid ≡ 3073
+  mid-long : length mid ≡ places
   mid-long = length-set ix (digests + t) (getD ix d 0) ∙ filed .long
 
   -- the index after, place by place

@@ -11,6 +11,7 @@ use mathlib.Core.List.{List, [], _∷_}
 use lib.ListN.{length}
 use lib.Dec.{eqb, leb}
 use borrow.Author.Tests.{ne-eqb, leb-true}
+use Rattle.bundle.specs.Limits.{limits}
 use Rattle.grammar.specs.Bytes.{Word, constant, negation, connective, quantifier, letting, sort, name, wordOf}
 use Rattle.grammar.specs.Grammar.{SortedVariable, declares, Formula, called, truth, bracketed, Bracketed, denies, connects, applies, quantifies, lets}
 use Rattle.grammar.specs.Grammar.{Formulas, noFormula, andFormula, Bindings, noBinding, andBinding, Lexeme, opens, closes, word, stray}
@@ -321,7 +322,7 @@ module _ (n : ℕ) {text : List ℕ} {i : ℕ} {first : Lexed} (h : Lexes text i
   pub variable-ends : (first .code ≡ 0 → ⊥) → VariableAt text n i (ended (first .end))
   variable-ends m = record { item = ended-item; further = λ k. absurd (true≢false k); means = variable-last m }
 
-  module _ (small : n ≤ 64) where
+  module _ (small : n ≤ limits .variables) where
     called-word : {v : ℕ} (w : List ℕ) → v ≡ variableAmong n w → v ≤ 4294967295
     unfolding numberWithin
     called-word {v} w e = rw e (go (leb 1 (numberAfter 118 w)) (leb (numberAfter 118 w) n) refl)

@@ -2,6 +2,7 @@
 ghost use mathlib.Core.Path.{_≡_};
 ghost use Prim.Native.Nat.{_≤_};
 ghost use lib.ListN.{length};
+ghost use Rattle.bundle.specs.Limits.{limits};
 ghost use Rattle.heads.specs.Places.{HeadAt, VariableAt, PartAt, PartEnd};
 use crate::Head;
 use crate::Item;
@@ -53,7 +54,7 @@ pub fn head_at(text: &[u8], i: usize) -> Head
 
 // Of a quantifier's variables, where so many are declared, the one at byte i; or their list's end.
 pub fn variable_at(text: &[u8], variables: usize, i: usize) -> Item
-    requires { ⌜ (i ≤ length (now text)) × (variables ≤ 64) ⌝ }
+    requires { ⌜ (i ≤ length (now text)) × (variables ≤ limits .variables) ⌝ }
     ensures { λ r. ⌜ VariableAt (now (text .entry)) variables i r ⌝ }
 {
     let first = next_lexeme(text, i);
@@ -79,7 +80,7 @@ pub fn variable_at(text: &[u8], variables: usize, i: usize) -> Item
 
 // The part at byte i: where it is bound, its variable, and the byte where its formula starts; or the list's end.
 pub fn part_at(text: &[u8], variables: usize, bound: bool, i: usize) -> Item
-    requires { ⌜ (i ≤ length (now text)) × (variables ≤ 64) ⌝ }
+    requires { ⌜ (i ≤ length (now text)) × (variables ≤ limits .variables) ⌝ }
     ensures { λ r. ⌜ PartAt (now (text .entry)) variables bound i r ⌝ }
 {
     let first = next_lexeme(text, i);

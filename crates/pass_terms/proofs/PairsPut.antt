@@ -17,6 +17,7 @@ use lib.Dec.{ltb, leb}
 use borrow.Author.Tests.{ltb-false, leb-false}
 use Rattle.bundle.specs.declared.Bundle.{Bundle as Counts}
 use Rattle.bundle.specs.Bundle.{Bundle, TermRecord, sortOfVariable}
+use Rattle.bundle.specs.Limits.{limits}
 use Rattle.bundle.specs.File.{bundleBy, countsOf}
 use Rattle.bundle.proofs.Walks.{or-none}
 use Rattle.logic.specs.Symbols.{signatureOf, resultSort}
@@ -40,11 +41,11 @@ use Rattle.pass_terms.specs.Passing.{declared, countsBy, PairPut, Ended,
 
 -- ---- what `ended` tests
 
-pub tests-none : (h n s : ℕ) → ((leb 2048 h || ltb 4294967295 n) || ltb 1 s) ≡ false → (h < 2048) × (n ≤ 4294967295) × (s ≤ 1)
+pub tests-none : (h n s : ℕ) → ((leb (limits .links) h || ltb 4294967295 n) || ltb 1 s) ≡ false → (h < limits .links) × (n ≤ 4294967295) × (s ≤ 1)
 tests-none h n s e =
-    let a = or-none (leb 2048 h || ltb 4294967295 n) (ltb 1 s) e in
-    let b = or-none (leb 2048 h) (ltb 4294967295 n) (a .0) in
-    (leb-false 2048 h (b .0), ltb-false 4294967295 n (b .1), ltb-false 1 s (a .1))
+    let a = or-none (leb (limits .links) h || ltb 4294967295 n) (ltb 1 s) e in
+    let b = or-none (leb (limits .links) h) (ltb 4294967295 n) (a .0) in
+    (leb-false (limits .links) h (b .0), ltb-false 4294967295 n (b .1), ltb-false 1 s (a .1))
 
 -- ---- a pair that is laid on the stack
 

@@ -2,6 +2,7 @@
 ghost use mathlib.Core.Path.{_≡_};
 ghost use Prim.Native.Nat.{_≤_};
 ghost use Rattle.bundle.specs.Bundle.{sortOfVariable};
+ghost use Rattle.bundle.specs.Limits.{limits};
 ghost use Rattle.bundle.specs.File.{Whole, countsOf};
 ghost use Rattle.pass_terms.specs.Passing.{countsBy, declared};
 use bundle::Bundle;
@@ -27,14 +28,14 @@ pub fn counts_by(file: &[u8], counts: &[usize; 2]) -> Bundle
 // How many symbols, and how many variables, are declared.
 pub fn declared_symbols(file: &[u8]) -> usize
     requires { ⌜ Whole (now file) (countsOf (now file)) ⌝ }
-    ensures { λ r. ⌜ (r ≡ countsOf (now (file .entry)) .symbols) × (r ≤ 64) ⌝ }
+    ensures { λ r. ⌜ (r ≡ countsOf (now (file .entry)) .symbols) × (r ≤ limits .symbols) ⌝ }
 {
     bundle::words::word_at(file, 1)
 }
 
 pub fn declared_variables(file: &[u8]) -> usize
     requires { ⌜ Whole (now file) (countsOf (now file)) ⌝ }
-    ensures { λ r. ⌜ (r ≡ countsOf (now (file .entry)) .variables) × (r ≤ 64) ⌝ }
+    ensures { λ r. ⌜ (r ≡ countsOf (now (file .entry)) .variables) × (r ≤ limits .variables) ⌝ }
 {
     bundle::words::word_at(file, 2)
 }

@@ -11,6 +11,7 @@ use mathlib.Core.List.{List, [], _∷_}
 use lib.ListN.{length, getD, drop}
 use lib.Dec.{eqb, leb}
 use borrow.Author.Tests.{leb-true, le-leb, ne-eqb}
+use Rattle.bundle.specs.Limits.{limits}
 use Rattle.bundle.specs.Lists.{each, sameList}
 use Rattle.logic.specs.Tests.{upTo}
 use Rattle.logic.specs.Terms.{Binder, forAll, exists, binder, numberOf}
@@ -229,7 +230,7 @@ unfolding numberWithin numberAfter
 within-is letter low high ds n k e v a b = rw (k, e, v, le-leb low n a, le-leb n high b)
 
 module _ (symbols variables : ℕ) (text : List ℕ) (s : ℕ) (n : Digits) (i : s < length text) (stop : RunStops text (n .end)) where
-  pub word-variable : getD text s 0 ≡ 118 → DigitsAt text (s + 1) variables n → variables ≤ 64 → (n .value ≡ 0 → ⊥)
+  pub word-variable : getD text s 0 ≡ 118 → DigitsAt text (s + 1) variables n → variables ≤ limits .variables → (n .value ≡ 0 → ⊥)
       → {r : Token} → r ≡ token 3 (n .value) (n .end) → WordAt symbols variables text s r
   unfolding classCode classOf
   word-variable c h l some e =
@@ -238,7 +239,7 @@ module _ (symbols variables : ℕ) (text : List ℕ) (s : ℕ) (n : Digits) (i :
       (118 ∷ part text (s + 1) (n .end)) (named text s variables n h i some stop 118 c refl)
       (within-is 118 1 variables (part text (s + 1) (n .end)) (n .value) refl (v .1) (v .2) (omega arith) (h .most)) some)
 
-  pub word-name : getD text s 0 ≡ 102 → DigitsAt text (s + 1) (32 + symbols) n → symbols ≤ 64 → 32 < n .value
+  pub word-name : getD text s 0 ≡ 102 → DigitsAt text (s + 1) (32 + symbols) n → symbols ≤ limits .symbols → 32 < n .value
       → {r : Token} → r ≡ token 4 (n .value) (n .end) → WordAt symbols variables text s r
   unfolding classCode classOf symbolFor
   word-name c h l low e =

@@ -2,6 +2,7 @@
 ghost use mathlib.Core.Path.{_≡_};
 ghost use Prim.Native.Nat.{_≤_};
 ghost use lib.ListN.{length};
+ghost use Rattle.bundle.specs.Limits.{limits};
 ghost use Rattle.pass_tokens.specs.Tokens.{HeadAt, SortedAt, BoundAt};
 use super::Item;
 use super::Token;
@@ -33,7 +34,7 @@ fn no_item() -> Item
 // The head of a formula whose opening bracket ends before byte i: a symbol; or a binder or let with the opening bracket of its list, in which
 // another one follows.
 pub fn head_at(text: &[u8], symbols: usize, variables: usize, i: usize) -> Token
-    requires { ⌜ (i ≤ length (now text)) × (symbols ≤ 64) × (variables ≤ 64) ⌝ }
+    requires { ⌜ (i ≤ length (now text)) × (symbols ≤ limits .symbols) × (variables ≤ limits .variables) ⌝ }
     ensures { λ r. ⌜ HeadAt symbols (now (text .entry)) i r ⌝ }
 {
     let from = past_blanks(text, i);
@@ -63,7 +64,7 @@ pub fn head_at(text: &[u8], symbols: usize, variables: usize, i: usize) -> Token
 
 // A variable with its sort, in brackets, at byte i: as a quantifier lists it.
 pub fn sorted_at(text: &[u8], symbols: usize, variables: usize, i: usize) -> Item
-    requires { ⌜ (i ≤ length (now text)) × (symbols ≤ 64) × (variables ≤ 64) ⌝ }
+    requires { ⌜ (i ≤ length (now text)) × (symbols ≤ limits .symbols) × (variables ≤ limits .variables) ⌝ }
     ensures { λ r. ⌜ SortedAt variables (now (text .entry)) i r ⌝ }
 {
     if byte_at(text, i) != b'(' {
@@ -91,7 +92,7 @@ pub fn sorted_at(text: &[u8], symbols: usize, variables: usize, i: usize) -> Ite
 
 // The opening bracket and the variable of a let's pair at byte i, and the white space and comments after it.
 pub fn bound_at(text: &[u8], symbols: usize, variables: usize, i: usize) -> Item
-    requires { ⌜ (i ≤ length (now text)) × (symbols ≤ 64) × (variables ≤ 64) ⌝ }
+    requires { ⌜ (i ≤ length (now text)) × (symbols ≤ limits .symbols) × (variables ≤ limits .variables) ⌝ }
     ensures { λ r. ⌜ BoundAt variables (now (text .entry)) i r ⌝ }
 {
     if byte_at(text, i) != b'(' {

@@ -3,6 +3,7 @@ ghost use mathlib.Core.Path.{_≡_};
 ghost use mathlib.Core.Bool.{Bool, true};
 ghost use Prim.Native.Nat.{_+_, _≤_, _<_};
 ghost use lib.ListN.{length, getD};
+ghost use Rattle.bundle.specs.Limits.{limits};
 ghost use Rattle.pass_tokens.specs.Tokens.{goesOn, RunStops, DigitsAt, WordStands, WordAt};
 use super::Token;
 use lexing::runs::wide;
@@ -178,7 +179,7 @@ fn reserved_at(text: &[u8], symbols: usize, variables: usize, start: usize) -> T
 
 // The word at byte `start`, where so many symbols and variables are declared.
 pub fn word_at(text: &[u8], symbols: usize, variables: usize, start: usize) -> Token
-    requires { ⌜ (start ≤ length (now text)) × (symbols ≤ 64) × (variables ≤ 64) ⌝ }
+    requires { ⌜ (start ≤ length (now text)) × (symbols ≤ limits .symbols) × (variables ≤ limits .variables) ⌝ }
     ensures { λ r. ⌜ WordAt symbols variables (now (text .entry)) start r ⌝ }
 {
     if start >= text.len() {

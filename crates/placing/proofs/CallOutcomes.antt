@@ -20,6 +20,7 @@ use native.Mathlib.Omega.{arith}
 use lib.ListN.{length, length-append}
 use Rattle.bundle.specs.declared.Bundle.{Bundle as Counts}
 use Rattle.bundle.specs.Bundle.{Bundle, TermRecord, Context, sortOfVariable}
+use Rattle.bundle.specs.Limits.{limits}
 use Rattle.logic.specs.declared.Image.the-variants.{Own, Gives}
 use Rattle.logic.specs.Terms.{Binder, binder, numberOf, isBinder}
 use Rattle.logic.proofs.TermKinds.{binder-kind, is-binder-exactly}
@@ -168,7 +169,7 @@ fresh-on w c b x s y e d n {w′} {r} o =
     subst (λ (i : ℕ). PlaceOutcome (placeVariable (withVariables b (sortOfVariable b x ∷ [])) i) w′ r) n
     (subst (λ (B : Bundle). PlaceOutcome (placeVariable B y) w′ r) (e ∙ ap (λ (i : ℕ). withVariables b (i ∷ [])) d) o)
 
-pub variable-full : (w : List ℕ) (c : Counts) (x : ℕ) → 64 ≤ c .variables → {w′ : List ℕ} → PlaceOutcome (fresh (bundleIn w c) x) w′ Recorded.Full
+pub variable-full : (w : List ℕ) (c : Counts) (x : ℕ) → limits .variables ≤ c .variables → {w′ : List ℕ} → PlaceOutcome (fresh (bundleIn w c) x) w′ Recorded.Full
 variable-full w c x l =
     let b : Bundle = bundleIn w c in
     let v : Bundle = withVariables b (sortOfVariable b x ∷ []) in

@@ -10,6 +10,7 @@ use native.Mathlib.Omega.{arith}
 use lib.ListN.{length, getD, set, length-append}
 use Rattle.bundle.specs.declared.Bundle.{Bundle as Counts}
 use Rattle.bundle.specs.Bundle.{Bundle, TermRecord, termOf}
+use Rattle.bundle.specs.Limits.{limits}
 use Rattle.bundle.specs.Filed.{digests}
 use Rattle.logic.specs.Longer.{Longer, withVariables, withTerms, addList, listStart}
 use Rattle.logic.proofs.Longer.{longer-trans, list-longer, variables-longer, terms-longer, term-added}
@@ -108,7 +109,7 @@ module _ {b : Bundle} {vs w : List ℕ} {a : Recorded} {c : Counts} {s : ℕ} (o
       ∙ sym own
 
 -- w and c are those after the term t was appended, and ix′ is the index after it was filed
-pub term-indexed : {b : Bundle} {ix : List ℕ} → Indexed b ix → (r : TermRecord) (d : ℕ) → Digested b r d → d < digests → length (b .terms) < 1024
+pub term-indexed : {b : Bundle} {ix : List ℕ} → Indexed b ix → (r : TermRecord) (d : ℕ) → Digested b r d → d < digests → length (b .terms) < limits .terms
     → {t : ℕ} → t ≡ suc (length (b .terms)) → (w : List ℕ) (c : Counts) → bundleIn w c ≡ withTerms b (r ∷ [])
     → {ix′ : List ℕ} → ix′ ≡ set (set ix (digests + t) (getD ix d 0)) d t → Indexed (bundleIn w c) ix′
 term-indexed {b} {ix} indexed r d digested small room {t} next w c e {ix′} f =

@@ -142,7 +142,7 @@ abbrev pub Words : List ℕ → Type 0
 Words w = (i : ℕ) → getD w i 0 ≤ 4294967295
 
 -- so the result of a visit is one: it stands in its step
-pub result-word : {v : Visit} {b : Bundle} {w : List ℕ} {n : Counts} {x y : ℕ} → Ends b v → VisitDone v w n x y → Words w → (x ≤ 4294967295) × (y ≤ 1024)
+pub result-word : {v : Visit} {b : Bundle} {w : List ℕ} {n : Counts} {x y : ℕ} → Ends b v → VisitDone v w n x y → Words w → (x ≤ 4294967295) × (y ≤ limits .steps)
 result-word {v} {b} {w} {n} {x} {y} ends d word =
     let e : stepOf (bundleIn w n) (v .step) .right ≡ v .result = ap (λ (u : Bundle). stepOf u (v .step) .right) (d .now .bundle) ∙ ends .right in
     let f : ℕ → ℕ = λ j. recordBy (wordIn w) (stepsAt limits) 5 j 3 in (

@@ -116,19 +116,19 @@ list-length b vs =
     ∙ ap (λ (n : ℕ). length (b .links) + n) (consecutive-length (suc (length (b .links))) vs)
 
 module _ (w : List ℕ) (c : Counts) where
-  pub list-over : (vs : List ℕ) → 2048 < c .links + length vs → TooMuch (addList (bundleIn w c) vs)
+  pub list-over : (vs : List ℕ) → limits .links < c .links + length vs → TooMuch (addList (bundleIn w c) vs)
   list-over vs l h = omega (arith, h .links, list-length (bundleIn w c) vs, sized-in w c .links)
 
-  pub variable-over : (s : ℕ) → 64 ≤ c .variables → TooMuch (withVariables (bundleIn w c) (s ∷ []))
+  pub variable-over : (s : ℕ) → limits .variables ≤ c .variables → TooMuch (withVariables (bundleIn w c) (s ∷ []))
   variable-over s l h = omega (arith, h .variables, length-append (bundleIn w c .variables) (s ∷ []), sized-in w c .variables)
 
-  pub term-over : (r : TermRecord) → 1024 ≤ c .terms → TooMuch (withTerms (bundleIn w c) (r ∷ []))
+  pub term-over : (r : TermRecord) → limits .terms ≤ c .terms → TooMuch (withTerms (bundleIn w c) (r ∷ []))
   term-over r l h = omega (arith, h .terms, length-append (bundleIn w c .terms) (r ∷ []), sized-in w c .terms)
 
-  pub context-over : (r : Context) → 256 ≤ c .contexts → TooMuch (withContexts (bundleIn w c) (r ∷ []))
+  pub context-over : (r : Context) → limits .contexts ≤ c .contexts → TooMuch (withContexts (bundleIn w c) (r ∷ []))
   context-over r l h = omega (arith, h .contexts, length-append (bundleIn w c .contexts) (r ∷ []), sized-in w c .contexts)
 
-  pub step-over : (r : Step) → 1024 ≤ c .steps → TooMuch (withSteps (bundleIn w c) (r ∷ []))
+  pub step-over : (r : Step) → limits .steps ≤ c .steps → TooMuch (withSteps (bundleIn w c) (r ∷ []))
   step-over r l h = omega (arith, h .steps, length-append (bundleIn w c .steps) (r ∷ []), sized-in w c .steps)
 
 pub longer-over : {b b′ : Bundle} → Longer b b′ → TooMuch b → TooMuch b′

@@ -1,6 +1,6 @@
 -- How large the number and the record, or the byte, of a refusal can be, and the length of a job.
---     refused-reading-small     the number is 1 to 20; the record at most 2,048, or the byte at most the text's length
---     job-short                 a job has at most 58,148 bytes
+--     refused-reading-small     the number is 1 to 20; the record at most the limit of links, or the byte at most the text's length
+--     job-short                 a job has at most as many bytes as the longest file
 use Prim.Native.Nat.{ℕ, zero, suc, _≤_}
 use native.Mathlib.Omega.{arith}
 use mathlib.Core.Path.{_≡_, refl, ap, sym, _∙_, subst}
@@ -96,11 +96,11 @@ answered-small b text a (read φ r fit) m i e = let z : _≡_ {A = ℕ} 0 1 = cc
 -- ---- both
 
 pub refused-reading-small : (f text : List ℕ) (out words sets n i : ℕ) → reading f text out words sets .answer ≡ Refused n i
-    → (1 ≤ n) × (n ≤ 20) × ((k : ℕ) → 2048 ≤ k → length text ≤ k → i ≤ k)
+    → (1 ≤ n) × (n ≤ 20) × ((k : ℕ) → limits .links ≤ k → length text ≤ k → i ≤ k)
 refused-reading-small f text out words sets n i e = go (refused-exactly f text out words sets n i .0 e)
   where
     go : FirstFailing (declarationChecks f out words sets) n i ⊎ (DeclarationsFormed f × LongEnough out words sets × Answered (bundleOf f) text (refused n i))
-        → (1 ≤ n) × (n ≤ 20) × ((k : ℕ) → 2048 ≤ k → length text ≤ k → i ≤ k)
+        → (1 ≤ n) × (n ≤ 20) × ((k : ℕ) → limits .links ≤ k → length text ≤ k → i ≤ k)
     go (inl h) =
         let is : declarationsFault f out words sets ≡ fault n i =
         sym (declarations-find f out words sets .first) ∙ first-fails (declarationChecks f out words sets) n i h in

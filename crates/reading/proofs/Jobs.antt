@@ -9,7 +9,7 @@ use mathlib.Core.Path.{_≡_, refl, sym, ap, _∙_, subst}
 use mathlib.Core.List.{List, []}
 use lib.ListN.{length}
 use Rattle.bundle.specs.Bundle.{Bundle}
-use Rattle.bundle.specs.Limits.{headerWords}
+use Rattle.bundle.specs.Limits.{limits, headerWords}
 use Rattle.bundle.specs.File.{bundleBy, bundleOf}
 use Rattle.logic.specs.Lists.{Number}
 use Rattle.logic.specs.Symbols.{truthSort}
@@ -77,7 +77,7 @@ module _ (f text : List ℕ) (φ : Formula) (d : DeclarationsFormed f) (r : Read
       let old : Checked (bundleOf f) = declared-checked f d in
       filed (bundleOf f) (old .formed .tables) (plain (bundleOf f) φ) (bundleOf f) (longer-refl (bundleOf f)) old term-sorted
 
-  pub not-deep : FitsLimits (bundleOf f) φ → depth (plain (bundleOf f) φ) ≤ 1024
+  pub not-deep : FitsLimits (bundleOf f) φ → depth (plain (bundleOf f) φ) ≤ limits .terms
   not-deep fit =
       let p : PlacedTerm = filedFor (bundleOf f) φ in
       let low = depth-below (p .bundle) (job-filed .placed .checked .formed .tables) (p .term) (job-filed .placed .is-term) in

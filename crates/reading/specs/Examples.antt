@@ -190,12 +190,12 @@ crowdedRows =
 -- The job, and zeros after it; scratch ends zero.
 abbrev pub WrittenCall : Type 0
 WrittenCall =
-    reading (fileOf (declaredWith [] [] 0)) (bytes "true") 58148 14537 1024
+    reading (fileOf (declaredWith [] [] 0)) (bytes "true") 58916 14729 4096
     ≡ record {
       answer = Written 120;
-      out = fileOf (declaredWith (term 2 1 0 0 ∷ []) [] 1) ++ replicate 58028 0;
-      words = replicate 14537 0;
-      sets = replicate 1024 0;
+      out = fileOf (declaredWith (term 2 1 0 0 ∷ []) [] 1) ++ replicate 58796 0;
+      words = replicate 14729 0;
+      sets = replicate 4096 0;
     }
 
 -- declarations and a text, by their bytes, and how many bytes of output, words of 32 bits and words of 64 bits are lent with them: refused with this
@@ -217,24 +217,24 @@ refusedCall f t o w s n i = record { declarations = f; text = t; out = o; words 
 
 -- the declarations of words, beside "true", with areas of the least lengths
 abbrev refusedDeclarations : List ℕ → ℕ → ℕ → RefusedCall
-refusedDeclarations ws n i = refusedCall (encode ws) (bytes "true") 58148 14537 1024 n i
+refusedDeclarations ws n i = refusedCall (encode ws) (bytes "true") 58916 14729 4096 n i
 
 unfoldable pub refusedCalls : List RefusedCall
 unfolding bytes encode fileOf
 refusedCalls =
     -- 1: no header; a byte too many
-    refusedCall [] (bytes "true") 58148 14537 1024 1 0
-    ∷ refusedCall (fileOf (declaredWith [] [] 0) ++ (0 ∷ [])) (bytes "true") 58148 14537 1024 1 0
+    refusedCall [] (bytes "true") 58916 14729 4096 1 0
+    ∷ refusedCall (fileOf (declaredWith [] [] 0) ++ (0 ∷ [])) (bytes "true") 58916 14729 4096 1 0
     -- 2: another version
     ∷ refusedDeclarations (2 ∷ 0 ∷ 0 ∷ 0 ∷ 0 ∷ 0 ∷ 0 ∷ 0 ∷ 0 ∷ []) 2 0
     -- 3: 65 symbols
     ∷ refusedDeclarations (1 ∷ 65 ∷ 0 ∷ 0 ∷ 0 ∷ 0 ∷ 0 ∷ 0 ∷ 0 ∷ []) 3 0
     -- 4: each area one short; it comes before 18
-    ∷ refusedCall (fileOf (declaredWith [] [] 1)) (bytes "true") 58147 14537 1024 4 0
-    ∷ refusedCall (fileOf (declaredWith [] [] 0)) (bytes "true") 58148 14536 1024 4 0
-    ∷ refusedCall (fileOf (declaredWith [] [] 0)) (bytes "true") 58148 14537 1023 4 0
+    ∷ refusedCall (fileOf (declaredWith [] [] 1)) (bytes "true") 58915 14729 4096 4 0
+    ∷ refusedCall (fileOf (declaredWith [] [] 0)) (bytes "true") 58916 14728 4096 4 0
+    ∷ refusedCall (fileOf (declaredWith [] [] 0)) (bytes "true") 58916 14729 4095 4 0
     -- 5: the last link goes back; it comes before 18
-    ∷ refusedCall (fileOf (declaredWith [] (link 0 1 ∷ []) 1)) (bytes "true") 58148 14537 1024 5 4
+    ∷ refusedCall (fileOf (declaredWith [] (link 0 1 ∷ []) 1)) (bytes "true") 58916 14729 4096 5 4
     -- 6: a symbol's result; a variable's sort; it comes before 18
     ∷ refusedDeclarations (1 ∷ 1 ∷ 0 ∷ 0 ∷ 0 ∷ 0 ∷ 0 ∷ 0 ∷ 1 ∷ 2 ∷ 0 ∷ []) 6 1
     ∷ refusedDeclarations (1 ∷ 0 ∷ 2 ∷ 0 ∷ 0 ∷ 0 ∷ 0 ∷ 1 ∷ 0 ∷ 1 ∷ 2 ∷ []) 6 2
@@ -243,9 +243,9 @@ refusedCalls =
     ∷ refusedDeclarations (1 ∷ 0 ∷ 0 ∷ 0 ∷ 0 ∷ 1 ∷ 0 ∷ 0 ∷ 0 ∷ 9 ∷ 9 ∷ 9 ∷ 9 ∷ []) 18 0
     ∷ refusedDeclarations (1 ∷ 0 ∷ 0 ∷ 0 ∷ 0 ∷ 0 ∷ 1 ∷ 0 ∷ 0 ∷ 9 ∷ 9 ∷ 9 ∷ 9 ∷ 9 ∷ []) 18 0
     ∷ refusedDeclarations (1 ∷ 0 ∷ 0 ∷ 0 ∷ 0 ∷ 0 ∷ 0 ∷ 1 ∷ 0 ∷ []) 18 0
-    ∷ refusedCall (encode (1 ∷ 0 ∷ 0 ∷ 0 ∷ 0 ∷ 0 ∷ 0 ∷ 0 ∷ 1 ∷ [])) (bytes ")") 58148 14537 1024 18 0
+    ∷ refusedCall (encode (1 ∷ 0 ∷ 0 ∷ 0 ∷ 0 ∷ 0 ∷ 0 ∷ 0 ∷ 1 ∷ [])) (bytes ")") 58916 14729 4096 18 0
     -- then the text
-    ∷ refusedCall (fileOf (declaredWith [] [] 0)) (bytes "(not") 58148 14537 1024 19 4
+    ∷ refusedCall (fileOf (declaredWith [] [] 0)) (bytes "(not") 58916 14729 4096 19 4
     ∷ []
 
 -- ---- the statement

@@ -129,7 +129,7 @@ Grows w v c r b = Roomy v r × (length v ≡ length w) × (bundleIn v r ≡ b) �
 
 -- the words of a new record at the end of its section, and all else as it was
 module _ (w v : List ℕ) (c : Counts) (g : Roomy w c) where
-  pub variable-appended : {x : ℕ} → c .variables < 64 → Written w v (variablesAt limits + 1 * c .variables) (x ∷ [])
+  pub variable-appended : {x : ℕ} → c .variables < limits .variables → Written w v (variablesAt limits + 1 * c .variables) (x ∷ [])
       → Grows w v c (counted c (c .variables + 1) (c .terms) (c .links) (c .contexts) (c .steps)) (withVariables (bundleIn w c) (x ∷ []))
   unfolding bundleBy
   variable-appended {x} l o = (
@@ -157,7 +157,7 @@ module _ (w v : List ℕ) (c : Counts) (g : Roomy w c) where
     refl,
   )
 
-  pub term-appended : {kind a b d : ℕ} → c .terms < 1024 → Written w v (termsAt limits + 4 * c .terms) (kind ∷ a ∷ b ∷ d ∷ [])
+  pub term-appended : {kind a b d : ℕ} → c .terms < limits .terms → Written w v (termsAt limits + 4 * c .terms) (kind ∷ a ∷ b ∷ d ∷ [])
       → Grows w v c (counted c (c .variables) (c .terms + 1) (c .links) (c .contexts) (c .steps))
       (withTerms (bundleIn w c) (record { kind = kind; a = a; b = b; c = d } ∷ []))
   unfolding bundleBy
@@ -186,7 +186,7 @@ module _ (w v : List ℕ) (c : Counts) (g : Roomy w c) where
     refl,
   )
 
-  pub link-appended : {value next : ℕ} → c .links < 2048 → Written w v (linksAt limits + 2 * c .links) (value ∷ next ∷ [])
+  pub link-appended : {value next : ℕ} → c .links < limits .links → Written w v (linksAt limits + 2 * c .links) (value ∷ next ∷ [])
       → Grows w v c (counted c (c .variables) (c .terms) (c .links + 1) (c .contexts) (c .steps))
       (withLinks (bundleIn w c) (record { value = value; next = next } ∷ []))
   unfolding bundleBy
@@ -215,7 +215,7 @@ module _ (w v : List ℕ) (c : Counts) (g : Roomy w c) where
     refl,
   )
 
-  pub context-appended : {kind a b parent : ℕ} → c .contexts < 256 → Written w v (contextsAt limits + 4 * c .contexts) (kind ∷ a ∷ b ∷ parent ∷ [])
+  pub context-appended : {kind a b parent : ℕ} → c .contexts < limits .contexts → Written w v (contextsAt limits + 4 * c .contexts) (kind ∷ a ∷ b ∷ parent ∷ [])
       → Grows w v c (counted c (c .variables) (c .terms) (c .links) (c .contexts + 1) (c .steps))
       (withContexts (bundleIn w c) (record { kind = kind; a = a; b = b; parent = parent } ∷ []))
   unfolding bundleBy
@@ -244,7 +244,7 @@ module _ (w v : List ℕ) (c : Counts) (g : Roomy w c) where
     refl,
   )
 
-  pub step-appended : {rule context left right premises : ℕ} → c .steps < 1024
+  pub step-appended : {rule context left right premises : ℕ} → c .steps < limits .steps
       → Written w v (stepsAt limits + 5 * c .steps) (rule ∷ context ∷ left ∷ right ∷ premises ∷ [])
       → Grows w v c (counted c (c .variables) (c .terms) (c .links) (c .contexts) (c .steps + 1))
       (withSteps (bundleIn w c) (record { rule = rule; context = context; left = left; right = right; premises = premises } ∷ []))

@@ -13,6 +13,7 @@ use native.Mathlib.Omega.{arith}
 use lib.ListN.{length, set, length-set}
 use Rattle.bundle.specs.declared.Bundle.{Bundle as Counts}
 use Rattle.bundle.specs.Bundle.{Bundle, linkOf}
+use Rattle.bundle.specs.Limits.{limits}
 use Rattle.logic.specs.Lists.{Number}
 use Rattle.scratch.specs.Scratch.{bundleIn}
 use Rattle.scratch.proofs.ScratchFields.{sized-in}
@@ -33,13 +34,13 @@ use Rattle.placing.proofs.Pairs.{Pair, below-same, below-trans, below-set, halv
 
 abbrev pub left : ℕ → ℕ
 left zero = 0
-left (suc i) = 2048 - i
+left (suc i) = limits .links - i
 
-pub left-le : (l : ℕ) → left l ≤ 2048
+pub left-le : (l : ℕ) → left l ≤ limits .links
 left-le zero = omega arith
 left-le (suc i) = omega arith
 
-left-less : (l m : ℕ) → 1 ≤ l → l ≤ 2048 → {L : ℕ} → (m ≡ 0) ⊎ ((l < m) × (m ≤ L)) → left m < left l
+left-less : (l m : ℕ) → 1 ≤ l → l ≤ limits .links → {L : ℕ} → (m ≡ 0) ⊎ ((l < m) × (m ≤ L)) → left m < left l
 left-less zero m h k d = absurd (omega arith)
 left-less (suc i) zero h k d = omega arith
 left-less (suc i) (suc m) h k (inl e) = absurd (omega arith)
@@ -116,12 +117,12 @@ module _ {w s : List ℕ} {n : Counts} {Γ h o l : ℕ} (asks : ListAsks w s n �
           let z = result-word (visit-ends τ Γ (bundleIn w n)) (first-done τ (k .first)) word in
           (z .0, omega (arith, z .1)))
 
-      pub first-height : (h < after .steps) × (h < 1024) × (h < length s1)
+      pub first-height : (h < after .steps) × (h < limits .steps) × (h < length s1)
       first-height = some-first _ (λ τ ns k.
           let d = first-done τ (k .first) in
           let e : h < length (visit τ Γ (bundleIn w n) .bundle .steps) =
           omega (arith, asks .pending .height, sized-in w n .steps, visit-ends τ Γ (bundleIn w n) .more) in
-          let i : h < 1024 = omega (arith, e, d .now .within .steps) in
+          let i : h < limits .steps = omega (arith, e, d .now .within .steps) in
           (omega (arith, e, steps-are (d .now)), i, omega (arith, i, asks .pending .places, gave .kept .long)))
 
       module _ {pair : ℕ} (packed : Pair pair x y) where

@@ -14,6 +14,7 @@ use native.Mathlib.Omega.{arith}
 use lib.ListN.{length, set}
 use Rattle.bundle.specs.declared.Bundle.{Bundle as Counts}
 use Rattle.bundle.specs.Bundle.{Bundle, termOf}
+use Rattle.bundle.specs.Limits.{limits}
 use Rattle.logic.specs.Lists.{Number}
 use Rattle.logic.specs.Terms.{Binder, forAll, exists, binder, numberOf, isBinder}
 use Rattle.logic.specs.Longer.{Longer}
@@ -329,10 +330,10 @@ module _ {w s : List ℕ} {n : Counts} {Γ h t : ℕ} (asks : TermAsks w s n Γ 
                       (visit-done (body-outcome ns k u st) told3) word in
                       (z .0, omega (arith, z .1))) (asks .standing) (asks .stands)
 
-                  pub body-ready : Ready w3 after × (top < 1024) × (top < length s3)
-                  body-ready = let-only reads (λ τ. Ready w3 after × (top < 1024) × (top < length s3)) not-1 no-binder not-2 (λ vs ns u k low st.
+                  pub body-ready : Ready w3 after × (top < limits .steps) × (top < length s3)
+                  body-ready = let-only reads (λ τ. Ready w3 after × (top < limits .steps) × (top < length s3)) not-1 no-binder not-2 (λ vs ns u k low st.
                       let d = visit-done (body-outcome ns k u st) told3 in
-                      let i : top < 1024 =
+                      let i : top < limits .steps =
                       omega (
                         arith,
                         args-ready .2,

@@ -3,6 +3,7 @@ ghost use mathlib.Core.Path.{_≡_};
 ghost use mathlib.Core.Bool.{not};
 ghost use Prim.Native.Nat.{_+_, _*_, _≤_};
 ghost use lib.ListN.{length};
+ghost use Rattle.bundle.specs.Limits.{setWords};
 ghost use Rattle.bundle.specs.File.{Whole, bundleAt};
 ghost use Rattle.sets.specs.Sets.{member};
 ghost use Rattle.logic.specs.Tests.{upTo, firstFailing};
@@ -28,7 +29,7 @@ fn is_closed(sets: &[u64], at: usize, n: usize, variables: usize) -> bool
 
 // 18, 15, 17: what is wrong with a job, 0 where nothing is. The free sets are written into the lent words.
 pub fn job_fault(job: &[u8], b: Bundle, sets: &mut [u64]) -> usize
-    requires { ⌜ Whole (now job) b × (b .terms ≤ length (now sets)) ⌝ }
+    requires { ⌜ Whole (now job) b × (setWords * b .terms ≤ length (now sets)) ⌝ }
     ensures { λ r. ⌜ (length (now (sets .exit)) ≡ length (now (sets .entry))) × (r ≡ firstFailing (earlyTests (bundleAt (now (job .entry)) b))) ⌝ }
 {
     let left = claim_left(job);

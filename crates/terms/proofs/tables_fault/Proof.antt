@@ -2,8 +2,10 @@
 -- and the array of sorts is zero at first and large enough.
 use borrow.Author.Needs.{needs}
 use mathlib.Core.Path.{_≡_, sym, _∙_}
+use Prim.Native.Nat.{_+_}
 use native.Mathlib.Omega.{arith}
 use denote.Ref.{now}
+use Rattle.bundle.specs.Limits.{limits}
 use Rattle.bundle.specs.File.{Whole}
 use Rattle.logic.specs.Checks.{headerFault, tablesFault}
 use Rattle.logic.proofs.Firsts.{orElse-here}
@@ -52,7 +54,7 @@ slice-aggregate-note-sorts-2 c = search needs
 note-sorts-requires-2 : tie.Need-note-sorts-requires-2
 note-sorts-requires-2 c κs =
     let w = whole (c .before .before .before) in
-    (w, omega (arith, w .within .terms), zeros 1025)
+    (w, omega (arith, w .within .terms), zeros (limits .terms + 1))
 
 slice-aggregate-sections-fault-2 : tie.Need-slice-aggregate-sections-fault-2
 slice-aggregate-sections-fault-2 c = search needs

@@ -11,6 +11,7 @@ use mathlib.Core.List.{List}
 use lib.ListN.{length, set}
 use Rattle.bundle.specs.File.{bundleAt}
 use Rattle.bundle.specs.Bundle.{Bundle}
+use Rattle.bundle.specs.Limits.{limits}
 use Rattle.endings.specs.declared.ReadParts.{ReadParts}
 use Rattle.endings.proofs.EndingLaws.{kind-binder}
 use Rattle.formulas.proofs.FormulaTurns as F
@@ -456,7 +457,7 @@ module _ (t : ℕ) where
       let l = c .before .before .before .before .before .before .before .before .before .before .before .before .loop in
       let v = l .inv in
       let on = not-true (l .last) (c .before .before .before .before .before .before .before .before .before .before .before .loop-test .taken) in
-      let room : l .top < 2048 = omega (arith, c .before .before .before .before .before .before .before .before .before .before .if1 .left) in
+      let room : l .top < limits .links = omega (arith, c .before .before .before .before .before .before .before .before .before .before .if1 .left) in
       let p = c .before .before .before .before .before .before .read-formula .ensures in
       let g = v .on _ _ _ _ (P.part-full (a .file .now) (a .b) (a .text .now) (a .left) (a .bound) (v .asks) (v .at) (l .known) (l .sort) on room (p .0)
       (p .1) (c .enum-told .given .1)) in
@@ -472,7 +473,7 @@ module _ (t : ℕ) where
       let l = c .before .before .before .before .before .before .before .before .before .before .before .before .before .loop in
       let v = l .inv in
       let on = not-true (l .last) (c .before .before .before .before .before .before .before .before .before .before .before .before .loop-test .taken) in
-      let room : l .top < 2048 = omega (arith, c .before .before .before .before .before .before .before .before .before .before .before .if1 .left) in
+      let room : l .top < limits .links = omega (arith, c .before .before .before .before .before .before .before .before .before .before .before .if1 .left) in
       let p = c .before .before .before .before .before .before .before .read-formula .ensures in
       let d = c .before .read .given .1 in
       (P.part-word (a .file .now) (a .b) (a .text .now) (a .left) (a .bound) (v .asks) (v .at) (l .known) (l .sort) on room (p .0) (p .1) d, v .at .item .word)
@@ -490,7 +491,7 @@ module _ (t : ℕ) where
       let v = l .inv in
       let on = not-true (l .last) (c .before .before .before .before .before .before .before .before .before .before .before .before .before .loop-test
       .taken) in
-      let room : l .top < 2048 = omega (arith, c .before .before .before .before .before .before .before .before .before .before .before .before .if1 .left) in
+      let room : l .top < limits .links = omega (arith, c .before .before .before .before .before .before .before .before .before .before .before .before .if1 .left) in
       let p = c .before .before .before .before .before .before .before .before .read-formula .ensures in
       let d = c .before .before .read .given .1 in
       P.part-room (a .file .now) (a .b) (a .text .now) (a .left) (a .bound) (v .asks) (v .at) (l .known) (l .sort) on room (p .0) (p .1) d
@@ -508,7 +509,7 @@ module _ (t : ℕ) where
       let v = l .inv in
       let on = not-true (l .last) (c .before .before .before .before .before .before .before .before .before .before .before .before .before .before
       .loop-test .taken) in
-      let room : l .top < 2048 = omega (
+      let room : l .top < limits .links = omega (
         arith,
         c .before .before .before .before .before .before .before .before .before .before .before .before .before .if1
             .left,
@@ -533,7 +534,7 @@ module _ (t : ℕ) where
       let v = l .inv in
       let on = not-true (l .last) (c .before .before .before .before .before .before .before .before .before .before .before .before .before .before .before
       .before .loop-test .taken) in
-      let room : l .top < 2048 = omega (
+      let room : l .top < limits .links = omega (
         arith,
         c .before .before .before .before .before .before .before .before .before .before .before .before .before
             .before .before .if1 .left,
@@ -553,7 +554,7 @@ module _ (t : ℕ) where
       let v = l .inv in
       let on = not-true (l .last) (c .before .before .before .before .before .before .before .before .before .before .before .before .before .before .before
       .before .loop-test .taken) in
-      let room : l .top < 2048 = omega (
+      let room : l .top < limits .links = omega (
         arith,
         c .before .before .before .before .before .before .before .before .before .before .before .before .before
             .before .before .if1 .left,

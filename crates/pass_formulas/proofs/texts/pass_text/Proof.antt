@@ -3,6 +3,7 @@ use native.Mathlib.Omega.{arith}
 use mathlib.Core.Path.{_≡_, refl, sym, _∙_, subst}
 use Prim.Native.Nat.{_≤_}
 use Rattle.bundle.specs.declared.Bundle.{Bundle as Counts}
+use Rattle.bundle.specs.Limits.{limits}
 use Rattle.endings.specs.ReadOutcomes.{Held}
 use Rattle.pass_formulas.proofs.PassTurns.{text-read}
 use borrow.Author.Needs.{needs}
@@ -28,7 +29,7 @@ pass-formula-requires c κs =
       record {
         held = subst (λ (k : Counts). Held (s .args .words .now) (c .before .before .before .before .before .file-terms .last .1 .1 .0) k) (s .pre .1)
             (record { ready = s .pre .2; indexed = c .before .before .before .before .before .file-terms .ensures });
-        places = let l : 2048 ≤ 2048 = omega arith in l;
+        places = let l : limits .links ≤ limits .links = omega arith in l;
         height = omega arith;
         here = c .before .before .before .before .past-blanks .ensures .inside;
       },

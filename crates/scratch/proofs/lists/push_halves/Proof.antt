@@ -6,6 +6,7 @@ use Prim.Native.Nat.{_+_, _-_, _≤_}
 use native.Mathlib.Omega.{arith}
 use borrow.Author.Needs.{needs}
 use lib.ListN.{length}
+use Rattle.bundle.specs.Limits.{limits}
 use Rattle.logic.specs.Longer.{addList}
 use Rattle.scratch.specs.Scratch.{bundleIn, Roomy}
 use Rattle.scratch.specs.Stack.{halves}
@@ -18,7 +19,7 @@ abbrev Inv-loop : tie.InvT-loop
 Inv-loop words₀ stack upper from to after₀ at₀ words after at =
     Roomy words after
     × (at ≤ to)
-    × (after .links + (to - at) ≤ 2048)
+    × (after .links + (to - at) ≤ limits .links)
     × (length words ≡ length words₀)
     × (addList (bundleIn words after) (halves upper stack at to) ≡ addList (bundleIn words₀ after₀) (halves upper stack from to))
     × (after .version ≡ after₀ .version)

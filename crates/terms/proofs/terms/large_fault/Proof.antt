@@ -1,6 +1,8 @@
 -- `terms::large_fault` meets its contract: the arrays are zero at first and large enough.
 use borrow.Author.Needs.{needs}
+use Prim.Native.Nat.{_+_}
 use native.Mathlib.Omega.{arith}
+use Rattle.bundle.specs.Limits.{limits}
 use Rattle.bundle.proofs.LinkNotes.{zeros}
 use Rattle.terms.proofs.terms.large_fault.Statement.{statement}
 use Rattle.terms.proofs.terms.large_fault.Tie as tie
@@ -18,7 +20,7 @@ noted-fault-requires : tie.Need-noted-fault-requires
 noted-fault-requires c κs =
     let p = c .before .before .before .before .before .pre in
     let w = p .0 .within in
-    (p .0, p .1, omega (arith, w .links), zeros 2049, omega (arith, w .links), zeros 2049, omega (arith, w .terms), zeros 1025)
+    (p .0, p .1, omega (arith, w .links), zeros (limits .links + 1), omega (arith, w .links), zeros (limits .links + 1), omega (arith, w .terms), zeros (limits .terms + 1))
 
 returns : tie.Need-returns
 returns c = search needs

@@ -1,5 +1,5 @@
--- The cycle of calls {visit_list, visit_term}. The measure is the term's number first and the links left second: a term has 4096 times its number
--- and 4095 more, a list of the term o has 4096 times o and the links left from it on, at most 2048.
+-- The cycle of calls {visit_list, visit_term}. The measure is the term's number first and the links left second, of which there are at most L, the
+-- limit of links: a term has L + 2 times its number and L + 1 more, a list of the term o has L + 2 times o and the links left from it on.
 -- Each answer cites a law of ListTurns or TermTurns, over words, stack and counts; here their arguments are only fetched from `c`.
 use Prim.Native.Nat.{ℕ, _+_, _*_, _≤_, _<_}
 use native.Mathlib.Omega.{arith}
@@ -7,6 +7,7 @@ use borrow.Author.Needs.{needs}
 use mathlib.Core.Path.{_≡_, sym, _∙_}
 use mathlib.Core.Bool.{true, false}
 use lib.ListN.{length, set, length-set}
+use Rattle.bundle.specs.Limits.{limits}
 use Rattle.logic.specs.Terms.{isBinder}
 use Rattle.scratch.specs.Scratch.{bundleIn, Ready}
 use Rattle.scratch.specs.Stack.{halves}
@@ -37,10 +38,10 @@ use Rattle.visits.proofs.visits.+visit_list+visit_term.{statement}
 use Rattle.visits.proofs.visits.+visit_list+visit_term.Tie.{close}
 
 abbrev μ-visit-list : Measures 3 visit-list-kinds.ps ℕ
-μ-visit-list κs a = a .1 .1 .1 .1 .1 .0 * 4096 + left (a .1 .1 .1 .1 .1 .1 .0)
+μ-visit-list κs a = a .1 .1 .1 .1 .1 .0 * (limits .links + 2) + left (a .1 .1 .1 .1 .1 .1 .0)
 
 abbrev μ-visit-term : Measures 3 visit-term-kinds.ps ℕ
-μ-visit-term κs a = a .1 .1 .1 .1 .1 .0 * 4096 + 4095
+μ-visit-term κs a = a .1 .1 .1 .1 .1 .0 * (limits .links + 2) + (limits .links + 1)
 
 abbrev visit-list-at : ℕ → In 3 visit-list-kinds.ps
 visit-list-at t =
@@ -142,7 +143,7 @@ module _ (t : ℕ) where
   -- a place for the pair
   list-height : (c : visit-list-lts.After-known-told (list-calls t) (visit-list-at t) visit-list.Post)
       → (c .before .before .before .before .before .before .before .before .before .before .before .before .before .before .before .before .before .before .args
-      .height < 1024)
+      .height < limits .steps)
       × (c .before .before .before .before .before .before .before .before .before .before .before .before .before .before .before .before .before .before
       .args .height < length (c .before .before .before .before .before .before .before .visit-term .last .1 .0))
   list-height c =
@@ -518,7 +519,7 @@ module _ (t : ℕ) where
   let-ready : (c : visit-term-lts.After-known-told5 (term-calls t) (visit-term-at t) visit-term.Post)
       → Ready (c .before .before .before .before .before .before .before .visit-term2 .last .0) (c .before .visited2 .given .0 .0)
       × (c .before .before .before .before .before .before .before .before .before .before .before .before .before .before .before .before .before .before
-      .before .before .before .listed .given .0 .1 .0 < 1024)
+      .before .before .before .listed .given .0 .1 .0 < limits .steps)
       × (c .before .before .before .before .before .before .before .before .before .before .before .before .before .before .before .before .before .before
       .before .before .before .listed .given .0 .1 .0 < length (c .before .before .before .before .before .before .before .visit-term2 .last .1 .0))
   let-ready c =
