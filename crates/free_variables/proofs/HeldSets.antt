@@ -1,6 +1,6 @@
 -- An area that is `freeArea` holds the free sets.
 --     free-sets     it does, if each variable has a bit
---     sets-held     so it does where the file is whole
+--     sets-held     the same in the words of the code
 use Prim.Native.Nat.{ℕ, _*_, _-_, _≤_}
 use mathlib.Core.Path.{_≡_, refl, sym, ap, _∙_}
 use mathlib.Core.Bool.{Bool, true, false, false≢true}
@@ -9,8 +9,7 @@ use native.Mathlib.Omega.{arith}
 use lib.ListN.{length}
 use Rattle.bundle.specs.declared.Bundle.{Bundle as Counts}
 use Rattle.bundle.specs.Bundle.{Bundle}
-use Rattle.bundle.specs.Limits.{setWords}
-use Rattle.bundle.specs.File.{Whole, bundleAt}
+use Rattle.bundle.specs.File.{bundleAt}
 use Rattle.bundle.proofs.Tab.{tab-length}
 use Rattle.bundle.proofs.Fields.{variables-length, terms-length}
 use Rattle.sets.specs.Sets.{holds, member}
@@ -40,7 +39,6 @@ free-sets b n m w one few long area = record {
     go t v first last true e = ap (λ (x : List ℕ). member x (n * (t - 1)) n v) area ∙ area-member b n m one t v first last long e
     go t v first last false e = rw e (none t v e (freeAt b t v) refl)
 
-pub sets-held : (f : List ℕ) (c : Counts) (m : ℕ) (w : List ℕ) → Whole f c → setWords * c .terms ≤ m → w ≡ freeArea (bundleAt f c) setWords m
-    → FreeSets w setWords (bundleAt f c)
-sets-held f c m w whole long area =
-    free-sets (bundleAt f c) setWords m w (omega arith) (rw variables-length (whole .within .variables)) (rw terms-length long) area
+pub sets-held : (f : List ℕ) (c : Counts) (n m : ℕ) (w : List ℕ) → 1 ≤ n → c .variables ≤ 64 * n → n * c .terms ≤ m → w ≡ freeArea (bundleAt f c) n m
+    → FreeSets w n (bundleAt f c)
+sets-held f c n m w one bits long area = free-sets (bundleAt f c) n m w one (rw variables-length bits) (rw terms-length long) area

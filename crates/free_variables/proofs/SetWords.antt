@@ -1,6 +1,7 @@
 -- Sets as words, and the area of all free sets as a list.
 --     bits-lt, bits-at    the number whose bits are a set's: below 2 ^ n, and its bit k says whether v + k is in the set
 --     area-is             words that hold all free sets, with zeros after them, are `freeArea`
+--     area-set-word       a word of a term's set in `freeArea`; `term-below`: the term that a word belongs to
 --     area-member         a member of a term's set in `freeArea` is a free variable
 --     area-word           a word of `freeArea` is below 2 ^ 64
 --     area-rest           a word after the sets is zero
@@ -62,13 +63,13 @@ word-is s k x small same =
 
 -- ---- the whole area
 
+-- the term, counted from 0, that word j belongs to
+pub term-below : (n terms j : ℕ) → 1 ≤ n → j < n * terms → j / n < terms
+term-below n terms j one h = div-lt-iff-lt-mul one .1 (rw mul-comm h)
+
 module _ (b : Bundle) (n m : ℕ) (one : 1 ≤ n) where
   abbrev wordOf : ℕ → ℕ
   wordOf j = cond (ltb j (n * length (b .terms))) (setWord (freeAt b (suc (j / n))) (j % n)) 0
-
-  -- the term that word j belongs to
-  term-of : (j : ℕ) → j < n * length (b .terms) → j / n < length (b .terms)
-  term-of j h = div-lt-iff-lt-mul one .1 (rw mul-comm h)
 
   pub area-is : (w v : List ℕ) (terms : ℕ) → length (b .terms) ≡ terms → length w ≡ m → n * terms ≤ length w → SoFar w n (terms + 1) b
       → v ≡ cleared w (n * terms) (length w - n * terms) → ((j : ℕ) → getD v j 0 < 2 ^ 64) → v ≡ freeArea b n m
@@ -94,7 +95,7 @@ module _ (b : Bundle) (n m : ℕ) (one : 1 ≤ n) where
 
       word : (j : ℕ) → j < length w → (p : Bool) → ltb j (n * length (b .terms)) ≡ p → getD v j 0 ≡ cond p (setWord (freeAt b (suc (j / n))) (j % n)) 0
       word j h true e =
-          let low : j / n < terms = rw count at (term-of j (ltb-true j (n * length (b .terms)) e)) in
+          let low : j / n < terms = rw count at (term-below n (length (b .terms)) j one (ltb-true j (n * length (b .terms)) e)) in
           word-is (freeAt b (suc (j / n))) (j % n) (getD v j 0) (words j) (λ i l.
           ap (λ (x : ℕ). bitAt (getD v x 0) i) (sym (div-add-mod j n))
           ∙ sym (member-bit v (n * (j / n)) n (j % n) i (mod-lt j one) l)
@@ -110,6 +111,16 @@ module _ (b : Bundle) (n m : ℕ) (one : 1 ≤ n) where
       let term : suc ((n * (t - 1) + k) / n) ≡ t = omega (arith, mul-add-div one (t - 1) k, div-eq-of-lt low) in
       let word : (n * (t - 1) + k) % n ≡ k = mul-add-mod-self-left n (t - 1) k ∙ mod-eq-of-lt low in
       rw (lt-ltb (n * (t - 1) + k) (n * length (b .terms)) place, term, word)
+
+  -- word k of the set of term q + 1, where there is room for all sets
+  pub area-set-word : (q k : ℕ) → q < length (b .terms) → k < n → n * length (b .terms) ≤ m
+      → getD (freeArea b n m) (n * q + k) 0 ≡ setWord (freeAt b (suc q)) k
+  unfolding freeArea
+  area-set-word q k few low room =
+      let p : suc q - 1 ≡ q = omega arith in
+      let fits : n * (suc q - 1) + n ≤ n * length (b .terms) = record-within n (length (b .terms)) (suc q) (λ z. omega arith) few in
+      let place : n * (suc q - 1) + k < n * length (b .terms) = omega arith in
+      rw p at (tab-at wordOf m (n * (suc q - 1) + k) 0 (omega arith) ∙ word-of (suc q) k (omega arith) low place)
 
   -- the set of term t, of the numbers that have a bit
   pub area-member : (t x : ℕ) → 1 ≤ t → t ≤ length (b .terms) → n * length (b .terms) ≤ m → holds n x ≡ true

@@ -1,10 +1,21 @@
 // Sets of the n words that a file's variables ask for, made sets of as many words as every term has in the lent area.
 ghost use mathlib.Core.Path.{_≡_};
-ghost use Prim.Native.Nat.{_+_, _*_, _≤_};
-ghost use lib.ListN.{length};
+ghost use Prim.Native.Nat.{_+_, _*_, _≤_, _<_};
+ghost use lib.ListN.{length, getD};
 ghost use Rattle.bundle.specs.Limits.{setWords};
 ghost use Rattle.free_variables.specs.Spread.{SpreadOne, Spread};
 use bundle::Bundle;
+
+// Word k of set t, counted from 0, of n words: zero where it has no such word.
+fn word_of(area: &[u64], n: usize, t: usize, k: usize) -> u64
+    requires { ⌜ n * t + n ≤ length (now area) ⌝ }
+    ensures { λ r. ⌜ (k < n → r ≡ getD (now (area .entry)) (n * t + k) 0) × (n ≤ k → r ≡ 0) ⌝ }
+{
+    if k < n {
+        return area[n * t + k];
+    }
+    0
+}
 
 // Moves set t, counted from 0, to its wide place, with zeros after its words. From the last word down: what is still to be read stands lower.
 fn spread_set(area: &mut [u64], n: usize, t: usize)
@@ -14,10 +25,7 @@ fn spread_set(area: &mut [u64], n: usize, t: usize)
     let mut k = Bundle::SET_WORDS;
     while k != 0 {
         k -= 1;
-        let mut x = 0;
-        if k < n {
-            x = area[n * t + k];
-        }
+        let x = word_of(area, n, t, k);
         area[Bundle::SET_WORDS * t + k] = x;
     }
 }
