@@ -2,7 +2,7 @@
 ghost use mathlib.Core.Path.{_≡_};
 ghost use Prim.Native.Nat.{_+_, _*_, _≤_};
 ghost use lib.ListN.{length};
-ghost use Rattle.bundle.specs.Limits.{limits, setWords};
+ghost use Rattle.bundle.specs.Limits.{setWords};
 ghost use Rattle.bundle.specs.File.{Whole, bundleAt, bundleOf};
 ghost use Rattle.logic.specs.Tests.{firstFailing, orNext};
 ghost use Rattle.logic.specs.Checks.{sectionsFault};
@@ -18,6 +18,8 @@ use bundle::words::claim_right;
 use bundle::words::counts;
 use bundle::words::word_at;
 use declarations::header::header_fault;
+use free_variables::spread::spread;
+use free_variables::words_for;
 use judgement::Acceptance;
 use judgement::Answer;
 use logic::Fault;
@@ -51,33 +53,26 @@ fn claim_fault(file: &[u8], b: Bundle) -> usize
     }
 }
 
-// The first of the checks 10 to 15 that fails, where the area holds the free sets, and there is room for what is known of contexts.
+// The first of the checks 10 to 15 that fails, where the area holds the free sets, n words each, and there is room for what is known of contexts.
 fn late_fault_in(
     file: &[u8],
     b: Bundle,
     sorts: &[usize],
     free: &[u64],
+    n: usize,
     images: &mut [u16],
     moved: &mut [u64],
 ) -> Fault
     requires { ⌜ (let bundle = bundleAt (now file) b in
-        Whole (now file) b × Sorted (now file) b (now sorts) × FreeSets (now free) setWords bundle × (limits .variables * (b .contexts + 1) ≤ length (now
-        images)) × (setWords * (b .contexts + 1) ≤ length (now moved)) × Images bundle (now images) 1 × MovedSets bundle (now moved) setWords 1) ⌝ }
+        Whole (now file) b × Sorted (now file) b (now sorts) × FreeSets (now free) n bundle × (b .variables ≤ 64 * n) × (b .variables * (b .contexts + 1) ≤
+        length (now images)) × (n * (b .contexts + 1) ≤ length (now moved)) × Images bundle (now images) 1 × MovedSets bundle (now moved) n 1) ⌝ }
     ensures { λ r. ⌜ r ≡ lateFault (bundleAt (now (file .entry)) b) ⌝ }
 {
-    let in_contexts = contexts::contexts::contexts_fault(
-        file,
-        b,
-        sorts,
-        free,
-        Bundle::SET_WORDS,
-        images,
-        moved,
-    );
+    let in_contexts = contexts::contexts::contexts_fault(file, b, sorts, free, n, images, moved);
     if in_contexts.number != 0 {
         return in_contexts;
     }
-    let in_steps = steps::steps::steps_fault(file, b, free, Bundle::SET_WORDS, images, moved);
+    let in_steps = steps::steps::steps_fault(file, b, free, n, images, moved);
     if in_steps.number != 0 {
         return in_steps;
     }
@@ -87,27 +82,37 @@ fn late_fault_in(
     }
 }
 
-// The same with room of its own, of one of three sizes. The room is cleared first, so a file with few contexts gets little.
-fn late_fault(file: &[u8], b: Bundle, sorts: &[usize], free: &[u64]) -> Fault
-    requires { ⌜ Whole (now file) b × Sorted (now file) b (now sorts) × FreeSets (now free) setWords (bundleAt (now file) b) ⌝ }
+// The same with room of its own, of one of four sizes. The room is cleared first, so a file with few variables and contexts gets little.
+fn late_fault(file: &[u8], b: Bundle, sorts: &[usize], free: &[u64], n: usize) -> Fault
+    requires { ⌜ Whole (now file) b × Sorted (now file) b (now sorts) × FreeSets (now free) n (bundleAt (now file) b) × (n ≤ setWords) × (b .variables ≤ 64
+        * n) ⌝ }
     ensures { λ r. ⌜ r ≡ lateFault (bundleAt (now (file .entry)) b) ⌝ }
 {
-    if b.contexts < 8 {
-        let mut few_images = [0u16; Bundle::VARIABLES * 8];
-        let mut few_moved = [0u64; Bundle::SET_WORDS * 8];
-        return late_fault_in(file, b, sorts, free, &mut few_images, &mut few_moved);
+    let rows = b.contexts + 1;
+    let places = b.variables * rows;
+    let words = n * rows;
+    if (places <= 512) & (words <= 40) {
+        let mut few_images = [0u16; 512];
+        let mut few_moved = [0u64; 40];
+        return late_fault_in(file, b, sorts, free, n, &mut few_images, &mut few_moved);
     }
-    if b.contexts < 32 {
-        let mut some_images = [0u16; Bundle::VARIABLES * 32];
-        let mut some_moved = [0u64; Bundle::SET_WORDS * 32];
-        return late_fault_in(file, b, sorts, free, &mut some_images, &mut some_moved);
+    if (places <= 8192) & (words <= 257) {
+        let mut some_images = [0u16; 8192];
+        let mut some_moved = [0u64; 257];
+        return late_fault_in(file, b, sorts, free, n, &mut some_images, &mut some_moved);
+    }
+    if (places <= 16448) & (words <= 257) {
+        let mut more_images = [0u16; 16448];
+        let mut more_moved = [0u64; 257];
+        return late_fault_in(file, b, sorts, free, n, &mut more_images, &mut more_moved);
     }
     let mut images = [0u16; Bundle::VARIABLES * (Bundle::CONTEXTS + 1)];
     let mut moved = [0u64; Bundle::SET_WORDS * (Bundle::CONTEXTS + 1)];
-    late_fault_in(file, b, sorts, free, &mut images, &mut moved)
+    late_fault_in(file, b, sorts, free, n, &mut images, &mut moved)
 }
 
-// What is wrong past the header, where the sorts of all terms are noted; number 0 where nothing is: the area then holds the free sets.
+// What is wrong past the header, where the sorts of all terms are noted; number 0 where nothing is: the area then holds the free sets. While the file is
+// checked they have as many words as its variables ask for.
 fn sorted_fault(file: &[u8], b: Bundle, sorts: &[usize], free: &mut [u64]) -> Fault
     requires { ⌜ Whole (now file) b × Sorted (now file) b (now sorts) × (setWords * b .terms ≤ length (now free)) ⌝ }
     ensures { λ r. ⌜ (let bundle = bundleAt (now (file .entry)) b in
@@ -118,8 +123,14 @@ fn sorted_fault(file: &[u8], b: Bundle, sorts: &[usize], free: &mut [u64]) -> Fa
     if early.number != 0 {
         return early;
     }
-    free_variables::free_sets(file, b, free, Bundle::SET_WORDS);
-    late_fault(file, b, sorts, free)
+    let n = words_for(b.variables);
+    free_variables::free_sets(file, b, free, n);
+    let late = late_fault(file, b, sorts, free, n);
+    if late.number != 0 {
+        return late;
+    }
+    spread(free, n, b.terms);
+    late
 }
 
 // The first check that fails, number 0 where none does; the area then holds the free sets.

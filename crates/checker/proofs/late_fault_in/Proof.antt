@@ -18,7 +18,7 @@ orElse-last (suc n) = refl
 contexts-fault-requires : tie.Need-contexts-fault-requires
 contexts-fault-requires c κs =
     let p = c .before .before .before .before .before .before .before .pre in
-    (p .0, p .1, p .2, omega (arith, p .0 .within .variables), p .3, p .4, p .5, p .6)
+    (p .0, p .1, p .2, p .3, p .4, p .5, p .6, p .7)
 
 same-length : tie.Need-same-length
 same-length c = search needs
