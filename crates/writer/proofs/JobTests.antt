@@ -21,12 +21,12 @@ use Rattle.logic.proofs.Tests.{numbers-of}
 use Rattle.free_variables.proofs.HeldSets.{sets-held}
 use Rattle.expansion.specs.Expansion.{earlyTests}
 
--- w are the lent words with the free sets
-pub closed-is : (f : List ℕ) (c : Counts) (m : ℕ) (w : List ℕ) (t : ℕ) → Whole f c → setWords * c .terms ≤ m → w ≡ freeArea (bundleAt f c) setWords m
-    → 1 ≤ t → t ≤ c .terms
-    → upTo (c .variables) (λ x. not (member w (setWords * (t - 1)) setWords x)) ≡ upTo (c .variables) (λ x. not (freeAt (bundleAt f c) t x))
-closed-is f c m w t whole long area lo hi =
-    let sets = sets-held f c m w whole long area in
+-- w are the lent words with the free sets, n words each
+pub closed-is : (f : List ℕ) (c : Counts) (n m : ℕ) (w : List ℕ) (t : ℕ) → 1 ≤ n → c .variables ≤ 64 * n → n * c .terms ≤ m
+    → w ≡ freeArea (bundleAt f c) n m → 1 ≤ t → t ≤ c .terms
+    → upTo (c .variables) (λ x. not (member w (n * (t - 1)) n x)) ≡ upTo (c .variables) (λ x. not (freeAt (bundleAt f c) t x))
+closed-is f c n m w t one bits long area lo hi =
+    let sets = sets-held f c n m w one bits long area in
     let last : t ≤ length (bundleAt f c .terms) = rw terms-length hi in
     ap (upTo (c .variables)) (λ i x. not (sets .same t x lo last i))
 

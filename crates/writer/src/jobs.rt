@@ -11,6 +11,7 @@ ghost use Rattle.expansion.specs.Expansion.{earlyTests};
 use bundle::Bundle;
 use bundle::words::claim_left;
 use bundle::words::claim_right;
+use free_variables::words_for;
 
 // Whether no variable up to v is in the set at word `at`.
 fn is_closed(sets: &[u64], at: usize, n: usize, variables: usize) -> bool
@@ -27,7 +28,7 @@ fn is_closed(sets: &[u64], at: usize, n: usize, variables: usize) -> bool
     true
 }
 
-// 18, 15, 17: what is wrong with a job, 0 where nothing is. The free sets are written into the lent words.
+// 18, 15, 17: what is wrong with a job, 0 where nothing is. The free sets are written into the lent words, as many a set as the job's variables ask for.
 pub fn job_fault(job: &[u8], b: Bundle, sets: &mut [u64]) -> usize
     requires { ⌜ Whole (now job) b × (setWords * b .terms ≤ length (now sets)) ⌝ }
     ensures { λ r. ⌜ (length (now (sets .exit)) ≡ length (now (sets .entry))) × (r ≡ firstFailing (earlyTests (bundleAt (now (job .entry)) b))) ⌝ }
@@ -43,13 +44,9 @@ pub fn job_fault(job: &[u8], b: Bundle, sets: &mut [u64]) -> usize
     if !((0 < left) & (left <= terms)) {
         return 15;
     }
-    free_variables::free_sets(job, b, sets, Bundle::SET_WORDS);
-    if !is_closed(
-        sets,
-        Bundle::SET_WORDS * (left - 1),
-        Bundle::SET_WORDS,
-        b.variables,
-    ) {
+    let n = words_for(b.variables);
+    free_variables::free_sets(job, b, sets, n);
+    if !is_closed(sets, n * (left - 1), n, b.variables) {
         return 17;
     }
     0

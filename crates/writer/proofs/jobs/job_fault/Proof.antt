@@ -2,7 +2,9 @@
 use borrow.Author.Needs.{needs}
 use mathlib.Core.Path.{refl, _∙_}
 use native.Mathlib.Omega.{arith}
+use native.Mathlib.Nat.{mul-le-mul-right}
 use lib.ListN.{length}
+use Rattle.bundle.proofs.Fields.{record-within}
 use Rattle.logic.proofs.Headers.{whole-long}
 use Rattle.writer.proofs.JobTests.{closed-is, not-empty, not-known, left-known, not-closed, all-hold}
 use Rattle.writer.proofs.jobs.job_fault.Statement.{statement}
@@ -33,37 +35,55 @@ returns-2 c =
           (at-claim-left .claim-left .ensures .0) (at-claim-right .claim-right .ensures .0) (c .before .if1 .left) (c .if2 .taken),
     )
 
+words-for-requires : tie.Need-words-for-requires
+words-for-requires c κs = search needs
+
 free-sets-requires : tie.Need-free-sets-requires
-free-sets-requires c κs = search needs
+free-sets-requires c κs =
+    let t = c .before .before in
+    let r = t .before .before in
+    let l = r .before in
+    let s = l .before .before .before in
+    let w = c .before .words-for .ensures in
+    (s .pre .0, w .0, w .1, omega (arith, mul-le-mul-right (s .args .b .terms) (w .1), s .pre .1), w .2)
 
 sub-is-closed : tie.Need-sub-is-closed
 sub-is-closed c =
-    let at-if2 = c .before .before .before .before .before in
-    let at-claim-right = at-if2 .before .before in
-    let at-claim-left = at-claim-right .before in
-    let at-start = at-claim-left .before .before .before in
-    left-known (at-start .args .job .now) (at-start .args .b) (at-claim-left .claim-left .result) (at-claim-right .claim-right .result)
-    (at-claim-left .claim-left .ensures .0) (at-claim-right .claim-right .ensures .0) (at-if2 .if2 .left) .0
+    let t = c .before .before .before .before .before .before in
+    let r = t .before .before in
+    let l = r .before in
+    let s = l .before .before .before in
+    left-known (s .args .job .now) (s .args .b) (l .claim-left .result) (r .claim-right .result) (l .claim-left .ensures .0) (r .claim-right .ensures .0) (t .if2 .left) .0
 
 mul-is-closed : tie.Need-mul-is-closed
-mul-is-closed c = search needs
+mul-is-closed c =
+    let t = c .before .before .before .before .before .before in
+    let r = t .before .before in
+    let l = r .before in
+    let s = l .before .before .before in
+    let n = c .before .before .before .before .before .words-for in
+    let k = left-known (s .args .job .now) (s .args .b) (l .claim-left .result) (r .claim-right .result) (l .claim-left .ensures .0) (r .claim-right .ensures .0) (t .if2 .left) in
+    omega (
+      arith,
+      record-within (n .result) (s .args .b .terms) (l .claim-left .result) (λ z. omega (arith, k .0)) (k .1),
+      mul-le-mul-right (s .args .b .terms) (n .ensures .1),
+      s .pre .1,
+    )
 
 is-closed-requires : tie.Need-is-closed-requires
 is-closed-requires c κs =
-    let at-sets = c .before .before in
-    let at-if2 = at-sets .before .before .before in
-    let at-claim-right = at-if2 .before .before in
-    let at-claim-left = at-claim-right .before in
-    let at-start = at-claim-left .before .before .before in
+    let t = c .before .before .before .before .before .before in
+    let r = t .before .before in
+    let l = r .before in
+    let s = l .before .before .before in
+    let n = c .before .before .before .before .before .words-for in
+    let k = left-known (s .args .job .now) (s .args .b) (l .claim-left .result) (r .claim-right .result) (l .claim-left .ensures .0) (r .claim-right .ensures .0) (t .if2 .left) in
     omega (
       arith,
-      left-known (at-start .args .job .now) (at-start .args .b) (at-claim-left .claim-left .result) (at-claim-right .claim-right .result)
-          (at-claim-left .claim-left .ensures .0) (at-claim-right .claim-right .ensures .0) (at-if2 .if2 .left) .0,
-      left-known (at-start .args .job .now)
-          (at-start .args .b) (at-claim-left .claim-left .result) (at-claim-right .claim-right .result) (at-claim-left .claim-left .ensures .0)
-          (at-claim-right .claim-right .ensures .0) (at-if2 .if2 .left) .1,
-      at-start .pre .1,
-      at-sets .sets .given,
+      record-within (n .result) (s .args .b .terms) (l .claim-left .result) (λ z. omega (arith, k .0)) (k .1),
+      mul-le-mul-right (s .args .b .terms) (n .ensures .1),
+      s .pre .1,
+      c .before .before .sets .given,
     )
 
 same-length : tie.Need-same-length
@@ -73,21 +93,19 @@ returns-3 : tie.Need-returns-3
 returns-3 c =
     let at-sets = c .before .before .before .before in
     let at-free-sets = at-sets .before in
-    let at-if2 = at-free-sets .before .before in
-    let at-if1 = at-if2 .before in
-    let at-claim-right = at-if1 .before in
-    let at-claim-left = at-claim-right .before in
-    let at-start = at-claim-left .before .before .before in (
+    let t = at-free-sets .before .before .before in
+    let r = t .before .before in
+    let l = r .before in
+    let s = l .before .before .before in
+    let n = at-free-sets .before .before .words-for in
+    let k = left-known (s .args .job .now) (s .args .b) (l .claim-left .result) (r .claim-right .result) (l .claim-left .ensures .0) (r .claim-right .ensures .0) (t .if2 .left) in (
       at-sets .sets .given,
-      not-closed (at-start .args .job .now) (at-start .args .b) (at-claim-left .claim-left .result) (at-claim-right .claim-right .result)
-          (at-claim-left .claim-left .ensures .0) (at-claim-right .claim-right .ensures .0) (c .before .is-closed .result)
-          (c .before .is-closed .ensures ∙ closed-is (at-start .args .job .now) (at-start .args .b) (length (at-start .args .sets .now)) _
-          (at-claim-left .claim-left .result) (at-start .pre .0) (omega (arith, at-start .pre .1)) (at-free-sets .free-sets .ensures)
-          (left-known (at-start .args .job .now) (at-start .args .b) (at-claim-left .claim-left .result) (at-claim-right .claim-right .result)
-          (at-claim-left .claim-left .ensures .0) (at-claim-right .claim-right .ensures .0) (at-if2 .if2 .left) .0)
-          (left-known (at-start .args .job .now) (at-start .args .b) (at-claim-left .claim-left .result) (at-claim-right .claim-right .result)
-          (at-claim-left .claim-left .ensures .0) (at-claim-right .claim-right .ensures .0) (at-if2 .if2 .left) .1))
-          (at-if1 .if1 .left) (at-if2 .if2 .left) (c .if3 .taken),
+      not-closed (s .args .job .now) (s .args .b) (l .claim-left .result) (r .claim-right .result) (l .claim-left .ensures .0) (r .claim-right .ensures .0)
+          (c .before .is-closed .result)
+          (c .before .is-closed .ensures ∙ closed-is (s .args .job .now) (s .args .b) (n .result) (length (s .args .sets .now)) _ (l .claim-left .result)
+          (n .ensures .0) (n .ensures .2) (omega (arith, mul-le-mul-right (s .args .b .terms) (n .ensures .1), s .pre .1))
+          (at-free-sets .free-sets .ensures) (k .0) (k .1))
+          (t .before .if1 .left) (t .if2 .left) (c .if3 .taken),
     )
 
 same-length-2 : tie.Need-same-length-2
@@ -97,21 +115,19 @@ returns-4 : tie.Need-returns-4
 returns-4 c =
     let at-sets = c .before .before .before .before in
     let at-free-sets = at-sets .before in
-    let at-if2 = at-free-sets .before .before in
-    let at-if1 = at-if2 .before in
-    let at-claim-right = at-if1 .before in
-    let at-claim-left = at-claim-right .before in
-    let at-start = at-claim-left .before .before .before in (
+    let t = at-free-sets .before .before .before in
+    let r = t .before .before in
+    let l = r .before in
+    let s = l .before .before .before in
+    let n = at-free-sets .before .before .words-for in
+    let k = left-known (s .args .job .now) (s .args .b) (l .claim-left .result) (r .claim-right .result) (l .claim-left .ensures .0) (r .claim-right .ensures .0) (t .if2 .left) in (
       at-sets .sets .given,
-      all-hold (at-start .args .job .now) (at-start .args .b) (at-claim-left .claim-left .result) (at-claim-right .claim-right .result)
-          (at-claim-left .claim-left .ensures .0) (at-claim-right .claim-right .ensures .0) (c .before .is-closed .result)
-          (c .before .is-closed .ensures ∙ closed-is (at-start .args .job .now) (at-start .args .b) (length (at-start .args .sets .now)) _
-          (at-claim-left .claim-left .result) (at-start .pre .0) (omega (arith, at-start .pre .1)) (at-free-sets .free-sets .ensures)
-          (left-known (at-start .args .job .now) (at-start .args .b) (at-claim-left .claim-left .result) (at-claim-right .claim-right .result)
-          (at-claim-left .claim-left .ensures .0) (at-claim-right .claim-right .ensures .0) (at-if2 .if2 .left) .0)
-          (left-known (at-start .args .job .now) (at-start .args .b) (at-claim-left .claim-left .result) (at-claim-right .claim-right .result)
-          (at-claim-left .claim-left .ensures .0) (at-claim-right .claim-right .ensures .0) (at-if2 .if2 .left) .1))
-          (at-if1 .if1 .left) (at-if2 .if2 .left) (c .if3 .left),
+      all-hold (s .args .job .now) (s .args .b) (l .claim-left .result) (r .claim-right .result) (l .claim-left .ensures .0) (r .claim-right .ensures .0)
+          (c .before .is-closed .result)
+          (c .before .is-closed .ensures ∙ closed-is (s .args .job .now) (s .args .b) (n .result) (length (s .args .sets .now)) _ (l .claim-left .result)
+          (n .ensures .0) (n .ensures .2) (omega (arith, mul-le-mul-right (s .args .b .terms) (n .ensures .1), s .pre .1))
+          (at-free-sets .free-sets .ensures) (k .0) (k .1))
+          (t .before .if1 .left) (t .if2 .left) (c .if3 .left),
     )
 
 pub job-fault-spec : {M : Type 1} → statement M
@@ -122,6 +138,7 @@ job-fault-spec =
     claim-right-requires
     returns
     returns-2
+    words-for-requires
     free-sets-requires
     sub-is-closed
     mul-is-closed
