@@ -62,8 +62,8 @@ AcceptedDistinct = (f : List ℕ) (m : ℕ) (a : Acceptance) → judge f m ≡ A
 abbrev pub bit : ℕ → ℕ → ℕ
 bit w k = w / 2 ^ k % 2
 
--- The checker is lent 64-bit words, at least T; when it accepts, word i has bit v - 1 set exactly where variable v is free in term i, and the rest
--- is zero. A term has `setWords` words, and variable v bit (v - 1) % 64 of word (v - 1) / 64 of them.
+-- The checker is lent 64-bit words, at least `setWords` for each of T terms; when it accepts, variable v is bit (v - 1) % 64 of word (v - 1) / 64 of a
+-- term's words, which is set exactly where v is free in the term, and the rest is zero.
 pub record FreeSetsLeft (b : Bundle) (m : ℕ) (area : List ℕ) : Type 0 where
   pub long : length area ≡ m
   pub words : (j : ℕ) → getD area j 0 < 2 ^ 64

@@ -2,7 +2,7 @@
 --     same-parts, tells-exactly     n · 2^32 + i, with i below 2^32, is so of one n and one i
 --     tells-one                     each number from 2^32 on tells of exactly one number and record
 --     check-number                  what `nezkaldo_check` answers
---     file-short                    a file that is written has at most 58,148 bytes
+--     file-short                    a file that is written has at most 58,916 bytes
 --     expand-number                 what `nezkaldo_expand` answers
 --     read-number                   what `nezkaldo_read` answers
 --     expand-fits, read-fits        both answers fit a word of 64 bits
@@ -178,7 +178,7 @@ read-number f text out words sets short = go (reading f text out words sets .ans
 
 -- ---- both answers fit a word of 64 bits
 
-fits-word : (a : Reply) → ((n : ℕ) → a ≡ Written n → n ≤ 58148) → ((n i : ℕ) → a ≡ Denied n i → (n ≤ 20) × (i ≤ 9223372036854775807))
+fits-word : (a : Reply) → ((n : ℕ) → a ≡ Written n → n ≤ bytesOf limits) → ((n i : ℕ) → a ≡ Denied n i → (n ≤ 20) × (i ≤ 9223372036854775807))
     → packedReply a ≤ 18446744073709551615
 unfolding packedReply
 fits-word (Written n) short small = omega (arith, short n refl)

@@ -60,7 +60,7 @@ CheckNumber = (f : List ℕ) (m : ℕ) → CheckSays f m (packed (judge f m))
 pub record ExpandSays (f : List ℕ) (out words sets p : ℕ) : Type 0 where
   -- less than 2^32 exactly for well-formed closed jobs whose derivation fits, with long enough areas;
   pub written : (p < 4294967296) ↔ (JobFormed f × Closed (tree (bundleOf f) (bundleOf f .left)) × Fits f × LongEnough out words sets)
-  -- then a file is written, and the answer is its length, at most 58,148;
+  -- then a file is written, and the answer is its length, at most 58,916;
   pub long : p < 4294967296 → (expansion f out words sets .answer ≡ Written p) × (p ≤ bytesOf limits)
   -- any other answer tells of the number and record of the first check of document 01 that fails
   pub refused : (n i : ℕ) → Tells p n i ↔ FirstFailing (allJobChecks f out words sets) n i
@@ -76,7 +76,7 @@ pub record ReadSays (f text : List ℕ) (out words sets p : ℕ) : Type 0 where
   pub written :
       (p < 4294967296)
       ↔ (DeclarationsFormed f × LongEnough out words sets × ((φ : Formula) × ReadAs (bundleOf f) text φ × FitsLimits (bundleOf f) φ))
-  -- then a job is written, and the answer is its length, at most 58,148;
+  -- then a job is written, and the answer is its length, at most 58,916;
   pub long : p < 4294967296 → (reading f text out words sets .answer ≡ Written p) × (p ≤ bytesOf limits)
   -- any other answer tells of the number, and of the record or byte, of what refuses them first
   pub refused : (n i : ℕ)

@@ -63,8 +63,8 @@ pub fn insert(area: &mut [u64], at: usize, n: usize, v: usize)
     if k >= n {
         return;
     }
-    let x = with_bit(area[at + k], (v - 1) % 64);
-    area[at + k] = x;
+    let word = with_bit(area[at + k], (v - 1) % 64);
+    area[at + k] = word;
 }
 
 pub fn remove(area: &mut [u64], at: usize, n: usize, v: usize)

@@ -1,4 +1,5 @@
 // Pieces of text on standard output: words, numbers and names.
+use bundle::Bundle;
 use logic::rules::BIND;
 use logic::rules::CONG;
 use logic::rules::LET;
@@ -62,7 +63,7 @@ pub fn symbol(f: usize) {
 
 // A declared symbol, by its record.
 pub fn declared(i: usize) {
-    if i <= 64 {
+    if i <= Bundle::SYMBOLS {
         name(b"f", 32 + i);
     } else {
         name(b"symbol ", i);
