@@ -7,7 +7,7 @@
 #include <inttypes.h>
 #include <stdio.h>
 
-enum { INPUT = 65536, TEXT = 1048576, OUT = 58148, WORDS = 14537, SETS = 1024 };
+enum { INPUT = 65536, TEXT = 1048576, OUT = 58916, WORDS = 14729, SETS = 4096 };
 
 static uint8_t input[INPUT];
 static uint8_t text[TEXT];

@@ -6,9 +6,9 @@
 
 use std::process::ExitCode;
 
-const OUT: usize = 58_148;
-const WORDS: usize = 14_537;
-const SETS: usize = 1_024;
+const OUT: usize = 58_916;
+const WORDS: usize = 14_729;
+const SETS: usize = 4_096;
 
 unsafe extern "C" {
     fn nezkaldo_check(file: *const u8, file_length: usize, free: *mut u64, free_length: usize) -> u64;
