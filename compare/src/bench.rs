@@ -1,12 +1,15 @@
 //! The benchmark: the proved check and the Rust checker on the same files, in
 //! turn, with the time to copy the file as the floor.
 
-use crate::bundle::{MAX_BYTES, MAX_WORDS, Section, counts_of, to_bytes, to_words};
+use crate::bundle::{
+    MAX_BYTES, MAX_SETS, MAX_WORDS, Section, area_words, counts_of, to_bytes, to_words,
+};
 use crate::compare::Checker;
 use crate::compare_reader::Reader;
 use crate::compare_writer::Writer;
-use crate::expand::{SETS, written};
-use crate::generate::{jobs, large, texts};
+use crate::expand::written;
+use crate::generate::jobs::{self, OLD_BYTES};
+use crate::generate::{large, texts};
 use crate::read;
 use crate::rng::Rng;
 use std::hint::black_box;
@@ -87,7 +90,7 @@ pub const SIZES: [(&str, usize); 4] = [
     ("expansion, 1 KB", 1024),
     ("expansion, 8 KB", 8 * 1024),
     ("expansion, 32 KB", 32 * 1024),
-    ("expansion, 58 KB", MAX_BYTES),
+    ("expansion, 58 KB", OLD_BYTES),
 ];
 
 /// The files of the table.
@@ -111,7 +114,7 @@ pub const FULL: &str = "full file";
 
 /// The largest expansion, filled up: every section has as many records as it may.
 fn full() -> Vec<u8> {
-    let file = expansion(jobs::of_size(MAX_BYTES));
+    let file = expansion(jobs::of_size(OLD_BYTES));
     let counts = counts_of(&file).unwrap_or_default();
     let words = to_words(&file);
     let mut filled = words[..counts.start(Section::Symbols)].to_vec();
@@ -160,8 +163,7 @@ pub fn time_check(
     budget: Duration,
 ) -> Row {
     let file = subject.file.as_slice();
-    let terms = counts_of(file).map_or(0, |counts| counts[Section::Terms]) as usize;
-    let mut area = vec![0u64; terms];
+    let mut area = vec![0u64; area_words(subject.terms)];
     let mut copy = vec![0u8; file.len()];
     let once = |check: Checker| {
         area.fill(0);
@@ -203,7 +205,7 @@ pub fn time_writer(
 ) -> Row {
     let job = to_bytes(&jobs::of_size(bytes));
     let file = written(&job).expect("the job was made to fit");
-    let (mut out, mut words, mut sets) = (vec![0; MAX_BYTES], vec![0; MAX_WORDS], vec![0; SETS]);
+    let (mut out, mut words, mut sets) = (vec![0; MAX_BYTES], vec![0; MAX_WORDS], vec![0; MAX_SETS]);
     let once = |write: Writer| {
         clear(&mut out, &mut words, &mut sets);
         let begun = Instant::now();
@@ -252,7 +254,7 @@ pub fn texts() -> Vec<Typed> {
 /// Times the readers on a text. The floor is the time to clear the areas.
 pub fn time_reader(typed: &Typed, proved: Option<Reader>, rust: Reader, budget: Duration) -> Row {
     let Typed { name, declarations, text, job } = typed;
-    let (mut out, mut words, mut sets) = (vec![0; MAX_BYTES], vec![0; MAX_WORDS], vec![0; SETS]);
+    let (mut out, mut words, mut sets) = (vec![0; MAX_BYTES], vec![0; MAX_WORDS], vec![0; MAX_SETS]);
     let once = |read: Reader| {
         clear(&mut out, &mut words, &mut sets);
         let begun = Instant::now();
@@ -340,7 +342,7 @@ mod tests {
         let subjects = subjects();
         let (terms, steps) = (doubling(Share::Term), doubling(Share::Step));
         for subject in subjects.iter().chain(&terms).chain(&steps) {
-            let mut area = vec![0; 1024];
+            let mut area = vec![0; area_words(subject.terms)];
             assert!(check(&subject.file, &mut area).is_ok(), "{}", subject.name);
         }
         let sizes: Vec<usize> = subjects[..4].iter().map(|subject| subject.file.len()).collect();

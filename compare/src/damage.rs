@@ -287,7 +287,8 @@ impl Draft {
             5 if !values.is_empty() => values.insert(place, values[place]),
             6 if rng.chance(30) => {
                 // Longer than there can be variables.
-                let length = rng.between(60, 130) as usize;
+                let most = Section::Variables.limit();
+                let length = rng.between(most - 4, 2 * most + 2) as usize;
                 values = (1..).take(length).collect();
             }
             _ => rng.shuffle(&mut values),

@@ -1,10 +1,11 @@
 //! Contexts (refusals 10 and 11) and the images of variables in them.
 
 use super::terms::{Term, pairs_fit};
-use super::{Tables, bit, first_refusal};
+use super::{Tables, first_refusal, member};
 use crate::answer::{Reason, Refusal};
 use crate::bundle::Section;
 use crate::fault::{Fault, Rules};
+use crate::set::Set;
 
 #[derive(Clone, Copy, Debug, PartialEq, Eq)]
 pub enum Entry {
@@ -23,8 +24,10 @@ pub struct Context {
     pub entry: Entry,
     pub parent: u32,
     /// The variables whose image is another term.
-    moved: u64,
+    moved: Set,
 }
+
+const EMPTY: Context = Context { entry: Entry::Empty, parent: 0, moved: Set::EMPTY };
 
 #[derive(Debug)]
 pub struct Contexts {
@@ -42,7 +45,7 @@ impl Contexts {
         let records = tables.section(Section::Contexts).as_chunks::<4>().0;
         let width = tables.signature.variable_count() as usize;
         let mut contexts = Contexts {
-            contexts: vec![Context { entry: Entry::Empty, parent: 0, moved: 0 }; records.len() + 1],
+            contexts: vec![EMPTY; records.len() + 1],
             images: vec![0; (records.len() + 1) * width],
             width,
         };
@@ -89,13 +92,13 @@ impl Contexts {
                 || one != 0 && other != 0 && self.equal(tables, first.parent, second.parent))
     }
 
-    pub fn moved(&self, context: u32) -> u64 {
+    pub fn moved(&self, context: u32) -> Set {
         self.contexts[context as usize].moved
     }
 
     /// Whether none of these variables is moved.
-    pub fn settled(&self, context: u32, free: u64) -> bool {
-        free & self.moved(context) == 0
+    pub fn settled<R: Rules>(&self, rules: R, context: u32, free: Set) -> bool {
+        disjoint(rules, free, self.moved(context))
     }
 
     /// Adds an entry above its parent. Answers the place of the first replacing
@@ -119,7 +122,7 @@ impl Contexts {
             Entry::Fixes(_) if rules.has(Fault::FixingHidesNothing) => {}
             Entry::Fixes(variable) => {
                 row[variable as usize - 1] = 0;
-                moved &= !bit(variable);
+                moved.remove(member(rules, variable));
             }
             Entry::Replaces { variables, terms } => {
                 let pairs = || tables.lists.values(variables).zip(tables.lists.values(terms));
@@ -136,11 +139,12 @@ impl Contexts {
                     row[variable as usize - 1] = term;
                     let own = known.term == Term::Variable(variable);
                     if own && !rules.has(Fault::OwnTermMoves) {
-                        moved &= !bit(variable);
+                        moved.remove(member(rules, variable));
                     } else {
-                        moved |= bit(variable);
+                        moved.insert(member(rules, variable));
                     }
-                    if known.free & parent_moved != 0 && unsettled == 0 {
+                    let free = tables.terms.free(rules, term);
+                    if unsettled == 0 && !disjoint(rules, free, parent_moved) {
                         unsettled = place;
                     }
                 }
@@ -149,6 +153,14 @@ impl Contexts {
         self.contexts[number as usize] = Context { entry, parent, moved };
         unsettled
     }
+}
+
+/// Whether no variable is in both; a fault looks at the first words alone.
+fn disjoint<R: Rules>(rules: R, one: Set, other: Set) -> bool {
+    if rules.has(Fault::FirstWordSettled) {
+        return one.words()[0] & other.words()[0] == 0;
+    }
+    one.disjoint(other)
 }
 
 /// A fault's reading: a replacement goes on with the pairs after it.

@@ -2,9 +2,11 @@
 
 use super::signature::{Arguments, Profile};
 use super::word_map::WordMap;
-use super::{Lists, Signature, Sort, bit, first_refusal};
+use super::{Lists, Signature, Sort, first_refusal, member};
 use crate::answer::{Reason, Refusal};
+use crate::bundle::SET_WORDS;
 use crate::fault::{Fault, Rules};
+use crate::set::Set;
 
 /// A term record; lists are given by their start.
 #[derive(Clone, Copy, Debug, PartialEq, Eq)]
@@ -25,10 +27,10 @@ pub enum Quantifier {
 pub struct Known {
     pub term: Term,
     pub sort: Sort,
-    pub free: u64,
+    pub free: Set,
 }
 
-const UNKNOWN: Known = Known { term: Term::Variable(0), sort: Sort::Truth, free: 0 };
+const UNKNOWN: Known = Known { term: Term::Variable(0), sort: Sort::Truth, free: Set::EMPTY };
 
 /// A term by value: kind and fields, lists by their class.
 pub type Key = [u32; 4];
@@ -71,9 +73,16 @@ impl Terms {
         &self.known[number as usize]
     }
 
-    /// The terms in order, from term 1.
-    pub fn iter(&self) -> impl Iterator<Item = &Known> {
-        self.known[1..].iter()
+    /// The free variables of a term, as the rules read them.
+    pub fn free<R: Rules>(&self, rules: R, number: u32) -> Set {
+        if rules.has(Fault::SetsReadClose) {
+            let first = number as usize - 1;
+            return Set::from_words(std::array::from_fn(|word| {
+                let place = first + word;
+                self.known[1 + place / SET_WORDS].free.words()[place % SET_WORDS]
+            }));
+        }
+        self.get(number).free
     }
 }
 
@@ -85,7 +94,7 @@ struct Seen {
     /// Whether `free` is known.
     visited: bool,
     /// Free variables of its terms together.
-    free: u64,
+    free: Set,
 }
 
 struct Decoder<'a, R> {
@@ -258,26 +267,27 @@ impl<R: Rules> Decoder<'_, R> {
         }
     }
 
-    fn free(&mut self, term: Term) -> u64 {
+    fn free(&mut self, term: Term) -> Set {
+        let own = |variable| member(self.rules, variable);
         match term {
-            Term::Variable(variable) => bit(variable),
+            Term::Variable(variable) => Set::of(own(variable)),
             Term::Application { arguments, .. } => self.free_of_list(arguments),
             Term::Quantifier { variable, body, .. } => {
-                let body = self.terms.get(body).free;
+                let body = self.terms.free(self.rules, body);
                 if self.rules.has(Fault::QuantifierBindsNothing) {
                     body
                 } else {
-                    body & !bit(variable)
+                    body.but(own(variable))
                 }
             }
             Term::Let { variables, bounds, body } => {
-                let own = self.lists.values(variables).fold(0, |set, variable| set | bit(variable));
+                let own: Set = self.lists.values(variables).map(own).collect();
                 let bounds = self.free_of_list(bounds);
-                let body = self.terms.get(body).free;
+                let body = self.terms.free(self.rules, body);
                 if self.rules.has(Fault::LetBindsItsBounds) {
-                    (body | bounds) & !own
+                    body.union(bounds).without(own)
                 } else {
-                    body & !own | bounds
+                    body.without(own).union(bounds)
                 }
             }
         }
@@ -285,7 +295,7 @@ impl<R: Rules> Decoder<'_, R> {
 
     /// The free variables of a list's terms: walks to the first link already
     /// summed up, then back.
-    fn free_of_list(&mut self, start: u32) -> u64 {
+    fn free_of_list(&mut self, start: u32) -> Set {
         let mut rest = start;
         while let Some((_, next)) = self.lists.split(rest) {
             if self.seen[rest as usize].visited {
@@ -297,7 +307,7 @@ impl<R: Rules> Decoder<'_, R> {
         let mut free = self.seen[rest as usize].free;
         while let Some(link) = self.pending.pop() {
             if let Some((term, _)) = self.lists.split(link) {
-                free |= self.terms.get(term).free;
+                free = free.union(self.terms.free(self.rules, term));
             }
             let seen = &mut self.seen[link as usize];
             (seen.visited, seen.free) = (true, free);
@@ -324,10 +334,10 @@ pub(super) fn pairs_fit<R: Rules>(
     if count < least || !same_count {
         return false;
     }
-    let mut seen = 0;
+    let mut seen = Set::EMPTY;
     lists.values(variables).zip(lists.values(bounds)).all(|(variable, bound)| {
-        let repeated = seen & bit(variable) != 0;
-        seen |= bit(variable);
+        let repeated = seen.has(member(rules, variable));
+        seen.insert(member(rules, variable));
         (!repeated || rules.has(Fault::RepeatsTaken))
             && (signature.variable(variable) == terms.get(bound).sort
                 || rules.has(Fault::PairSortsIgnored))
