@@ -77,7 +77,11 @@ fn file_of<R: Rules>(rules: R, job: &[u8], areas_suffice: bool) -> Result<Vec<u8
         let full = |Full| Refusal::whole(Reason::Full);
         Writer::new(rules, &tables, lookup.clone()).visit(header.left, 0).map_err(full)?;
     }
-    if !tables.terms.get(header.left).free.is_empty() && !rules.has(Fault::OpenTaken) {
+    let mut free = tables.terms.free(Exact, header.left);
+    if rules.has(Fault::OpenFirstWord) {
+        free = free.intersection((1..=OLD_VARIABLES).collect());
+    }
+    if !free.is_empty() && !rules.has(Fault::OpenTaken) {
         return refused(Reason::Open);
     }
     let mut writer = Writer::new(rules, &tables, lookup);

@@ -79,15 +79,32 @@ impl Set {
     }
 
     /// The variables from the lowest to the highest.
-    pub fn members(self) -> impl Iterator<Item = u32> {
-        (0..).zip(self.0).flat_map(|(word, mut bits)| {
-            std::iter::from_fn(move || {
+    pub fn members(self) -> Members {
+        Members { words: self.0, word: 0 }
+    }
+}
+
+/// The variables of a set that are still to come.
+#[derive(Clone, Debug)]
+pub struct Members {
+    words: [u64; SET_WORDS],
+    /// The words before this one are zero.
+    word: usize,
+}
+
+impl Iterator for Members {
+    type Item = u32;
+
+    fn next(&mut self) -> Option<u32> {
+        while let Some(bits) = self.words.get_mut(self.word) {
+            if *bits != 0 {
                 let bit = bits.trailing_zeros();
-                // Drops the lowest bit; none is left of 0.
-                bits &= bits.checked_sub(1)?;
-                Some(word * u64::BITS + bit + 1)
-            })
-        })
+                *bits &= *bits - 1;
+                return Some(self.word as u32 * u64::BITS + bit + 1);
+            }
+            self.word += 1;
+        }
+        None
     }
 }
 

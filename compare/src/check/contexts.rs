@@ -35,7 +35,7 @@ pub struct Contexts {
     contexts: Vec<Context>,
     /// A row for each context, a place for each variable: the image's term, or
     /// 0 where no entry replaces the variable.
-    images: Vec<u32>,
+    images: Vec<u16>,
     /// Places in a row.
     width: usize,
 }
@@ -45,15 +45,21 @@ impl Contexts {
         let records = tables.section(Section::Contexts).as_chunks::<4>().0;
         let width = tables.signature.variable_count() as usize;
         let mut contexts = Contexts {
-            contexts: vec![EMPTY; records.len() + 1],
-            images: vec![0; (records.len() + 1) * width],
+            contexts: Vec::with_capacity(records.len() + 1),
+            images: Vec::with_capacity((records.len() + 1) * width),
             width,
         };
+        contexts.contexts.push(EMPTY);
+        contexts.images.resize(width, 0);
         first_refusal(rules, records.iter(), |number, &[kind, first, second, parent]| {
             let own = if rules.has(Fault::ParentOfItself) { number } else { number - 1 };
             let entry = entry(rules, tables, [kind, first, second]).filter(|_| parent <= own);
-            let entry = entry.ok_or(Reason::Context)?;
-            let replaced = contexts.add(rules, tables, number, entry, parent);
+            let Some(entry) = entry else {
+                // Only a fault reads on from here.
+                contexts.add(rules, tables, Entry::Empty, 0);
+                return Err(Reason::Context);
+            };
+            let replaced = contexts.add(rules, tables, entry, parent);
             let exempt = rules.has(Fault::UnsettledReplacementTaken)
                 || rules.has(Fault::OnlyFirstReplacementSettled) && replaced > 1;
             if replaced != 0 && !exempt { Err(Reason::Unsettled) } else { Ok(()) }
@@ -71,8 +77,8 @@ impl Contexts {
 
     /// The term that a variable is replaced by, if an entry replaces it.
     pub fn image(&self, context: u32, variable: u32) -> Option<u32> {
-        let place = context as usize * self.width + variable as usize - 1;
-        Some(self.images[place]).filter(|&term| term != 0)
+        let term = self.images[context as usize * self.width + variable as usize - 1];
+        (term != 0).then_some(term.into())
     }
 
     /// Whether two contexts have equal entries down to the empty one. Only a fault
@@ -103,18 +109,13 @@ impl Contexts {
 
     /// Adds an entry above its parent. Answers the place of the first replacing
     /// term that is not settled in the parent, 0 where all are.
-    fn add<R: Rules>(
-        &mut self,
-        rules: R,
-        tables: &Tables,
-        number: u32,
-        entry: Entry,
-        parent: u32,
-    ) -> usize {
-        let (from, to) = (parent as usize * self.width, number as usize * self.width);
-        self.images.copy_within(from..from + self.width, to);
-        let row = &mut self.images[to..to + self.width];
-        let parent_moved = self.contexts[parent as usize].moved;
+    fn add<R: Rules>(&mut self, rules: R, tables: &Tables, entry: Entry, parent: u32) -> usize {
+        let number = self.contexts.len();
+        // Only a fault lets a context be its own parent: it then has the empty one.
+        let above = if (parent as usize) < number { parent as usize } else { 0 };
+        let parent_moved = self.contexts[above].moved;
+        self.images.extend_from_within(above * self.width..(above + 1) * self.width);
+        let row = &mut self.images[number * self.width..];
         let mut moved = parent_moved;
         let mut unsettled = 0;
         match entry {
@@ -133,10 +134,11 @@ impl Contexts {
                         term
                     };
                     let known = tables.terms.get(term);
-                    if rules.has(Fault::OuterReplacementWins) && row[variable as usize - 1] != 0 {
+                    let image = &mut row[variable as usize - 1];
+                    if rules.has(Fault::OuterReplacementWins) && *image != 0 {
                         continue;
                     }
-                    row[variable as usize - 1] = term;
+                    *image = term as u16;
                     let own = known.term == Term::Variable(variable);
                     if own && !rules.has(Fault::OwnTermMoves) {
                         moved.remove(member(rules, variable));
@@ -150,7 +152,7 @@ impl Contexts {
                 }
             }
         }
-        self.contexts[number as usize] = Context { entry, parent, moved };
+        self.contexts.push(Context { entry, parent, moved });
         unsettled
     }
 }

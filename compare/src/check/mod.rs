@@ -43,14 +43,21 @@ pub(crate) fn check_with<R: Rules>(
 ) -> Result<Claim, Refusal> {
     match judge(rules, file, free.len()) {
         Ok((terms, claim)) => {
-            if !rules.has(Fault::AreaTailKept) {
+            if rules.has(Fault::SetsWrittenClose) {
                 free.fill(0);
+                for (place, set) in terms.free_sets().enumerate() {
+                    free[place..place + SET_WORDS].copy_from_slice(&set.words());
+                }
+                return Ok(claim);
             }
-            let stride = if rules.has(Fault::SetsWrittenClose) { 1 } else { SET_WORDS };
-            for (number, place) in (1..=terms.count()).zip((0..).step_by(stride)) {
-                // Only a fault takes an area that ends before the last set.
-                let Some(words) = free.get_mut(place..place + SET_WORDS) else { break };
-                words.copy_from_slice(&terms.get(number).free.words());
+            let (places, _) = free.as_chunks_mut::<SET_WORDS>();
+            for (place, set) in places.iter_mut().zip(terms.free_sets()) {
+                *place = set.words();
+            }
+            // Only a fault takes an area that ends before the last set.
+            let end = area_words(terms.count()).min(free.len());
+            if !rules.has(Fault::AreaTailKept) {
+                free[end..].fill(0);
             }
             Ok(claim)
         }

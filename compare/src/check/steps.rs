@@ -5,7 +5,7 @@ use super::terms::Term;
 use super::{Tables, first_refusal, member};
 use crate::answer::{Claim, Reason, Refusal};
 use crate::bundle::Section;
-use crate::fault::{Fault, Rules};
+use crate::fault::{Fault, OLD_VARIABLES, Rules};
 use crate::set::Set;
 
 const REFL: u32 = 1;
@@ -290,6 +290,9 @@ impl<R: Rules> Checker<'_, R> {
         let mut moved = self.contexts.moved(context);
         if !self.rules.has(Fault::BindAllImagesRead) {
             moved = moved.intersection(free);
+        }
+        if self.rules.has(Fault::BindImagesFirstWord) {
+            moved = moved.intersection((1..=OLD_VARIABLES).collect());
         }
         !moved.members().any(|variable| {
             self.contexts.image(context, variable).is_some_and(|image| self.is_free(y, image))

@@ -76,7 +76,7 @@ pub fn case(seed: u64, index: u64) -> Text {
             match rng.below(5) {
                 0 => draft.spoil_header(&mut rng),
                 1 => draft.spoil_many(&mut rng),
-                2 => draft.spoil_section(&mut rng, Section::Links),
+                2 => draft.spoil_next(&mut rng),
                 _ => draft.spoil(&mut rng),
             }
             let bytes = match rng.below(20) {
