@@ -205,7 +205,8 @@ pub fn time_writer(
 ) -> Row {
     let job = to_bytes(&jobs::of_size(bytes));
     let file = written(&job).expect("the job was made to fit");
-    let (mut out, mut words, mut sets) = (vec![0; MAX_BYTES], vec![0; MAX_WORDS], vec![0; MAX_SETS]);
+    let (mut out, mut words, mut sets) =
+        (vec![0; MAX_BYTES], vec![0; MAX_WORDS], vec![0; MAX_SETS]);
     let once = |write: Writer| {
         clear(&mut out, &mut words, &mut sets);
         let begun = Instant::now();
@@ -254,7 +255,8 @@ pub fn texts() -> Vec<Typed> {
 /// Times the readers on a text. The floor is the time to clear the areas.
 pub fn time_reader(typed: &Typed, proved: Option<Reader>, rust: Reader, budget: Duration) -> Row {
     let Typed { name, declarations, text, job } = typed;
-    let (mut out, mut words, mut sets) = (vec![0; MAX_BYTES], vec![0; MAX_WORDS], vec![0; MAX_SETS]);
+    let (mut out, mut words, mut sets) =
+        (vec![0; MAX_BYTES], vec![0; MAX_WORDS], vec![0; MAX_SETS]);
     let once = |read: Reader| {
         clear(&mut out, &mut words, &mut sets);
         let begun = Instant::now();

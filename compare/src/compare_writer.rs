@@ -3,9 +3,7 @@
 //! plain reading and to the program expand too. What is written has to be accepted.
 
 use crate::answer::{Packed, Reason, Refusal};
-use crate::bundle::{
-    LEFT, MAX_BYTES, MAX_SETS, MAX_WORDS, RIGHT, Section, counts_of, to_words,
-};
+use crate::bundle::{LEFT, MAX_BYTES, MAX_SETS, MAX_WORDS, RIGHT, Section, counts_of, to_words};
 use crate::compare::{Checker, SMALL, WORLDS};
 use crate::eval::claim_holds;
 use crate::expand::written;

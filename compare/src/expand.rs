@@ -40,9 +40,12 @@ pub(crate) fn expand_with<R: Rules>(
     let new_variables = Section::Variables.limit() - OLD_VARIABLES;
     let less = |fault, words: u32| if rules.has(fault) { words as usize } else { 0 };
     let suffice = out.len()
-        >= MAX_BYTES - less(Fault::OutputOneShort, 1) - less(Fault::OutputOfOldLimit, 4 * new_variables)
+        >= MAX_BYTES
+            - less(Fault::OutputOneShort, 1)
+            - less(Fault::OutputOfOldLimit, 4 * new_variables)
         && words.len() >= MAX_WORDS - less(Fault::WordsOfOldLimit, new_variables)
-        && sets.len() >= if rules.has(Fault::SetsOfTerms) { MAX_SETS / SET_WORDS } else { MAX_SETS };
+        && sets.len()
+            >= if rules.has(Fault::SetsOfTerms) { MAX_SETS / SET_WORDS } else { MAX_SETS };
     let file = file_of(rules, job, suffice);
     if !rules.has(Fault::ScratchKept) {
         words.fill(0);

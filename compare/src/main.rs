@@ -340,7 +340,8 @@ fn run_check(arguments: &Arguments) -> Result<ExitCode, String> {
 fn run_smt(arguments: &Arguments) -> Result<ExitCode, String> {
     arguments.allow(&[], 1)?;
     let path = arguments.plain().first().ok_or("smt needs a file")?;
-    let plain = naive::load(&read(path)?, MAX_SETS).map_err(|refusal| format!("{path}: {refusal}"))?;
+    let plain =
+        naive::load(&read(path)?, MAX_SETS).map_err(|refusal| format!("{path}: {refusal}"))?;
     let query = smt::query(&plain)
         .ok_or(format!("{path}: a side of the claim is too long to write out"))?;
     print!("{query}");

@@ -148,8 +148,7 @@ impl<R: Rules> Checker<'_, R> {
     fn refl(&self, step: &Step) -> bool {
         let left = self.tables.terms.get(step.left);
         if step.left == step.right
-            && (self.settled(step.context, step.left)
-                || self.rules.has(Fault::ReflUnsettledTaken))
+            && (self.settled(step.context, step.left) || self.rules.has(Fault::ReflUnsettledTaken))
         {
             return true;
         }
@@ -221,8 +220,8 @@ impl<R: Rules> Checker<'_, R> {
             && first.left == step.left
             && (middle == second.left || self.rules.has(Fault::TransMiddlesDiffer))
             && second.right == step.right;
-        let settled = self.settled(step.context, middle)
-            || self.rules.has(Fault::TransMiddleUnsettled);
+        let settled =
+            self.settled(step.context, middle) || self.rules.has(Fault::TransMiddleUnsettled);
         if self.rules.has(Fault::SideBeforeRule) {
             require(settled, Reason::Side)?;
         }

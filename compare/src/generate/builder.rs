@@ -241,9 +241,8 @@ impl Builder {
     }
 
     fn free_of(&self, shape: &Shape) -> Set {
-        let of_all = |terms: &[u32]| {
-            terms.iter().fold(Set::EMPTY, |set, &term| set.union(self.free(term)))
-        };
+        let of_all =
+            |terms: &[u32]| terms.iter().fold(Set::EMPTY, |set, &term| set.union(self.free(term)));
         match shape {
             Shape::Variable(variable) => Set::of(*variable),
             Shape::Application(_, arguments) => of_all(arguments),

@@ -336,7 +336,10 @@ impl<'a> Derivation<'a> {
         let (forbidden, allowed): (Vec<u32>, Vec<u32>) =
             self.builder.variables_of(sort).into_iter().partition(|&y| taken.has(y));
         if !forbidden.is_empty() && self.slips(Slip::Name) {
-            return self.builder.rng.pick(&forbidden).copied().unwrap_or(x);
+            // Those that are free in images alone are seldom there: they come first.
+            let in_images: Vec<u32> = forbidden.iter().copied().filter(|&y| !free.has(y)).collect();
+            let some = if in_images.is_empty() { &forbidden } else { &in_images };
+            return self.builder.rng.pick(some).copied().unwrap_or(x);
         }
         if allowed.contains(&x) && self.chance(25) {
             return x;

@@ -255,8 +255,7 @@ fn largest_width(fits: impl Fn(&[u8]) -> bool) -> u32 {
 
 /// The longest file before Req 02, and the variables it could have. The benchmark's
 /// expansions keep to both, so that its runs are about the same files.
-pub const OLD_BYTES: usize =
-    MAX_BYTES - 4 * (Section::Variables.limit() - OLD_VARIABLES) as usize;
+pub const OLD_BYTES: usize = MAX_BYTES - 4 * (Section::Variables.limit() - OLD_VARIABLES) as usize;
 
 /// A job whose written file has nearly so many bytes. Where the rule cannot be
 /// larger, terms, links, variables and symbols that it does not need fill up.
@@ -267,8 +266,7 @@ pub fn of_size(bytes: usize) -> Vec<u32> {
     let mut missing = bytes.saturating_sub(file.len());
     for section in [Section::Terms, Section::Links, Section::Variables, Section::Symbols] {
         let record = 4 * section.width();
-        let limit =
-            if section == Section::Variables { OLD_VARIABLES } else { section.limit() };
+        let limit = if section == Section::Variables { OLD_VARIABLES } else { section.limit() };
         let more = (missing / record).min(limit.saturating_sub(after[section]) as usize);
         missing -= more * record;
         let target = b.count(section) + more as u32;

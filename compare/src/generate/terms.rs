@@ -191,8 +191,11 @@ impl Builder {
         let mut closed = term;
         while let Some(variable) = self.free(closed).members().next() {
             let sort = self.variable_sort(variable);
-            let constants: Vec<u32> =
-                self.terms_of(sort).into_iter().filter(|&other| self.free(other).is_empty()).collect();
+            let constants: Vec<u32> = self
+                .terms_of(sort)
+                .into_iter()
+                .filter(|&other| self.free(other).is_empty())
+                .collect();
             let constant = self.rng.pick(&constants).copied();
             closed = match constant {
                 Some(constant) if self.rng.chance(35) || self.sort(closed) != TRUTH => {
