@@ -106,8 +106,12 @@ pub fn subjects() -> Vec<Subject> {
     subjects.push(made("long lists (2,048 links)", large::full_lists(rng())));
     subjects.push(made("shared long lists", large::long_lists(rng(), 600, 1024)));
     subjects.push(made("many quantifiers", large::many_quantifiers(rng(), 32, 1024)));
+    subjects.push(made(WIDE, large::wide_quantifiers(rng(), 128)));
     subjects
 }
+
+/// The name of the file whose variables, all there may be, are bound and renamed.
+pub const WIDE: &str = "256 variables";
 
 /// The name of the file that is full.
 pub const FULL: &str = "full file";
@@ -337,6 +341,9 @@ impl Times {
 mod tests {
     use super::*;
     use crate::check::check;
+    use crate::generate::derive::BIND;
+    use crate::naive::{self, Step, Tree};
+    use std::collections::BTreeSet;
 
     /// Sizes and acceptance, not times.
     #[test]
@@ -362,6 +369,25 @@ mod tests {
             }
         }
     }
+
+    /// At least 200 quantifiers are renamed, and all variables bound.
+    #[test]
+    fn all_variables_are_renamed() {
+        let subjects = subjects();
+        let wide = subjects.iter().find(|subject| subject.name == WIDE).expect("it is there");
+        let plain = naive::load(&wide.file, MAX_SETS).expect("it is accepted");
+        let quantified = |term: u32| match plain.tree(term) {
+            Tree::ForAll(variable, _) | Tree::Exists(variable, _) => Some(*variable),
+            _ => None,
+        };
+        let renames =
+            |step: &&Step| step.rule == BIND && quantified(step.left) != quantified(step.right);
+        assert_eq!(plain.variables.len(), 256);
+        assert_eq!(plain.steps.iter().filter(renames).count(), 256);
+        let terms = 1..=plain.terms.len() as u32;
+        assert_eq!(terms.filter_map(quantified).collect::<BTreeSet<u32>>().len(), 256);
+    }
+
     /// Sizes of the texts, and a row for each; its times say nothing here.
     #[test]
     fn texts_are_what_they_say() {

@@ -35,12 +35,14 @@ pub enum Slip {
 
 /// Wrong choices to be tried by themselves, and together where the order of
 /// refusals in a step decides.
-pub const SLIPS: [&[Slip]; 13] = [
+pub const SLIPS: [&[Slip]; 15] = [
     &[Slip::Refl],
     &[Slip::Image],
     &[Slip::Middle],
     &[Slip::Trans],
     &[Slip::Cong],
+    &[Slip::Name],
+    &[Slip::Name],
     &[Slip::Name],
     &[Slip::Bind],
     &[Slip::Let],

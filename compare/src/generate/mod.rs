@@ -151,7 +151,7 @@ fn attempt(mut rng: Rng, care: Care) -> (Vec<u32>, bool) {
 }
 
 fn large(mut rng: Rng) -> Vec<u32> {
-    match rng.below(5) {
+    match rng.below(6) {
         0 => {
             let (depth, steps) = (rng.between(20, 256), rng.between(8, 120));
             large::deep_contexts(rng, depth, steps)
@@ -163,6 +163,10 @@ fn large(mut rng: Rng) -> Vec<u32> {
         2 => {
             let (depth, steps) = (rng.between(4, 32) as usize, rng.between(60, 600));
             large::many_quantifiers(rng, depth, steps)
+        }
+        3 => {
+            let half = rng.between(1, 64) as usize;
+            large::wide_quantifiers(rng, 2 * half)
         }
         _ => {
             let care = rng.one_of([Care::Full, Care::Wanting(1), Care::Wanting(2)]);

@@ -47,6 +47,7 @@ fn large_derivations_are_accepted_and_hold() {
             large::deep_contexts(rng(), 256, 300),
             large::long_lists(rng(), 600, 60),
             large::many_quantifiers(rng(), 32, 600),
+            large::wide_quantifiers(rng(), 128),
             large::random(rng(), Care::Full),
         ] {
             assert!(naive::load(&to_bytes(&words), MAX_SETS).is_ok());
