@@ -301,6 +301,7 @@ fn in_turn<P: Copy>(
     rust: P,
     budget: Duration,
 ) -> (Times, Times) {
+    keep_pages();
     let (mut proved_times, mut rust_times) = (Times::default(), Times::default());
     while rust_times.total < budget || proved.is_some() && proved_times.total < budget {
         rust_times.add(once(rust));
@@ -309,6 +310,13 @@ fn in_turn<P: Copy>(
         }
     }
     (proved_times, rust_times)
+}
+
+/// Once a large block was freed, the system's allocator keeps its pages from call to call.
+/// Before that, whether it gives them back each time, which doubles the time of a long file,
+/// is a matter of what happens to lie at the end of the heap.
+fn keep_pages() {
+    drop(black_box(vec![0u8; 8 << 20]));
 }
 
 fn clear(out: &mut [u8], words: &mut [u32], sets: &mut [u64]) {

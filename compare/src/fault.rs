@@ -1,5 +1,5 @@
-//! Single faults that can be built into the checker or the writer, to test that
-//! the comparison would notice them. The exact rules are a type of their own whose
+//! Single faults that can be built into the checker, the writer or the reader, to test
+//! that the comparison would notice them. The exact rules are a type of their own whose
 //! answer is always "no fault", so they hold none of this code.
 
 /// The limit of variables before Req 02; some faults keep to it.

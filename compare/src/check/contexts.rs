@@ -34,7 +34,7 @@ pub struct Contexts {
     /// Index 0 is the empty context.
     contexts: Vec<Context>,
     /// A row for each context, a place for each variable: the image's term, or
-    /// 0 where no entry replaces the variable.
+    /// 0 where no entry replaces the variable. 16 bits hold any term's number.
     images: Vec<u16>,
     /// Places in a row.
     width: usize,

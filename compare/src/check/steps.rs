@@ -131,7 +131,7 @@ impl<R: Rules> Checker<'_, R> {
     }
 
     fn is_free(&self, variable: u32, term: u32) -> bool {
-        self.free(term).has(member(self.rules, variable))
+        self.tables.terms.is_free(self.rules, variable, term)
     }
 
     fn settled(&self, context: u32, term: u32) -> bool {

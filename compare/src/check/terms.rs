@@ -137,6 +137,15 @@ impl Terms {
         }
         *self.sets.get(self.get(number).free)
     }
+
+    /// Whether a variable is free in a term; one word of its set is looked at.
+    pub fn is_free<R: Rules>(&self, rules: R, variable: u32, number: u32) -> bool {
+        let variable = member(rules, variable);
+        if rules.has(Fault::SetsReadClose) {
+            return self.free(rules, number).has(variable);
+        }
+        self.sets.get(self.get(number).free).has(variable)
+    }
 }
 
 /// What is known of the list of terms that starts at a link.

@@ -11,7 +11,7 @@ pub mod printing;
 mod terms;
 pub mod texts;
 
-use crate::bundle::to_bytes;
+use crate::bundle::{Section, to_bytes};
 use crate::damage::{Draft, random_bytes, random_words};
 use crate::rng::Rng;
 use builder::{Builder, ITEM, TRUTH};
@@ -165,8 +165,8 @@ fn large(mut rng: Rng) -> Vec<u32> {
             large::many_quantifiers(rng, depth, steps)
         }
         3 => {
-            let half = rng.between(1, 64) as usize;
-            large::wide_quantifiers(rng, 2 * half)
+            let pairs = rng.between(1, Section::Variables.limit() / 4) as usize;
+            large::wide_quantifiers(rng, 2 * pairs)
         }
         _ => {
             let care = rng.one_of([Care::Full, Care::Wanting(1), Care::Wanting(2)]);
