@@ -366,6 +366,8 @@ mod tests {
         for (size, kb) in sizes.into_iter().zip([1, 8, 32, 57]) {
             assert!((1000 * kb..1100 * kb).contains(&size), "{size} bytes for {kb} KB");
         }
+        // The same files as before Req 02.
+        assert_eq!((OLD_BYTES, subjects[3].file.len()), (58_148, 58_056));
         let counts = |place: usize| counts_of(&subjects[place].file).unwrap_or_default();
         assert_eq!(subjects[4].file.len(), MAX_BYTES);
         assert_eq!(counts(5)[Section::Contexts], 256);
