@@ -1,12 +1,15 @@
 //! The benchmark: the proved check and the Rust checker on the same files, in
 //! turn, with the time to copy the file as the floor.
 
-use crate::bundle::{MAX_BYTES, MAX_WORDS, Section, counts_of, to_bytes, to_words};
+use crate::bundle::{
+    MAX_BYTES, MAX_SETS, MAX_WORDS, Section, area_words, counts_of, to_bytes, to_words,
+};
 use crate::compare::Checker;
 use crate::compare_reader::Reader;
 use crate::compare_writer::Writer;
-use crate::expand::{SETS, written};
-use crate::generate::{jobs, large, texts};
+use crate::expand::written;
+use crate::generate::jobs::{self, OLD_BYTES};
+use crate::generate::{large, texts};
 use crate::read;
 use crate::rng::Rng;
 use std::hint::black_box;
@@ -87,7 +90,7 @@ pub const SIZES: [(&str, usize); 4] = [
     ("expansion, 1 KB", 1024),
     ("expansion, 8 KB", 8 * 1024),
     ("expansion, 32 KB", 32 * 1024),
-    ("expansion, 58 KB", MAX_BYTES),
+    ("expansion, 58 KB", OLD_BYTES),
 ];
 
 /// The files of the table.
@@ -103,15 +106,19 @@ pub fn subjects() -> Vec<Subject> {
     subjects.push(made("long lists (2,048 links)", large::full_lists(rng())));
     subjects.push(made("shared long lists", large::long_lists(rng(), 600, 1024)));
     subjects.push(made("many quantifiers", large::many_quantifiers(rng(), 32, 1024)));
+    subjects.push(made(WIDE, large::wide_quantifiers(rng(), 128)));
     subjects
 }
+
+/// The name of the file whose variables, all there may be, are bound and renamed.
+pub const WIDE: &str = "256 variables";
 
 /// The name of the file that is full.
 pub const FULL: &str = "full file";
 
 /// The largest expansion, filled up: every section has as many records as it may.
 fn full() -> Vec<u8> {
-    let file = expansion(jobs::of_size(MAX_BYTES));
+    let file = expansion(jobs::of_size(OLD_BYTES));
     let counts = counts_of(&file).unwrap_or_default();
     let words = to_words(&file);
     let mut filled = words[..counts.start(Section::Symbols)].to_vec();
@@ -160,8 +167,7 @@ pub fn time_check(
     budget: Duration,
 ) -> Row {
     let file = subject.file.as_slice();
-    let terms = counts_of(file).map_or(0, |counts| counts[Section::Terms]) as usize;
-    let mut area = vec![0u64; terms];
+    let mut area = vec![0u64; area_words(subject.terms)];
     let mut copy = vec![0u8; file.len()];
     let once = |check: Checker| {
         area.fill(0);
@@ -203,7 +209,8 @@ pub fn time_writer(
 ) -> Row {
     let job = to_bytes(&jobs::of_size(bytes));
     let file = written(&job).expect("the job was made to fit");
-    let (mut out, mut words, mut sets) = (vec![0; MAX_BYTES], vec![0; MAX_WORDS], vec![0; SETS]);
+    let (mut out, mut words, mut sets) =
+        (vec![0; MAX_BYTES], vec![0; MAX_WORDS], vec![0; MAX_SETS]);
     let once = |write: Writer| {
         clear(&mut out, &mut words, &mut sets);
         let begun = Instant::now();
@@ -252,7 +259,8 @@ pub fn texts() -> Vec<Typed> {
 /// Times the readers on a text. The floor is the time to clear the areas.
 pub fn time_reader(typed: &Typed, proved: Option<Reader>, rust: Reader, budget: Duration) -> Row {
     let Typed { name, declarations, text, job } = typed;
-    let (mut out, mut words, mut sets) = (vec![0; MAX_BYTES], vec![0; MAX_WORDS], vec![0; SETS]);
+    let (mut out, mut words, mut sets) =
+        (vec![0; MAX_BYTES], vec![0; MAX_WORDS], vec![0; MAX_SETS]);
     let once = |read: Reader| {
         clear(&mut out, &mut words, &mut sets);
         let begun = Instant::now();
@@ -293,6 +301,7 @@ fn in_turn<P: Copy>(
     rust: P,
     budget: Duration,
 ) -> (Times, Times) {
+    keep_pages();
     let (mut proved_times, mut rust_times) = (Times::default(), Times::default());
     while rust_times.total < budget || proved.is_some() && proved_times.total < budget {
         rust_times.add(once(rust));
@@ -301,6 +310,13 @@ fn in_turn<P: Copy>(
         }
     }
     (proved_times, rust_times)
+}
+
+/// Once a large block was freed, the system's allocator keeps its pages from call to call.
+/// Before that, whether it gives them back each time, which doubles the time of a long file,
+/// is a matter of what happens to lie at the end of the heap.
+fn keep_pages() {
+    drop(black_box(vec![0u8; 8 << 20]));
 }
 
 fn clear(out: &mut [u8], words: &mut [u32], sets: &mut [u64]) {
@@ -333,6 +349,9 @@ impl Times {
 mod tests {
     use super::*;
     use crate::check::check;
+    use crate::generate::derive::BIND;
+    use crate::naive::{self, Step, Tree};
+    use std::collections::BTreeSet;
 
     /// Sizes and acceptance, not times.
     #[test]
@@ -340,13 +359,15 @@ mod tests {
         let subjects = subjects();
         let (terms, steps) = (doubling(Share::Term), doubling(Share::Step));
         for subject in subjects.iter().chain(&terms).chain(&steps) {
-            let mut area = vec![0; 1024];
+            let mut area = vec![0; area_words(subject.terms)];
             assert!(check(&subject.file, &mut area).is_ok(), "{}", subject.name);
         }
         let sizes: Vec<usize> = subjects[..4].iter().map(|subject| subject.file.len()).collect();
         for (size, kb) in sizes.into_iter().zip([1, 8, 32, 57]) {
             assert!((1000 * kb..1100 * kb).contains(&size), "{size} bytes for {kb} KB");
         }
+        // The same files as before Req 02.
+        assert_eq!((OLD_BYTES, subjects[3].file.len()), (58_148, 58_056));
         let counts = |place: usize| counts_of(&subjects[place].file).unwrap_or_default();
         assert_eq!(subjects[4].file.len(), MAX_BYTES);
         assert_eq!(counts(5)[Section::Contexts], 256);
@@ -358,6 +379,25 @@ mod tests {
             }
         }
     }
+
+    /// At least 200 quantifiers are renamed, and all variables bound.
+    #[test]
+    fn all_variables_are_renamed() {
+        let subjects = subjects();
+        let wide = subjects.iter().find(|subject| subject.name == WIDE).expect("it is there");
+        let plain = naive::load(&wide.file, MAX_SETS).expect("it is accepted");
+        let quantified = |term: u32| match plain.tree(term) {
+            Tree::ForAll(variable, _) | Tree::Exists(variable, _) => Some(*variable),
+            _ => None,
+        };
+        let renames =
+            |step: &&Step| step.rule == BIND && quantified(step.left) != quantified(step.right);
+        assert_eq!(plain.variables.len(), 256);
+        assert_eq!(plain.steps.iter().filter(renames).count(), 256);
+        let terms = 1..=plain.terms.len() as u32;
+        assert_eq!(terms.filter_map(quantified).collect::<BTreeSet<u32>>().len(), 256);
+    }
+
     /// Sizes of the texts, and a row for each; its times say nothing here.
     #[test]
     fn texts_are_what_they_say() {

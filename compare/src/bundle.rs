@@ -27,7 +27,7 @@ impl Section {
     pub const fn limit(self) -> u32 {
         match self {
             Section::Symbols => 64,
-            Section::Variables => 64,
+            Section::Variables => 256,
             Section::Terms => 1024,
             Section::Links => 2048,
             Section::Contexts => 256,
@@ -54,8 +54,27 @@ pub const HEADER_BYTES: usize = 4 * HEADER_WORDS;
 pub const LEFT: usize = 7;
 pub const RIGHT: usize = 8;
 
-pub const MAX_WORDS: usize = 14_537;
+/// The longest file has every section at its limit.
+pub const MAX_WORDS: usize = {
+    let mut words = HEADER_WORDS;
+    let mut section = 0;
+    while section < Section::ALL.len() {
+        words += Section::ALL[section].limit() as usize * Section::ALL[section].width();
+        section += 1;
+    }
+    words
+};
 pub const MAX_BYTES: usize = 4 * MAX_WORDS;
+
+/// Words of 64 bits in a set of variables.
+pub const SET_WORDS: usize = Section::Variables.limit().div_ceil(u64::BITS) as usize;
+/// Words of 64 bits for a set of each term, in the longest file.
+pub const MAX_SETS: usize = area_words(Section::Terms.limit());
+
+/// Words of 64 bits that the checker is lent at least: a set for each of so many terms.
+pub const fn area_words(terms: u32) -> usize {
+    SET_WORDS * terms as usize
+}
 
 /// Symbols above this number are declared by the file.
 pub const BUILT_IN: u32 = 32;
@@ -150,7 +169,8 @@ mod tests {
             full[section] = section.limit();
         }
         assert_eq!(full.words(), MAX_WORDS as u64);
-        assert_eq!(full.bytes(), 58_148);
+        assert_eq!((MAX_WORDS, full.bytes()), (14_729, 58_916));
+        assert_eq!((SET_WORDS, MAX_SETS), (4, 4_096));
         assert_eq!(full.place(Section::Steps, 1024, 4), MAX_WORDS - 1);
         assert!(full.within_limits());
         full[Section::Contexts] += 1;

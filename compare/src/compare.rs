@@ -4,7 +4,7 @@
 //! check too. What is accepted has to hold in finite worlds.
 
 use crate::answer::{Packed, Reason, line};
-use crate::bundle::{Section, counts_of};
+use crate::bundle::{MAX_SETS, Section, area_words, counts_of};
 use crate::check::check;
 use crate::eval::{claim_holds, steps_hold};
 use crate::generate::{Case, Family, case};
@@ -19,12 +19,12 @@ use std::{fmt, io};
 /// number * 2^32 + record; the area is written.
 pub type Checker<'a> = &'a dyn Fn(&[u8], &mut [u64]) -> u64;
 
-/// The lengths to try: T, T - 1, T + 5 and 0, for the T of the header (a T over
-/// its limit is refused before any area is looked at).
+/// The lengths to try: 4 T, 4 T - 1, 4 T + 5 and 0, for the T of the header (a T
+/// over its limit is refused before any area is looked at).
 pub fn areas(file: &[u8]) -> [usize; 4] {
     let terms = counts_of(file).map_or(0, |counts| counts[Section::Terms]);
-    let terms = terms.min(Section::Terms.limit() + 1) as usize;
-    [terms, terms.saturating_sub(1), terms + 5, 0]
+    let enough = area_words(terms.min(Section::Terms.limit() + 1));
+    [enough, enough.saturating_sub(1), enough + 5, 0]
 }
 
 /// The answer, and the area after the call; it held junk before.
@@ -142,7 +142,7 @@ impl Report {
             return Some(format!("accepted, but {text}"));
         }
         let program = checkers.program.filter(|_| self.tally.program.takes(family, answer))?;
-        let mut free = [0; Section::Terms.limit() as usize];
+        let mut free = [0; MAX_SETS];
         programs::difference(program, file, line(check(file, &mut free)).as_bytes(), b"")
     }
 

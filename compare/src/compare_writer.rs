@@ -3,10 +3,10 @@
 //! plain reading and to the program expand too. What is written has to be accepted.
 
 use crate::answer::{Packed, Reason, Refusal};
-use crate::bundle::{LEFT, MAX_BYTES, MAX_WORDS, RIGHT, Section, counts_of, to_words};
+use crate::bundle::{LEFT, MAX_BYTES, MAX_SETS, MAX_WORDS, RIGHT, Section, counts_of, to_words};
 use crate::compare::{Checker, SMALL, WORLDS};
 use crate::eval::claim_holds;
-use crate::expand::{SETS, written};
+use crate::expand::written;
 use crate::generate::jobs::{Job, JobFamily, job};
 use crate::naive::{Plain, Tree, load};
 use crate::programs::{self, Program};
@@ -35,7 +35,7 @@ pub struct Areas {
 /// Lengths of the three areas: first just long enough, then one other choice by
 /// the job's index.
 pub fn lengths(index: u64) -> [[usize; 3]; 2] {
-    let (out, words, sets) = (MAX_BYTES, MAX_WORDS, SETS);
+    let (out, words, sets) = (MAX_BYTES, MAX_WORDS, MAX_SETS);
     let mut rng = Rng::new(index);
     let mut any = |enough: usize| rng.below(3 * enough as u32) as usize;
     let other = match index % 7 {
@@ -194,7 +194,7 @@ pub(crate) fn difference(
 /// What is wrong with a written file: every checker has to accept it; it has to keep
 /// the job's records and left, have a right side without lets, and hold in worlds.
 pub fn misfit(checkers: &[Checker], job: &[u8], file: &[u8]) -> Option<String> {
-    let mut free = vec![0; Section::Terms.limit() as usize];
+    let mut free = vec![0; MAX_SETS];
     for (place, check) in checkers.iter().enumerate() {
         let answer = check(file, &mut free);
         if answer != 0 {

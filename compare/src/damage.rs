@@ -160,6 +160,15 @@ impl Draft {
         self.set(section, record, field, word);
     }
 
+    /// The next of a link: mostly one that is not allowed, or only just is.
+    pub fn spoil_next(&mut self, rng: &mut Rng) {
+        let Some(link) = self.some_record(rng, Section::Links) else { return };
+        let last = self.counts[Section::Links];
+        let lower = rng.between(1, link);
+        let next = rng.one_of([link, lower, last, last + 1, last + 1, u32::MAX]);
+        self.set(Section::Links, link, 1, next);
+    }
+
     /// The symbol of an application: another one, or one that is not there.
     fn spoil_symbol(&mut self, rng: &mut Rng) {
         let applications: Vec<u32> = (1..=self.counts[Section::Terms])
@@ -287,7 +296,8 @@ impl Draft {
             5 if !values.is_empty() => values.insert(place, values[place]),
             6 if rng.chance(30) => {
                 // Longer than there can be variables.
-                let length = rng.between(60, 130) as usize;
+                let most = Section::Variables.limit();
+                let length = rng.between(most - 4, 2 * most + 2) as usize;
                 values = (1..).take(length).collect();
             }
             _ => rng.shuffle(&mut values),

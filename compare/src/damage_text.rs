@@ -41,8 +41,8 @@ const OTHERS: [&str; 34] = [
     "é",
 ];
 
-/// Names that are not declared, most of them nearly.
-const STRANGE: [&str; 14] = [
+/// Names that are not declared, most of them nearly; v65 and v256 are in some files.
+const STRANGE: [&str; 16] = [
     "v",
     "f",
     "v0",
@@ -52,6 +52,8 @@ const STRANGE: [&str; 14] = [
     "f32",
     "f97",
     "v65",
+    "v256",
+    "v257",
     "v4294967297",
     "f4294967329",
     "v18446744073709551617",
@@ -160,7 +162,7 @@ pub fn spoil_lexemes(rng: &mut Rng, lexemes: &mut Vec<String>) {
             let Some(place) = place_of(rng, lexemes, is_name) else { return };
             let (letter, digits) = lexemes[place].split_at(1);
             let number: u64 = digits.parse().unwrap_or(1);
-            let off = rng.one_of([1, 2, 32, 1 << 32]);
+            let off = rng.one_of([1, 2, 32, 64, 256, 1 << 32]);
             let number = if rng.chance(60) { number + off } else { number.saturating_sub(off) };
             lexemes[place] = format!("{letter}{number}");
         }
@@ -226,7 +228,7 @@ pub fn random_text(rng: &mut Rng) -> Vec<u8> {
             text.push(rng.one_of([b'(', b')', b' ', b';', 10, 13, b'v', b'1', b'=', b'>', any]));
             continue;
         }
-        let name = rng.one_of(["v1", "v2", "f33", "f34", "f35"]);
+        let name = rng.one_of(["v1", "v2", "v65", "f33", "f34", "f35"]);
         let word = match rng.below(4) {
             0 => rng.one_of(OTHERS),
             1 => rng.one_of(["(", "(", ")", "not", "true"]),

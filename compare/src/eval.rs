@@ -169,13 +169,11 @@ impl<'a> Evaluator<'a> {
             Tree::Let(variables, bounds, body) => {
                 let values: Result<Vec<u32>, TooMuch> =
                     bounds.iter().map(|&bound| self.value(bound)).collect();
-                let values = values?;
-                let before = self.values.clone();
-                for (&variable, value) in variables.iter().zip(values) {
-                    self.values[variable as usize - 1] = value;
-                }
+                // Values of the let's variables, exchanged for those outside and back.
+                let mut values = values?;
+                self.exchange(variables, &mut values);
                 let value = self.value(*body);
-                self.values = before;
+                self.exchange(variables, &mut values);
                 value
             }
         }
@@ -200,9 +198,17 @@ impl<'a> Evaluator<'a> {
         value
     }
 
-    fn randomise(&mut self, rng: &mut Rng) {
-        for (value, &sort) in self.values.iter_mut().zip(&self.plain.variables) {
-            *value = rng.below(size(sort, self.world.items));
+    /// Exchanges what these variables, all different, take for other values.
+    fn exchange(&mut self, variables: &[u32], values: &mut [u32]) {
+        for (&variable, value) in variables.iter().zip(values) {
+            std::mem::swap(&mut self.values[variable as usize - 1], value);
+        }
+    }
+
+    /// Random values for these variables.
+    fn randomise(&mut self, variables: impl IntoIterator<Item = u32>, rng: &mut Rng) {
+        for place in variables.into_iter().map(|variable| variable as usize - 1) {
+            self.values[place] = rng.below(size(self.plain.variables[place], self.world.items));
         }
     }
 }
@@ -270,7 +276,7 @@ pub fn claim_holds(plain: &Plain, most: usize, rng: &mut Rng) -> Result<Tested, 
         tested.worlds += 1;
         let mut evaluator = Evaluator::new(plain, world, 40_000);
         for assignment in 0..1u32 << free.len().min(FREE) {
-            evaluator.randomise(rng);
+            evaluator.randomise(free.iter().copied(), rng);
             if world.items <= 2 && free.len() <= FREE {
                 for (place, &variable) in free.iter().enumerate() {
                     let largest = size(plain.variables[variable as usize - 1], world.items) - 1;
@@ -300,7 +306,7 @@ pub fn steps_hold(plain: &Plain, tries: u32, rng: &mut Rng) -> Result<(), String
             let items = rng.between(1, 3);
             let world = World::random(plain, items, rng);
             let mut outside = Evaluator::new(plain, &world, 20_000);
-            outside.randomise(rng);
+            outside.randomise(1..=plain.variables.len() as u32, rng);
             let right = outside.value(step.right);
             let mut inside = Evaluator::new(plain, &world, 20_000);
             inside.values.clone_from(&outside.values);

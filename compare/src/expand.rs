@@ -3,12 +3,9 @@
 //! quantifier.
 
 use crate::answer::{Reason, Refusal};
-use crate::bundle::{Counts, MAX_BYTES, MAX_WORDS, Section, to_bytes};
+use crate::bundle::{Counts, MAX_BYTES, MAX_SETS, MAX_WORDS, SET_WORDS, Section, to_bytes};
 use crate::check::{Lookup, Quantifier, Tables, Term};
-use crate::fault::{Exact, Fault, Rules};
-
-/// Words of 64 bits that the writer is lent.
-pub const SETS: usize = 1024;
+use crate::fault::{Exact, Fault, OLD_VARIABLES, Rules};
 
 const REFL: u32 = 1;
 const CONG: u32 = 2;
@@ -40,9 +37,15 @@ pub(crate) fn expand_with<R: Rules>(
     words: &mut [u32],
     sets: &mut [u64],
 ) -> Result<usize, Refusal> {
-    let suffice = out.len() >= MAX_BYTES - usize::from(rules.has(Fault::OutputOneShort))
-        && words.len() >= MAX_WORDS
-        && sets.len() >= SETS;
+    let new_variables = Section::Variables.limit() - OLD_VARIABLES;
+    let less = |fault, words: u32| if rules.has(fault) { words as usize } else { 0 };
+    let suffice = out.len()
+        >= MAX_BYTES
+            - less(Fault::OutputOneShort, 1)
+            - less(Fault::OutputOfOldLimit, 4 * new_variables)
+        && words.len() >= MAX_WORDS - less(Fault::WordsOfOldLimit, new_variables)
+        && sets.len()
+            >= if rules.has(Fault::SetsOfTerms) { MAX_SETS / SET_WORDS } else { MAX_SETS };
     let file = file_of(rules, job, suffice);
     if !rules.has(Fault::ScratchKept) {
         words.fill(0);
@@ -77,7 +80,11 @@ fn file_of<R: Rules>(rules: R, job: &[u8], areas_suffice: bool) -> Result<Vec<u8
         let full = |Full| Refusal::whole(Reason::Full);
         Writer::new(rules, &tables, lookup.clone()).visit(header.left, 0).map_err(full)?;
     }
-    if tables.terms.get(header.left).free != 0 && !rules.has(Fault::OpenTaken) {
+    let mut free = tables.terms.free(Exact, header.left);
+    if rules.has(Fault::OpenFirstWord) {
+        free = free.intersection((1..=OLD_VARIABLES).collect());
+    }
+    if !free.is_empty() && !rules.has(Fault::OpenTaken) {
         return refused(Reason::Open);
     }
     let mut writer = Writer::new(rules, &tables, lookup);
@@ -128,7 +135,10 @@ impl<'a, R: Rules> Writer<'a, R> {
     fn push(&mut self, section: Section, record: &[u32]) -> Result<u32, Full> {
         let number = self.count(section) + 1;
         let limit = section.limit() - u32::from(self.rules.has(Fault::LimitOneShort));
-        if number > limit {
+        let old = self.rules.has(Fault::RenamedPastOldLimit)
+            && section == Section::Variables
+            && number > OLD_VARIABLES;
+        if number > limit || old {
             return Err(Full);
         }
         self.sections[section as usize].extend_from_slice(record);

@@ -1,6 +1,9 @@
-//! Single faults that can be built into the checker or the writer, to test that
-//! the comparison would notice them. The exact rules are a type of their own whose
+//! Single faults that can be built into the checker, the writer or the reader, to test
+//! that the comparison would notice them. The exact rules are a type of their own whose
 //! answer is always "no fault", so they hold none of this code.
+
+/// The limit of variables before Req 02; some faults keep to it.
+pub const OLD_VARIABLES: u32 = 64;
 
 /// The rules to follow: document 01's, or those with one fault.
 pub trait Rules: Copy {
@@ -53,10 +56,14 @@ faults! {
         AreaKeptOnRefusal: "the area keeps its old words on refusal",
         AreaTailKept: "the area keeps its old words past the last term",
         AreaOneShort: "an area one word too short is taken",
+        AreaOfTerms: "an area of T words is taken",
+        SetsWrittenClose: "the sets in the area start one word apart",
         LongerFileTaken: "bytes after the last record are taken",
         LimitBeforeVersion: "3 comes before 2",
         LengthBeforeLimit: "the exact length comes before 3",
         AreaBeforeLength: "4 comes before the exact length",
+        LimitOfVariablesOff: "257 variables are taken",
+        LimitOfVariablesOld: "65 variables are refused",
         LimitOfTermsOff: "1,025 terms are taken",
         LimitOfLinksOff: "2,049 links are taken",
         LimitOfContextsOff: "257 contexts are taken",
@@ -84,6 +91,8 @@ faults! {
         DuplicatesTaken: "equal terms are taken",
         DuplicatesByStart: "lists of equal terms are compared by start",
         QuantifiersAlike: "for-all and exists count as equal terms",
+        SetsReadClose: "a set's words are read at stride 1",
+        VariablesFolded: "variable 65 is put into word 1, and so on",
         QuantifierBindsNothing: "a quantifier's variable stays free",
         LetBindsItsBounds: "a let's bound terms stand inside its variables",
         // Contexts.
@@ -91,6 +100,7 @@ faults! {
         ParentOfItself: "a context may be its own parent",
         UnsettledReplacementTaken: "11 is left out",
         OnlyFirstReplacementSettled: "11 looks at the first replacing term only",
+        FirstWordSettled: "settled looks at variables 1 to 64 only",
         FixingHidesNothing: "fixing a variable leaves its outer replacement",
         ReplacedInTurn: "variables are replaced one after another",
         OuterReplacementWins: "the entry nearest the empty context wins",
@@ -127,6 +137,7 @@ faults! {
         BindNameInBody: "BIND's printed side looks at the body",
         BindAllImagesRead: "BIND's side looks at the images of all variables",
         BindNameUnread: "BIND's printed side is left out",
+        BindImagesFirstWord: "BIND's side about images looks at variables 1 to 64 only",
         BindImagesUnread: "BIND's side about images is left out",
         LetVariablesByStart: "LET compares the variables by list start",
         LetOrderIgnored: "LET compares variables and terms as sets",
@@ -144,12 +155,17 @@ faults! {
     }
     WRITER: {
         OutputOneShort: "an output one byte too short is taken",
+        OutputOfOldLimit: "an output for 64 variables is taken",
+        WordsOfOldLimit: "words for 64 variables are taken",
+        SetsOfTerms: "sets of one word a term are taken",
+        RenamedPastOldLimit: "a 65th variable is full",
         ScratchKept: "the scratch areas keep their old words",
         OutputTailKept: "the output keeps its old bytes after the file",
         RightUnread: "a right word that is not 0 is taken",
         ClaimBeforeBare: "15 comes before 18",
         FullBeforeOpen: "16 comes before 17",
         OpenTaken: "an open rule is taken",
+        OpenFirstWord: "open looks at variables 1 to 64 only",
         LimitOneShort: "a section at its limit is full",
         OnlyOldTermsLookedUp: "terms written before are not looked up",
         ListOfFoundTerm: "the arguments of a term that is there are written again",
@@ -164,6 +180,9 @@ faults! {
     READER: {
         // Areas and declarations.
         ReadSetsOneShort: "sets one word too short are taken",
+        ReadSetsOfTerms: "sets of one word a term are taken",
+        NamesOfOldLimit: "v65 and above are unknown",
+        RepeatsFolded: "a let's repeats are told by one word of 64 bits",
         ReadScratchKept: "the scratch areas keep their old words",
         ReadTailKept: "the output keeps its old bytes after the job",
         ReadOutputKept: "the output keeps its old bytes on refusal",

@@ -24,6 +24,7 @@ pub mod programs;
 pub mod read;
 pub mod report;
 pub mod rng;
+pub mod set;
 pub mod smt;
 pub mod tally;
 pub mod vectors;

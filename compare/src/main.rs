@@ -4,6 +4,7 @@ mod arguments;
 
 use arguments::Arguments;
 use nezkaldo_compare::bench::Share;
+use nezkaldo_compare::bundle::MAX_SETS;
 use nezkaldo_compare::compare::Checkers;
 use nezkaldo_compare::compare_reader::Readers;
 use nezkaldo_compare::compare_writer::Writers;
@@ -331,7 +332,7 @@ fn run_check(arguments: &Arguments) -> Result<ExitCode, String> {
                 .map_err(|error| format!("cannot read standard input: {error}"))?;
         }
     }
-    let mut free = vec![0; 1024];
+    let mut free = vec![0; MAX_SETS];
     print!("{}", answer::line(check::check(&file, &mut free)));
     Ok(ExitCode::SUCCESS)
 }
@@ -339,7 +340,8 @@ fn run_check(arguments: &Arguments) -> Result<ExitCode, String> {
 fn run_smt(arguments: &Arguments) -> Result<ExitCode, String> {
     arguments.allow(&[], 1)?;
     let path = arguments.plain().first().ok_or("smt needs a file")?;
-    let plain = naive::load(&read(path)?, 1024).map_err(|refusal| format!("{path}: {refusal}"))?;
+    let plain =
+        naive::load(&read(path)?, MAX_SETS).map_err(|refusal| format!("{path}: {refusal}"))?;
     let query = smt::query(&plain)
         .ok_or(format!("{path}: a side of the claim is too long to write out"))?;
     print!("{query}");

@@ -3,7 +3,7 @@
 //! by trying every pair. Slow; it is there to try the checker on the files.
 
 use crate::answer::{Claim, Reason, Refusal};
-use crate::bundle::{Counts, HEADER_BYTES, Section, counts_of, to_words};
+use crate::bundle::{Counts, HEADER_BYTES, SET_WORDS, Section, counts_of, to_words};
 use std::collections::BTreeSet;
 
 /// A term by value: lists spelled out.
@@ -53,14 +53,16 @@ pub fn check(file: &[u8], free: &mut [u64]) -> Result<Claim, Refusal> {
     free.fill(0);
     let plain = load(file, free.len())?;
     for (place, set) in plain.free.iter().enumerate() {
-        free[place] = set.iter().map(|variable| 1u64 << (variable - 1)).sum();
+        for variable in set.iter().map(|variable| *variable as usize - 1) {
+            free[SET_WORDS * place + variable / 64] += 1 << (variable % 64);
+        }
     }
     Ok(Claim { left: plain.left, right: plain.right })
 }
 
 /// An accepted file spelled out, or the refusal.
 pub fn load(file: &[u8], area: usize) -> Result<Plain, Refusal> {
-    let mut plain = tables(file, |counts| area >= counts[Section::Terms] as usize)?;
+    let mut plain = tables(file, |counts| area >= SET_WORDS * counts[Section::Terms] as usize)?;
     plain.each(file, Section::Contexts, Plain::context)?;
     plain.each(file, Section::Steps, Plain::step)?;
     match plain.steps.last() {

@@ -3,7 +3,9 @@
 //! laid out at the end.
 
 use crate::answer::{Reason, Refusal};
-use crate::bundle::{Counts, Section, counts_of, to_bytes, to_words};
+use crate::bundle::{
+    Counts, MAX_BYTES, MAX_SETS, MAX_WORDS, Section, counts_of, to_bytes, to_words,
+};
 use crate::naive::{Plain, Tree, tables};
 
 /// Same answers and same areas as [`crate::expand::expand`].
@@ -13,7 +15,7 @@ pub fn expand(
     words: &mut [u32],
     sets: &mut [u64],
 ) -> Result<usize, Refusal> {
-    let areas = out.len() >= 58_148 && words.len() >= 14_537 && sets.len() >= 1_024;
+    let areas = out.len() >= MAX_BYTES && words.len() >= MAX_WORDS && sets.len() >= MAX_SETS;
     out.fill(0);
     words.fill(0);
     sets.fill(0);
@@ -93,12 +95,13 @@ impl Writer<'_> {
 
     /// `None` where a section has passed its limit.
     fn fits(&self) -> Option<()> {
-        let fits = self.variables.len() <= 64
-            && self.terms.len() <= 1024
-            && self.links.len() <= 2048
-            && self.contexts.len() <= 256
-            && self.steps.len() <= 1024;
-        fits.then_some(())
+        let fits = |count: usize, section: Section| count <= section.limit() as usize;
+        let all = fits(self.variables.len(), Section::Variables)
+            && fits(self.terms.len(), Section::Terms)
+            && fits(self.links.len(), Section::Links)
+            && fits(self.contexts.len(), Section::Contexts)
+            && fits(self.steps.len(), Section::Steps);
+        all.then_some(())
     }
 
     fn list(&mut self, values: &[u32]) -> u32 {

@@ -4,7 +4,7 @@
 //! Slow, and it calls itself as deep as the text is nested: for short texts.
 
 use crate::answer::{Reason, Refusal};
-use crate::bundle::{Section, counts_of, to_bytes, to_words};
+use crate::bundle::{MAX_BYTES, MAX_SETS, MAX_WORDS, Section, counts_of, to_bytes, to_words};
 use crate::naive::{Plain, Tree, declarations};
 
 /// A line is a rule. What stands left of a colon is a nonterminal; the three names are
@@ -48,7 +48,7 @@ pub fn read(
     words: &mut [u32],
     sets: &mut [u64],
 ) -> Result<usize, Refusal> {
-    let areas = out.len() >= 58_148 && words.len() >= 14_537 && sets.len() >= 1_024;
+    let areas = out.len() >= MAX_BYTES && words.len() >= MAX_WORDS && sets.len() >= MAX_SETS;
     out.fill(0);
     words.fill(0);
     sets.fill(0);
@@ -92,7 +92,9 @@ fn job_of(declared: &[u8], text: &[u8], areas: bool) -> Result<Vec<u8>, Refusal>
         links: links.chunks(2).map(|link| [link[0], link[1]]).collect(),
     };
     let left = job.add(&node);
-    if job.terms.len() > 1_024 || job.links.len() > 2_048 {
+    if job.terms.len() > Section::Terms.limit() as usize
+        || job.links.len() > Section::Links.limit() as usize
+    {
         return whole(Reason::Full);
     }
     let mut file = vec![1];

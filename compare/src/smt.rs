@@ -106,13 +106,13 @@ fn write_binder(
 #[cfg(test)]
 mod tests {
     use super::*;
-    use crate::bundle::to_bytes;
+    use crate::bundle::{MAX_SETS, to_bytes};
     use crate::generate::examples::LET_EXPANSION;
     use crate::naive::load;
 
     #[test]
     fn the_printed_file() {
-        let plain = load(&to_bytes(LET_EXPANSION), 5).expect("it is accepted");
+        let plain = load(&to_bytes(LET_EXPANSION), MAX_SETS).expect("it is accepted");
         let query = query(&plain).expect("it is short");
         assert!(query.contains("(declare-fun f34 (Item Item) Bool)\n"), "{query}");
         assert!(query.contains("(let ((v1 f33)) (f34 v1 v1))\n  (f34 f33 f33)"), "{query}");

@@ -1,10 +1,11 @@
 //! Contexts (refusals 10 and 11) and the images of variables in them.
 
 use super::terms::{Term, pairs_fit};
-use super::{Tables, bit, first_refusal};
+use super::{Tables, first_refusal, member};
 use crate::answer::{Reason, Refusal};
 use crate::bundle::Section;
 use crate::fault::{Fault, Rules};
+use crate::set::Set;
 
 #[derive(Clone, Copy, Debug, PartialEq, Eq)]
 pub enum Entry {
@@ -23,16 +24,18 @@ pub struct Context {
     pub entry: Entry,
     pub parent: u32,
     /// The variables whose image is another term.
-    moved: u64,
+    moved: Set,
 }
+
+const EMPTY: Context = Context { entry: Entry::Empty, parent: 0, moved: Set::EMPTY };
 
 #[derive(Debug)]
 pub struct Contexts {
     /// Index 0 is the empty context.
     contexts: Vec<Context>,
     /// A row for each context, a place for each variable: the image's term, or
-    /// 0 where no entry replaces the variable.
-    images: Vec<u32>,
+    /// 0 where no entry replaces the variable. 16 bits hold any term's number.
+    images: Vec<u16>,
     /// Places in a row.
     width: usize,
 }
@@ -42,15 +45,21 @@ impl Contexts {
         let records = tables.section(Section::Contexts).as_chunks::<4>().0;
         let width = tables.signature.variable_count() as usize;
         let mut contexts = Contexts {
-            contexts: vec![Context { entry: Entry::Empty, parent: 0, moved: 0 }; records.len() + 1],
-            images: vec![0; (records.len() + 1) * width],
+            contexts: Vec::with_capacity(records.len() + 1),
+            images: Vec::with_capacity((records.len() + 1) * width),
             width,
         };
+        contexts.contexts.push(EMPTY);
+        contexts.images.resize(width, 0);
         first_refusal(rules, records.iter(), |number, &[kind, first, second, parent]| {
             let own = if rules.has(Fault::ParentOfItself) { number } else { number - 1 };
             let entry = entry(rules, tables, [kind, first, second]).filter(|_| parent <= own);
-            let entry = entry.ok_or(Reason::Context)?;
-            let replaced = contexts.add(rules, tables, number, entry, parent);
+            let Some(entry) = entry else {
+                // Only a fault reads on from here.
+                contexts.add(rules, tables, Entry::Empty, 0);
+                return Err(Reason::Context);
+            };
+            let replaced = contexts.add(rules, tables, entry, parent);
             let exempt = rules.has(Fault::UnsettledReplacementTaken)
                 || rules.has(Fault::OnlyFirstReplacementSettled) && replaced > 1;
             if replaced != 0 && !exempt { Err(Reason::Unsettled) } else { Ok(()) }
@@ -68,8 +77,8 @@ impl Contexts {
 
     /// The term that a variable is replaced by, if an entry replaces it.
     pub fn image(&self, context: u32, variable: u32) -> Option<u32> {
-        let place = context as usize * self.width + variable as usize - 1;
-        Some(self.images[place]).filter(|&term| term != 0)
+        let term = self.images[context as usize * self.width + variable as usize - 1];
+        (term != 0).then_some(term.into())
     }
 
     /// Whether two contexts have equal entries down to the empty one. Only a fault
@@ -89,29 +98,24 @@ impl Contexts {
                 || one != 0 && other != 0 && self.equal(tables, first.parent, second.parent))
     }
 
-    pub fn moved(&self, context: u32) -> u64 {
+    pub fn moved(&self, context: u32) -> Set {
         self.contexts[context as usize].moved
     }
 
     /// Whether none of these variables is moved.
-    pub fn settled(&self, context: u32, free: u64) -> bool {
-        free & self.moved(context) == 0
+    pub fn settled<R: Rules>(&self, rules: R, context: u32, free: Set) -> bool {
+        disjoint(rules, free, self.moved(context))
     }
 
     /// Adds an entry above its parent. Answers the place of the first replacing
     /// term that is not settled in the parent, 0 where all are.
-    fn add<R: Rules>(
-        &mut self,
-        rules: R,
-        tables: &Tables,
-        number: u32,
-        entry: Entry,
-        parent: u32,
-    ) -> usize {
-        let (from, to) = (parent as usize * self.width, number as usize * self.width);
-        self.images.copy_within(from..from + self.width, to);
-        let row = &mut self.images[to..to + self.width];
-        let parent_moved = self.contexts[parent as usize].moved;
+    fn add<R: Rules>(&mut self, rules: R, tables: &Tables, entry: Entry, parent: u32) -> usize {
+        let number = self.contexts.len();
+        // Only a fault lets a context be its own parent: it then has the empty one.
+        let above = if (parent as usize) < number { parent as usize } else { 0 };
+        let parent_moved = self.contexts[above].moved;
+        self.images.extend_from_within(above * self.width..(above + 1) * self.width);
+        let row = &mut self.images[number * self.width..];
         let mut moved = parent_moved;
         let mut unsettled = 0;
         match entry {
@@ -119,7 +123,7 @@ impl Contexts {
             Entry::Fixes(_) if rules.has(Fault::FixingHidesNothing) => {}
             Entry::Fixes(variable) => {
                 row[variable as usize - 1] = 0;
-                moved &= !bit(variable);
+                moved.remove(member(rules, variable));
             }
             Entry::Replaces { variables, terms } => {
                 let pairs = || tables.lists.values(variables).zip(tables.lists.values(terms));
@@ -130,25 +134,35 @@ impl Contexts {
                         term
                     };
                     let known = tables.terms.get(term);
-                    if rules.has(Fault::OuterReplacementWins) && row[variable as usize - 1] != 0 {
+                    let image = &mut row[variable as usize - 1];
+                    if rules.has(Fault::OuterReplacementWins) && *image != 0 {
                         continue;
                     }
-                    row[variable as usize - 1] = term;
+                    *image = term as u16;
                     let own = known.term == Term::Variable(variable);
                     if own && !rules.has(Fault::OwnTermMoves) {
-                        moved &= !bit(variable);
+                        moved.remove(member(rules, variable));
                     } else {
-                        moved |= bit(variable);
+                        moved.insert(member(rules, variable));
                     }
-                    if known.free & parent_moved != 0 && unsettled == 0 {
+                    let free = tables.terms.free(rules, term);
+                    if unsettled == 0 && !disjoint(rules, free, parent_moved) {
                         unsettled = place;
                     }
                 }
             }
         }
-        self.contexts[number as usize] = Context { entry, parent, moved };
+        self.contexts.push(Context { entry, parent, moved });
         unsettled
     }
+}
+
+/// Whether no variable is in both; a fault looks at the first words alone.
+fn disjoint<R: Rules>(rules: R, one: Set, other: Set) -> bool {
+    if rules.has(Fault::FirstWordSettled) {
+        return one.words()[0] & other.words()[0] == 0;
+    }
+    one.disjoint(other)
 }
 
 /// A fault's reading: a replacement goes on with the pairs after it.

@@ -2,7 +2,7 @@
 
 use crate::answer::{Reason, Refusal};
 use crate::bundle::{Counts, Section, header_of};
-use crate::fault::{Fault, Rules};
+use crate::fault::{Fault, OLD_VARIABLES, Rules};
 
 #[derive(Clone, Copy, Debug)]
 pub struct Header {
@@ -59,9 +59,14 @@ fn within_limits<R: Rules>(rules: R, mut counts: Counts) -> bool {
         Some(Section::Links)
     } else if rules.has(Fault::LimitOfContextsOff) {
         Some(Section::Contexts)
+    } else if rules.has(Fault::LimitOfVariablesOff) {
+        Some(Section::Variables)
     } else {
         None
     };
+    if rules.has(Fault::LimitOfVariablesOld) && counts[Section::Variables] > OLD_VARIABLES {
+        return false;
+    }
     if let Some(section) = off_by_one {
         counts[section] = counts[section].saturating_sub(1);
     }

@@ -5,7 +5,7 @@
 //! other lists equal it) is computed once for each link, from the end of the
 //! chain, and what a list of terms or premises was found to be is remembered at
 //! its links. So the time is linear in the file, also where lists are shared,
-//! but for a factor of at most 64 in contexts and lets (a variable each).
+//! but for a factor of at most 256 in lets and contexts (a variable each).
 
 mod contexts;
 mod header;
@@ -21,15 +21,15 @@ pub use signature::{Arguments, Profile, Signature, Sort};
 pub use terms::{Quantifier, Term, Terms};
 
 use crate::answer::{Claim, Reason, Refusal};
-use crate::bundle::{Counts, Section, to_words};
-use crate::fault::{Exact, Fault, Rules};
+use crate::bundle::{Counts, SET_WORDS, Section, area_words, to_words};
+use crate::fault::{Exact, Fault, OLD_VARIABLES, Rules};
 use contexts::Contexts;
 use lists::Classes;
 use terms::Key;
 use word_map::WordMap;
 
-/// Checks a file. `free` is the lent area: on acceptance word i - 1 holds the
-/// free variables of term i (bit v - 1 for variable v) and the rest is zero; on
+/// Checks a file. `free` is the lent area: on acceptance the words from
+/// `SET_WORDS` * (i - 1) hold the free variables of term i and the rest is zero; on
 /// refusal all of it is zero.
 pub fn check(file: &[u8], free: &mut [u64]) -> Result<Claim, Refusal> {
     check_with(Exact, file, free)
@@ -43,11 +43,21 @@ pub(crate) fn check_with<R: Rules>(
 ) -> Result<Claim, Refusal> {
     match judge(rules, file, free.len()) {
         Ok((terms, claim)) => {
-            if !rules.has(Fault::AreaTailKept) {
+            if rules.has(Fault::SetsWrittenClose) {
                 free.fill(0);
+                for (place, set) in terms.free_sets().enumerate() {
+                    free[place..place + SET_WORDS].copy_from_slice(&set.words());
+                }
+                return Ok(claim);
             }
-            for (word, term) in free.iter_mut().zip(terms.iter()) {
-                *word = term.free;
+            let (places, _) = free.as_chunks_mut::<SET_WORDS>();
+            for (place, set) in places.iter_mut().zip(terms.free_sets()) {
+                *place = set.words();
+            }
+            // Only a fault takes an area that ends before the last set.
+            let end = area_words(terms.count()).min(free.len());
+            if !rules.has(Fault::AreaTailKept) {
+                free[end..].fill(0);
             }
             Ok(claim)
         }
@@ -62,7 +72,10 @@ pub(crate) fn check_with<R: Rules>(
 
 fn judge<R: Rules>(rules: R, file: &[u8], area: usize) -> Result<(Terms, Claim), Refusal> {
     let area = if rules.has(Fault::AreaOneShort) { area + 1 } else { area };
-    let tables = Tables::decode(rules, file, |counts| area >= counts[Section::Terms] as usize)?;
+    let tables = Tables::decode(rules, file, |counts| {
+        let terms = counts[Section::Terms];
+        area >= if rules.has(Fault::AreaOfTerms) { terms as usize } else { area_words(terms) }
+    })?;
     let contexts = Contexts::decode(rules, &tables)?;
     let claim = steps::check(rules, &tables, &contexts)?;
     Ok((tables.terms, claim))
@@ -182,7 +195,7 @@ fn first_refusal<T, R: Rules>(
     outcome
 }
 
-/// Bit of a variable (from 1) in a set.
-fn bit(variable: u32) -> u64 {
-    1 << (variable - 1)
+/// The variable that stands for this one in sets: itself, but for a fault.
+fn member<R: Rules>(rules: R, variable: u32) -> u32 {
+    if rules.has(Fault::VariablesFolded) { (variable - 1) % OLD_VARIABLES + 1 } else { variable }
 }

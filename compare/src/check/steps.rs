@@ -2,10 +2,11 @@
 
 use super::contexts::{Contexts, Entry};
 use super::terms::Term;
-use super::{Tables, bit, first_refusal};
+use super::{Tables, first_refusal, member};
 use crate::answer::{Claim, Reason, Refusal};
 use crate::bundle::Section;
-use crate::fault::{Fault, Rules};
+use crate::fault::{Fault, OLD_VARIABLES, Rules};
+use crate::set::Set;
 
 const REFL: u32 = 1;
 const CONG: u32 = 2;
@@ -125,6 +126,18 @@ impl<R: Rules> Checker<'_, R> {
             }
     }
 
+    fn free(&self, term: u32) -> Set {
+        self.tables.terms.free(self.rules, term)
+    }
+
+    fn is_free(&self, variable: u32, term: u32) -> bool {
+        self.tables.terms.is_free(self.rules, variable, term)
+    }
+
+    fn settled(&self, context: u32, term: u32) -> bool {
+        self.contexts.settled(self.rules, context, self.free(term))
+    }
+
     /// Contexts are compared by number.
     fn same_context(&self, one: u32, other: u32) -> bool {
         one == other
@@ -135,8 +148,7 @@ impl<R: Rules> Checker<'_, R> {
     fn refl(&self, step: &Step) -> bool {
         let left = self.tables.terms.get(step.left);
         if step.left == step.right
-            && (self.contexts.settled(step.context, left.free)
-                || self.rules.has(Fault::ReflUnsettledTaken))
+            && (self.settled(step.context, step.left) || self.rules.has(Fault::ReflUnsettledTaken))
         {
             return true;
         }
@@ -208,8 +220,8 @@ impl<R: Rules> Checker<'_, R> {
             && first.left == step.left
             && (middle == second.left || self.rules.has(Fault::TransMiddlesDiffer))
             && second.right == step.right;
-        let settled = self.contexts.settled(step.context, self.tables.terms.get(middle).free)
-            || self.rules.has(Fault::TransMiddleUnsettled);
+        let settled =
+            self.settled(step.context, middle) || self.rules.has(Fault::TransMiddleUnsettled);
         if self.rules.has(Fault::SideBeforeRule) {
             require(settled, Reason::Side)?;
         }
@@ -256,8 +268,8 @@ impl<R: Rules> Checker<'_, R> {
                 && (self.same_context(fixes.parent, step.context)
                     || self.rules.has(Fault::BindParentUnread))
                 || self.rules.has(Fault::BindWithoutFixing) && renames.parent == step.context);
-        let sides = self.bind_sides(step.context, left.free, y)
-            && !(self.rules.has(Fault::BindNameInBody) && terms.get(body).free & bit(y) != 0);
+        let sides = self.bind_sides(step.context, self.free(step.left), y)
+            && !(self.rules.has(Fault::BindNameInBody) && self.is_free(y, body));
         if self.rules.has(Fault::SideBeforeRule) {
             require(sides, Reason::Side)?;
         }
@@ -267,8 +279,8 @@ impl<R: Rules> Checker<'_, R> {
 
     /// `y` is free neither in the term nor in the image of any of its free
     /// variables. A variable that is not moved is its own image.
-    fn bind_sides(&self, context: u32, free: u64, y: u32) -> bool {
-        if free & bit(y) != 0 && !self.rules.has(Fault::BindNameUnread) {
+    fn bind_sides(&self, context: u32, free: Set, y: u32) -> bool {
+        if free.has(member(self.rules, y)) && !self.rules.has(Fault::BindNameUnread) {
             return false;
         }
         if self.rules.has(Fault::BindImagesUnread) {
@@ -276,17 +288,14 @@ impl<R: Rules> Checker<'_, R> {
         }
         let mut moved = self.contexts.moved(context);
         if !self.rules.has(Fault::BindAllImagesRead) {
-            moved &= free;
+            moved = moved.intersection(free);
         }
-        while moved != 0 {
-            let variable = moved.trailing_zeros() + 1;
-            moved &= moved - 1;
-            let image = self.contexts.image(context, variable);
-            if image.is_some_and(|term| self.tables.terms.get(term).free & bit(y) != 0) {
-                return false;
-            }
+        if self.rules.has(Fault::BindImagesFirstWord) {
+            moved = moved.intersection((1..=OLD_VARIABLES).collect());
         }
-        true
+        !moved.members().any(|variable| {
+            self.contexts.image(context, variable).is_some_and(|image| self.is_free(y, image))
+        })
     }
 
     fn let_(&self, step: &Step) -> bool {

@@ -2,9 +2,11 @@
 
 use super::signature::{Arguments, Profile};
 use super::word_map::WordMap;
-use super::{Lists, Signature, Sort, bit, first_refusal};
+use super::{Lists, Signature, Sort, first_refusal, member};
 use crate::answer::{Reason, Refusal};
+use crate::bundle::SET_WORDS;
 use crate::fault::{Fault, Rules};
+use crate::set::Set;
 
 /// A term record; lists are given by their start.
 #[derive(Clone, Copy, Debug, PartialEq, Eq)]
@@ -25,10 +27,11 @@ pub enum Quantifier {
 pub struct Known {
     pub term: Term,
     pub sort: Sort,
-    pub free: u64,
+    /// Its free variables, by their number among the sets.
+    free: u32,
 }
 
-const UNKNOWN: Known = Known { term: Term::Variable(0), sort: Sort::Truth, free: 0 };
+const UNKNOWN: Known = Known { term: Term::Variable(0), sort: Sort::Truth, free: NONE };
 
 /// A term by value: kind and fields, lists by their class.
 pub type Key = [u32; 4];
@@ -37,6 +40,49 @@ pub type Key = [u32; 4];
 pub struct Terms {
     /// Index 0 is no term.
     known: Vec<Known>,
+    sets: Sets,
+}
+
+/// Sets of variables by number, so that terms and lists with equal ones often share one.
+#[derive(Debug)]
+struct Sets(Vec<Set>);
+
+/// The number of the empty set.
+const NONE: u32 = 0;
+
+impl Sets {
+    /// The empty set, and room for so many others.
+    fn with_capacity(others: usize) -> Self {
+        let mut sets = Vec::with_capacity(others + 1);
+        sets.push(Set::EMPTY);
+        Sets(sets)
+    }
+
+    fn get(&self, number: u32) -> &Set {
+        &self.0[number as usize]
+    }
+
+    fn add(&mut self, set: Set) -> u32 {
+        self.0.push(set);
+        self.0.len() as u32 - 1
+    }
+
+    fn union(&mut self, one: u32, other: u32) -> u32 {
+        if one == other || other == NONE {
+            return one;
+        }
+        if one == NONE {
+            return other;
+        }
+        let union = self.get(one).union(*self.get(other));
+        if union == *self.get(one) { one } else { self.add(union) }
+    }
+
+    /// The set without a variable.
+    fn but(&mut self, number: u32, variable: u32) -> u32 {
+        let set = self.get(number);
+        if set.has(variable) { self.add(set.but(variable)) } else { number }
+    }
 }
 
 impl Terms {
@@ -50,7 +96,10 @@ impl Terms {
             rules,
             signature,
             lists,
-            terms: Terms { known: vec![UNKNOWN; records.len() + 1] },
+            terms: Terms {
+                known: vec![UNKNOWN; records.len() + 1],
+                sets: Sets::with_capacity(records.len()),
+            },
             numbers: WordMap::with_capacity(records.len()),
             seen: vec![Seen::default(); lists.count() + 1],
             pending: Vec::new(),
@@ -71,9 +120,31 @@ impl Terms {
         &self.known[number as usize]
     }
 
-    /// The terms in order, from term 1.
-    pub fn iter(&self) -> impl Iterator<Item = &Known> {
-        self.known[1..].iter()
+    /// The free variables of each term, from term 1.
+    pub fn free_sets(&self) -> impl Iterator<Item = &Set> {
+        self.known[1..].iter().map(|known| self.sets.get(known.free))
+    }
+
+    /// The free variables of a term, as the rules read them.
+    pub fn free<R: Rules>(&self, rules: R, number: u32) -> Set {
+        if rules.has(Fault::SetsReadClose) {
+            let first = number as usize - 1;
+            return Set::from_words(std::array::from_fn(|word| {
+                let place = first + word;
+                let set = self.known[1 + place / SET_WORDS].free;
+                self.sets.get(set).words()[place % SET_WORDS]
+            }));
+        }
+        *self.sets.get(self.get(number).free)
+    }
+
+    /// Whether a variable is free in a term; one word of its set is looked at.
+    pub fn is_free<R: Rules>(&self, rules: R, variable: u32, number: u32) -> bool {
+        let variable = member(rules, variable);
+        if rules.has(Fault::SetsReadClose) {
+            return self.free(rules, number).has(variable);
+        }
+        self.sets.get(self.get(number).free).has(variable)
     }
 }
 
@@ -82,10 +153,9 @@ impl Terms {
 struct Seen {
     /// Class of the list of sorts that its terms have, 0 where not seen yet.
     sorts: u32,
-    /// Whether `free` is known.
-    visited: bool,
-    /// Free variables of its terms together.
-    free: u64,
+    /// Free variables of its terms together, as their number among the sets and 1; 0
+    /// where not known.
+    free: u32,
 }
 
 struct Decoder<'a, R> {
@@ -258,49 +328,64 @@ impl<R: Rules> Decoder<'_, R> {
         }
     }
 
-    fn free(&mut self, term: Term) -> u64 {
+    /// The free variables of a new term, by their number among the sets.
+    fn free(&mut self, term: Term) -> u32 {
+        let rules = self.rules;
         match term {
-            Term::Variable(variable) => bit(variable),
+            Term::Variable(variable) => self.terms.sets.add(Set::of(member(rules, variable))),
             Term::Application { arguments, .. } => self.free_of_list(arguments),
             Term::Quantifier { variable, body, .. } => {
-                let body = self.terms.get(body).free;
-                if self.rules.has(Fault::QuantifierBindsNothing) {
+                let body = self.free_of(body);
+                if rules.has(Fault::QuantifierBindsNothing) {
                     body
                 } else {
-                    body & !bit(variable)
+                    self.terms.sets.but(body, member(rules, variable))
                 }
             }
             Term::Let { variables, bounds, body } => {
-                let own = self.lists.values(variables).fold(0, |set, variable| set | bit(variable));
+                let own: Set =
+                    self.lists.values(variables).map(|variable| member(rules, variable)).collect();
                 let bounds = self.free_of_list(bounds);
-                let body = self.terms.get(body).free;
-                if self.rules.has(Fault::LetBindsItsBounds) {
-                    (body | bounds) & !own
+                let body = self.free_of(body);
+                let sets = &mut self.terms.sets;
+                if rules.has(Fault::LetBindsItsBounds) {
+                    let both = sets.get(body).union(*sets.get(bounds));
+                    sets.add(both.without(own))
                 } else {
-                    body & !own | bounds
+                    let inside = sets.get(body).without(own);
+                    sets.add(inside.union(*sets.get(bounds)))
                 }
             }
         }
     }
 
+    /// The free variables of a term that is there.
+    fn free_of(&mut self, term: u32) -> u32 {
+        if self.rules.has(Fault::SetsReadClose) {
+            let set = self.terms.free(self.rules, term);
+            return self.terms.sets.add(set);
+        }
+        self.terms.get(term).free
+    }
+
     /// The free variables of a list's terms: walks to the first link already
     /// summed up, then back.
-    fn free_of_list(&mut self, start: u32) -> u64 {
+    fn free_of_list(&mut self, start: u32) -> u32 {
         let mut rest = start;
         while let Some((_, next)) = self.lists.split(rest) {
-            if self.seen[rest as usize].visited {
+            if self.seen[rest as usize].free != 0 {
                 break;
             }
             self.pending.push(rest);
             rest = next;
         }
-        let mut free = self.seen[rest as usize].free;
+        let mut free = self.seen[rest as usize].free.saturating_sub(1);
         while let Some(link) = self.pending.pop() {
             if let Some((term, _)) = self.lists.split(link) {
-                free |= self.terms.get(term).free;
+                let term = self.free_of(term);
+                free = self.terms.sets.union(term, free);
             }
-            let seen = &mut self.seen[link as usize];
-            (seen.visited, seen.free) = (true, free);
+            self.seen[link as usize].free = free + 1;
         }
         free
     }
@@ -324,10 +409,10 @@ pub(super) fn pairs_fit<R: Rules>(
     if count < least || !same_count {
         return false;
     }
-    let mut seen = 0;
+    let mut seen = Set::EMPTY;
     lists.values(variables).zip(lists.values(bounds)).all(|(variable, bound)| {
-        let repeated = seen & bit(variable) != 0;
-        seen |= bit(variable);
+        let repeated = seen.has(member(rules, variable));
+        seen.insert(member(rules, variable));
         (!repeated || rules.has(Fault::RepeatsTaken))
             && (signature.variable(variable) == terms.get(bound).sort
                 || rules.has(Fault::PairSortsIgnored))

@@ -4,6 +4,7 @@
 
 use crate::bundle::{BUILT_IN, Counts, Section};
 use crate::rng::Rng;
+use crate::set::Set;
 use std::collections::HashMap;
 
 pub const TRUTH: u32 = 0;
@@ -42,7 +43,7 @@ struct Made {
     shape: Shape,
     fields: [Field; 4],
     sort: u32,
-    free: u64,
+    free: Set,
 }
 
 #[derive(Clone, Debug)]
@@ -51,7 +52,7 @@ struct Context {
     fields: [Field; 4],
     /// The image's term by variable - 1, 0 where no entry replaces it.
     images: Vec<u32>,
-    moved: u64,
+    moved: Set,
     parent: u32,
 }
 
@@ -76,6 +77,8 @@ pub struct Builder {
     pub rng: Rng,
     symbols: Vec<Symbol>,
     variables: Vec<u32>,
+    /// The variables that random choices draw from.
+    drawn: Vec<u32>,
     terms: Vec<Made>,
     numbers: HashMap<Shape, u32>,
     contexts: Vec<Context>,
@@ -94,6 +97,7 @@ impl Builder {
             rng,
             symbols: Vec::new(),
             variables: Vec::new(),
+            drawn: Vec::new(),
             terms: Vec::new(),
             numbers: HashMap::new(),
             contexts: Vec::new(),
@@ -142,6 +146,13 @@ impl Builder {
     }
 
     pub fn variable(&mut self, sort: u32) -> u32 {
+        let variable = self.spare_variable(sort);
+        self.drawn.push(variable);
+        variable
+    }
+
+    /// A variable that no random choice draws.
+    pub fn spare_variable(&mut self, sort: u32) -> u32 {
         self.variables.push(sort);
         self.variables.len() as u32
     }
@@ -150,12 +161,20 @@ impl Builder {
         self.variables[variable as usize - 1]
     }
 
+    /// The variables that random choices draw from.
+    pub fn drawn(&self) -> &[u32] {
+        &self.drawn
+    }
+
+    pub fn draw_variable(&mut self) -> u32 {
+        let place = self.rng.below(self.drawn.len() as u32);
+        self.drawn[place as usize]
+    }
+
+    /// Those of a sort that random choices draw from.
     pub fn variables_of(&self, sort: u32) -> Vec<u32> {
-        (1..)
-            .zip(&self.variables)
-            .filter(|&(_, &own)| own == sort)
-            .map(|(number, _)| number)
-            .collect()
+        let of_sort = |&variable: &u32| self.variable_sort(variable) == sort;
+        self.drawn.iter().copied().filter(of_sort).collect()
     }
 
     /// Result and argument sorts.
@@ -221,15 +240,15 @@ impl Builder {
         }
     }
 
-    fn free_of(&self, shape: &Shape) -> u64 {
-        let of_all = |terms: &[u32]| terms.iter().fold(0, |set, &term| set | self.free(term));
+    fn free_of(&self, shape: &Shape) -> Set {
+        let of_all =
+            |terms: &[u32]| terms.iter().fold(Set::EMPTY, |set, &term| set.union(self.free(term)));
         match shape {
-            Shape::Variable(variable) => bit(*variable),
+            Shape::Variable(variable) => Set::of(*variable),
             Shape::Application(_, arguments) => of_all(arguments),
-            Shape::Quantifier(_, variable, body) => self.free(*body) & !bit(*variable),
+            Shape::Quantifier(_, variable, body) => self.free(*body).but(*variable),
             Shape::Let(variables, bounds, body) => {
-                let own = variables.iter().fold(0, |set, &variable| set | bit(variable));
-                self.free(*body) & !own | of_all(bounds)
+                self.free(*body).without(variables.iter().copied().collect()).union(of_all(bounds))
             }
         }
     }
@@ -242,8 +261,8 @@ impl Builder {
         self.terms[term as usize - 1].sort
     }
 
-    /// Free variables, bit v - 1 for variable v.
-    pub fn free(&self, term: u32) -> u64 {
+    /// Free variables.
+    pub fn free(&self, term: u32) -> Set {
         self.terms[term as usize - 1].free
     }
 
@@ -278,16 +297,16 @@ impl Builder {
         let fields = match &entry {
             Entry::Fixes(variable) => {
                 images[*variable as usize - 1] = 0;
-                moved &= !bit(*variable);
+                moved.remove(*variable);
                 [Word(1), Word(*variable), Word(0), Word(parent)]
             }
             Entry::Replaces(variables, terms) => {
                 for (&variable, &term) in variables.iter().zip(terms) {
                     images[variable as usize - 1] = term;
                     if *self.shape(term) == Shape::Variable(variable) {
-                        moved &= !bit(variable);
+                        moved.remove(variable);
                     } else {
-                        moved |= bit(variable);
+                        moved.insert(variable);
                     }
                 }
                 [Word(2), List(self.list(variables)), List(self.list(terms)), Word(parent)]
@@ -313,8 +332,8 @@ impl Builder {
         &self.contexts[context as usize - 1].entry
     }
 
-    pub fn moved(&self, context: u32) -> u64 {
-        if context == 0 { 0 } else { self.contexts[context as usize - 1].moved }
+    pub fn moved(&self, context: u32) -> Set {
+        if context == 0 { Set::EMPTY } else { self.contexts[context as usize - 1].moved }
     }
 
     /// The term that replaces a variable in a context.
@@ -324,7 +343,7 @@ impl Builder {
     }
 
     pub fn settled(&self, context: u32, term: u32) -> bool {
-        self.free(term) & self.moved(context) == 0
+        self.free(term).disjoint(self.moved(context))
     }
 
     pub fn add_step(
@@ -418,9 +437,4 @@ impl Builder {
         }
         numbers
     }
-}
-
-/// Bit of a variable in a set; none for a variable past the limit.
-pub fn bit(variable: u32) -> u64 {
-    1u64.checked_shl(variable - 1).unwrap_or(0)
 }

@@ -2,8 +2,9 @@
 //! fits, chosen at random, with earlier steps used again now and then. In a
 //! careless derivation some choices are wrong on purpose.
 
-use super::builder::{Builder, EXISTS, Entry, FOR_ALL, Shape, bit};
+use super::builder::{Builder, EXISTS, Entry, FOR_ALL, Shape};
 use crate::bundle::{Counts, Section};
+use crate::set::Set;
 use std::collections::HashMap;
 
 pub const REFL: u32 = 1;
@@ -34,12 +35,14 @@ pub enum Slip {
 
 /// Wrong choices to be tried by themselves, and together where the order of
 /// refusals in a step decides.
-pub const SLIPS: [&[Slip]; 13] = [
+pub const SLIPS: [&[Slip]; 15] = [
     &[Slip::Refl],
     &[Slip::Image],
     &[Slip::Middle],
     &[Slip::Trans],
     &[Slip::Cong],
+    &[Slip::Name],
+    &[Slip::Name],
     &[Slip::Name],
     &[Slip::Bind],
     &[Slip::Let],
@@ -293,8 +296,7 @@ impl<'a> Derivation<'a> {
                     renaming = self.builder.replace(&[x], &[y_term], other);
                 }
                 2 => {
-                    let count = self.builder.count(Section::Variables);
-                    let more = self.builder.rng.between(1, count);
+                    let more = self.builder.draw_variable();
                     let same_sort =
                         self.builder.variable_sort(more) == self.builder.variable_sort(x);
                     if more != x && same_sort {
@@ -329,30 +331,28 @@ impl<'a> Derivation<'a> {
     fn new_name(&mut self, context: u32, term: u32, x: u32) -> u32 {
         let sort = self.builder.variable_sort(x);
         let free = self.builder.free(term);
-        let mut allowed = Vec::new();
-        let mut forbidden = Vec::new();
-        for y in self.builder.variables_of(sort) {
-            let in_images =
-                (1..=64).filter(|&variable| free & bit(variable) != 0).any(|variable| {
-                    let image = self.builder.image(context, variable);
-                    image.is_some_and(|image| self.builder.free(image) & bit(y) != 0)
-                });
-            if free & bit(y) != 0 || in_images {
-                forbidden.push(y);
-            } else {
-                allowed.push(y);
-            }
-        }
+        let taken = free
+            .members()
+            .filter_map(|variable| self.builder.image(context, variable))
+            .fold(free, |taken: Set, image| taken.union(self.builder.free(image)));
+        let (forbidden, allowed): (Vec<u32>, Vec<u32>) =
+            self.builder.variables_of(sort).into_iter().partition(|&y| taken.has(y));
         if !forbidden.is_empty() && self.slips(Slip::Name) {
-            return self.builder.rng.pick(&forbidden).copied().unwrap_or(x);
+            // Those that are free in images alone are seldom there: they come first.
+            let in_images: Vec<u32> = forbidden.iter().copied().filter(|&y| !free.has(y)).collect();
+            let some = if in_images.is_empty() { &forbidden } else { &in_images };
+            return self.builder.rng.pick(some).copied().unwrap_or(x);
         }
         if allowed.contains(&x) && self.chance(25) {
             return x;
         }
+        let full = self.builder.room(Section::Variables) == 0;
         match self.builder.rng.pick(&allowed).copied() {
-            Some(y) if self.chance(75) || self.builder.count(Section::Variables) >= 40 => y,
-            _ if self.builder.room(Section::Variables) > 0 => self.builder.variable(sort),
-            _ => x,
+            Some(y) if self.chance(75) || full || self.builder.drawn().len() >= 40 => y,
+            _ if !full => self.builder.variable(sort),
+            _ => (1..=self.builder.count(Section::Variables))
+                .find(|&y| self.builder.variable_sort(y) == sort && !taken.has(y))
+                .unwrap_or(x),
         }
     }
 
@@ -422,14 +422,13 @@ impl<'a> Derivation<'a> {
 
     /// A random entry above `parent`.
     pub fn random_context(&mut self, parent: u32) -> u32 {
-        let count = self.builder.count(Section::Variables);
-        let variable = self.builder.rng.between(1, count);
+        let variable = self.builder.draw_variable();
         if self.chance(35) {
             return self.builder.fix(variable, parent);
         }
         let mut variables = vec![variable];
         for _ in 0..self.builder.rng.below(3) {
-            let other = self.builder.rng.between(1, count);
+            let other = self.builder.draw_variable();
             if !variables.contains(&other) {
                 variables.push(other);
             }

@@ -3,9 +3,10 @@
 use super::builder::{Builder, EXISTS, FOR_ALL, ITEM, TRUTH};
 use super::derive::Care;
 use super::{derivation, examples, limits};
-use crate::bundle::{LEFT, RIGHT, Section, counts_of, to_bytes};
+use crate::bundle::{LEFT, MAX_BYTES, RIGHT, Section, counts_of, to_bytes};
 use crate::damage::{Draft, random_bytes, random_words};
 use crate::expand::written;
+use crate::fault::OLD_VARIABLES;
 use crate::rng::Rng;
 
 #[derive(Clone, Copy, Debug, PartialEq, Eq, PartialOrd, Ord, Hash)]
@@ -111,7 +112,8 @@ fn open(rng: Rng) -> Vec<u32> {
     }
     if b.rng.chance(30) {
         // Another variable closed, this one not.
-        term = b.quantify(FOR_ALL, 1, term);
+        let other = b.drawn()[0];
+        term = b.quantify(FOR_ALL, other, term);
     }
     b.words(term, 0)
 }
@@ -193,7 +195,7 @@ pub fn many_lets(rng: Rng, contexts: u32) -> Vec<u32> {
     }
     // Every let costs one context. Variables that are still free are bound by
     // one more let, which takes the place of the outermost.
-    if b.free(rule) != 0 {
+    if !b.free(rule).is_empty() {
         let super::builder::Shape::Let(_, _, body) = b.shape(rule).clone() else {
             return b.words(rule, 0);
         };
@@ -251,6 +253,10 @@ fn largest_width(fits: impl Fn(&[u8]) -> bool) -> u32 {
     (1..).take_while(|&width| file(width).is_ok_and(|file| fits(&file))).last().unwrap_or(1)
 }
 
+/// The longest file before Req 02, and the variables it could have. The benchmark's
+/// expansions keep to both, so that its runs are about the same files.
+pub const OLD_BYTES: usize = MAX_BYTES - 4 * (Section::Variables.limit() - OLD_VARIABLES) as usize;
+
 /// A job whose written file has nearly so many bytes. Where the rule cannot be
 /// larger, terms, links, variables and symbols that it does not need fill up.
 pub fn of_size(bytes: usize) -> Vec<u32> {
@@ -260,7 +266,8 @@ pub fn of_size(bytes: usize) -> Vec<u32> {
     let mut missing = bytes.saturating_sub(file.len());
     for section in [Section::Terms, Section::Links, Section::Variables, Section::Symbols] {
         let record = 4 * section.width();
-        let more = (missing / record).min((section.limit() - after[section]) as usize);
+        let limit = if section == Section::Variables { OLD_VARIABLES } else { section.limit() };
+        let more = (missing / record).min(limit.saturating_sub(after[section]) as usize);
         missing -= more * record;
         let target = b.count(section) + more as u32;
         limits::fill(&mut b, section, target);

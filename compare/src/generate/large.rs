@@ -163,6 +163,49 @@ pub fn many_quantifiers(rng: Rng, depth: usize, steps: u32) -> Vec<u32> {
     b.claim_last()
 }
 
+/// `depth` quantifiers (an even number) over variables 1 to `depth`, renamed to those
+/// after them by BIND; then the same with the other quantifiers. A renaming takes two
+/// contexts, so both formulas use the same ones, and the same steps of the part without
+/// quantifiers, where every variable occurs: with a depth of 128 all 256 contexts are
+/// there, 256 BIND steps, and all 256 variables are bound.
+pub fn wide_quantifiers(rng: Rng, depth: usize) -> Vec<u32> {
+    let mut b = Builder::new(rng, 100);
+    let p = b.symbol(TRUTH, &[ITEM, ITEM]);
+    // The variables in pairs of a sort; a pair of truth values is compared.
+    let sorts: Vec<u32> =
+        (0..depth).map(|index| if index / 2 % 4 == 3 { TRUTH } else { ITEM }).collect();
+    let old: Vec<u32> = sorts.iter().map(|&sort| b.variable(sort)).collect();
+    let new: Vec<u32> = sorts.iter().map(|&sort| b.variable(sort)).collect();
+    let matrix = |b: &mut Builder, names: &[u32]| {
+        let mut body = None;
+        for pair in names.chunks(2) {
+            let symbol = if b.variable_sort(pair[0]) == TRUTH { 7 } else { p };
+            let (one, other) = (b.variable_term(pair[0]), b.variable_term(pair[1]));
+            let atom = b.apply(symbol, &[one, other]);
+            body = Some(body.map_or(atom, |body| b.apply(4, &[atom, body])));
+        }
+        body.expect("there is a pair")
+    };
+    let mut contexts = vec![0];
+    for (&x, &y) in old.iter().zip(&new) {
+        let y_term = b.variable_term(y);
+        let fixing = b.fix(y, contexts[contexts.len() - 1]);
+        contexts.push(b.replace(&[x], &[y_term], fixing));
+    }
+    let (left, right) = (matrix(&mut b, &old), matrix(&mut b, &new));
+    let inside = Derivation::renaming(&mut b, contexts[depth], left);
+    for formula in 0..2 {
+        let (mut left, mut right, mut step) = (left, right, inside);
+        for index in (0..depth).rev() {
+            let kind = if index % 3 == formula { EXISTS } else { FOR_ALL };
+            left = b.quantify(kind, old[index], left);
+            right = b.quantify(kind, new[index], right);
+            step = b.add_step(BIND, contexts[index], left, right, &[step]);
+        }
+    }
+    b.claim_last()
+}
+
 /// A derivation of a large random term.
 pub fn random(rng: Rng, care: Care) -> Vec<u32> {
     let mut b = Builder::new(rng, 60);

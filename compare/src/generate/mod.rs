@@ -11,7 +11,7 @@ pub mod printing;
 mod terms;
 pub mod texts;
 
-use crate::bundle::to_bytes;
+use crate::bundle::{Section, to_bytes};
 use crate::damage::{Draft, random_bytes, random_words};
 use crate::rng::Rng;
 use builder::{Builder, ITEM, TRUTH};
@@ -151,7 +151,7 @@ fn attempt(mut rng: Rng, care: Care) -> (Vec<u32>, bool) {
 }
 
 fn large(mut rng: Rng) -> Vec<u32> {
-    match rng.below(5) {
+    match rng.below(6) {
         0 => {
             let (depth, steps) = (rng.between(20, 256), rng.between(8, 120));
             large::deep_contexts(rng, depth, steps)
@@ -163,6 +163,10 @@ fn large(mut rng: Rng) -> Vec<u32> {
         2 => {
             let (depth, steps) = (rng.between(4, 32) as usize, rng.between(60, 600));
             large::many_quantifiers(rng, depth, steps)
+        }
+        3 => {
+            let pairs = rng.between(1, Section::Variables.limit() / 4) as usize;
+            large::wide_quantifiers(rng, 2 * pairs)
         }
         _ => {
             let care = rng.one_of([Care::Full, Care::Wanting(1), Care::Wanting(2)]);

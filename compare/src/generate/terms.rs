@@ -1,6 +1,9 @@
 //! Random signatures and terms.
 
-use super::builder::{Builder, EXISTS, FOR_ALL, ITEM, Shape, TRUTH, bit};
+use super::builder::{Builder, EXISTS, FOR_ALL, ITEM, Shape, TRUTH};
+use crate::bundle::Section;
+use crate::fault::OLD_VARIABLES;
+use std::collections::BTreeSet;
 
 impl Builder {
     fn random_sort(&mut self) -> u32 {
@@ -28,6 +31,10 @@ impl Builder {
                 self.symbol(result, &arguments);
             }
         }
+        if self.rng.chance(34) {
+            self.spread_variables();
+            return;
+        }
         self.variable(ITEM);
         for _ in 0..self.rng.between(1, 5) {
             let sort = self.random_sort();
@@ -35,8 +42,39 @@ impl Builder {
         }
     }
 
+    /// More than 64 variables, a few of which are drawn: often the first and the last of
+    /// a set's word, and often two that have the same bit in their words.
+    fn spread_variables(&mut self) {
+        let limit = Section::Variables.limit();
+        let any = self.rng.between(OLD_VARIABLES + 1, limit);
+        let count = self.rng.one_of([any, any, any, any, 65, 66, 128, 129, 192, 193, limit]);
+        let mut drawn = BTreeSet::new();
+        for _ in 0..self.rng.between(2, 4) {
+            let any = self.rng.between(1, count);
+            let edge = self.rng.one_of([1, 63, 64, 65, 66, 127, 128, 129, 192, 193, 255, limit]);
+            let one = self.rng.one_of([any, edge, edge, count]).min(count);
+            drawn.insert(one);
+            if self.rng.chance(40) {
+                let word = self.rng.below(limit / u64::BITS);
+                drawn.insert((word * u64::BITS + (one - 1) % u64::BITS + 1).min(count));
+            }
+        }
+        let mut item = false;
+        for variable in 1..=count {
+            let sort = self.random_sort();
+            if !drawn.contains(&variable) {
+                self.spare_variable(sort);
+            } else if item {
+                self.variable(sort);
+            } else {
+                self.variable(ITEM);
+                item = true;
+            }
+        }
+    }
+
     fn declared_symbols(&self) -> impl Iterator<Item = u32> + use<> {
-        33..33 + self.count(crate::bundle::Section::Symbols)
+        33..33 + self.count(Section::Symbols)
     }
 
     pub fn random_leaf(&mut self, sort: u32) -> u32 {
@@ -75,13 +113,10 @@ impl Builder {
 
     /// A variable to bind, one that is free in the body where it can be.
     fn random_binder(&mut self, body: u32) -> u32 {
-        let count = self.count(crate::bundle::Section::Variables);
-        let free = self.free(body);
-        let occurring: Vec<u32> =
-            (1..=count).filter(|variable| free & bit(*variable) != 0).collect();
+        let occurring: Vec<u32> = self.free(body).members().collect();
         match self.rng.pick(&occurring) {
             Some(&variable) if self.rng.chance(85) => variable,
-            _ => self.rng.between(1, count),
+            _ => self.draw_variable(),
         }
     }
 
@@ -154,11 +189,13 @@ impl Builder {
     /// to a closed term where there is one.
     pub fn close(&mut self, term: u32) -> u32 {
         let mut closed = term;
-        while self.free(closed) != 0 {
-            let variable = self.free(closed).trailing_zeros() + 1;
+        while let Some(variable) = self.free(closed).members().next() {
             let sort = self.variable_sort(variable);
-            let constants: Vec<u32> =
-                self.terms_of(sort).into_iter().filter(|&other| self.free(other) == 0).collect();
+            let constants: Vec<u32> = self
+                .terms_of(sort)
+                .into_iter()
+                .filter(|&other| self.free(other).is_empty())
+                .collect();
             let constant = self.rng.pick(&constants).copied();
             closed = match constant {
                 Some(constant) if self.rng.chance(35) || self.sort(closed) != TRUTH => {

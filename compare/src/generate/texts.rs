@@ -73,9 +73,10 @@ pub fn case(seed: u64, index: u64) -> Text {
         TextFamily::Limit => at_limit(rng),
         TextFamily::Declarations => {
             let mut draft = Draft::new(Source::new(&mut rng).declarations);
-            match rng.below(4) {
+            match rng.below(5) {
                 0 => draft.spoil_header(&mut rng),
                 1 => draft.spoil_many(&mut rng),
+                2 => draft.spoil_next(&mut rng),
                 _ => draft.spoil(&mut rng),
             }
             let bytes = match rng.below(20) {

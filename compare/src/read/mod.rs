@@ -12,9 +12,8 @@ mod records;
 mod sorts;
 
 use crate::answer::{Reason, Refusal};
-use crate::bundle::{Counts, MAX_BYTES, MAX_WORDS, Section};
+use crate::bundle::{Counts, MAX_BYTES, MAX_SETS, MAX_WORDS, SET_WORDS, Section};
 use crate::check::{Declarations, Sort};
-use crate::expand::SETS;
 use crate::fault::{Exact, Fault, Rules};
 use parser::Parser;
 
@@ -49,7 +48,12 @@ pub(crate) fn read_with<R: Rules>(
 ) -> Result<usize, Refusal> {
     let suffice = out.len() >= MAX_BYTES
         && words.len() >= MAX_WORDS
-        && sets.len() >= SETS - usize::from(rules.has(Fault::ReadSetsOneShort));
+        && sets.len()
+            >= if rules.has(Fault::ReadSetsOfTerms) {
+                MAX_SETS / SET_WORDS
+            } else {
+                MAX_SETS - usize::from(rules.has(Fault::ReadSetsOneShort))
+            };
     let job = job_of(rules, declarations, text, suffice);
     if !rules.has(Fault::ReadScratchKept) {
         words.fill(0);

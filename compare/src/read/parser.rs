@@ -7,7 +7,8 @@ use super::sorts::{Rest, Sorts};
 use crate::answer::{Reason, Refusal};
 use crate::bundle::BUILT_IN;
 use crate::check::{Declarations, Sort};
-use crate::fault::{Fault, Rules};
+use crate::fault::{Fault, OLD_VARIABLES, Rules};
+use crate::set::Set;
 
 /// A term that has been read; its record is 0 where the records are full.
 #[derive(Clone, Copy, Debug)]
@@ -42,10 +43,9 @@ enum Open {
         start: usize,
     },
     /// Variables and bound terms in turn are its parts; a bound term for a variable of
-    /// this sort is due. `seen` are the variables so far.
+    /// this sort is due.
     Bindings {
         sort: Sort,
-        seen: u64,
         start: usize,
     },
     /// A let whose body is due.
@@ -65,6 +65,8 @@ pub struct Parser<'a, R> {
     open: Vec<Open>,
     /// Parts of the open brackets: records of terms, and variables of binders.
     parts: Vec<u32>,
+    /// The variables so far of each let whose bound terms are being read.
+    listed: Vec<Set>,
     /// The first unknown name, where a fault lets it wait.
     unknown: Option<Refusal>,
 }
@@ -82,6 +84,7 @@ impl<'a, R: Rules> Parser<'a, R> {
             records: Records::new(rules, declared.section(Links), text.len() / 8),
             open: Vec::new(),
             parts: Vec::new(),
+            listed: Vec::new(),
             unknown: None,
         }
     }
@@ -135,7 +138,9 @@ impl<'a, R: Rules> Parser<'a, R> {
 
     fn variable_of(&self, run: Run) -> Option<u32> {
         let number = run.number_after(self.rules, b'v')?;
-        (1..=self.variables).contains(&number).then_some(number)
+        let old = self.rules.has(Fault::NamesOfOldLimit);
+        let last = if old { self.variables.min(OLD_VARIABLES) } else { self.variables };
+        (1..=last).contains(&number).then_some(number)
     }
 
     fn symbol_of(&self, run: Run) -> Option<u32> {
@@ -198,7 +203,8 @@ impl<'a, R: Rules> Parser<'a, R> {
             Some(Word::Exists) => self.binders(4, start)?,
             Some(Word::Let) => {
                 self.cursor.open()?;
-                self.bind(0, start)?
+                self.listed.push(Set::EMPTY);
+                self.bind(start)?
             }
             Some(Word::True | Word::False | Word::Bool | Word::Item) => {
                 return Err(self.cursor.grown(run));
@@ -215,7 +221,7 @@ impl<'a, R: Rules> Parser<'a, R> {
 
     /// A quantifier's variables, one or more, each with its declared sort.
     fn binders(&mut self, kind: u32, start: usize) -> Result<Open, Refusal> {
-        let mut seen = 0;
+        let mut listed = Set::EMPTY;
         self.cursor.open()?;
         if !(self.rules.has(Fault::EmptyBindersTaken) && self.cursor.closes()) {
             loop {
@@ -229,13 +235,13 @@ impl<'a, R: Rules> Parser<'a, R> {
                 if !self.rules.has(Fault::BinderSortUnread) {
                     self.sorts.same(sort, self.sorts.variable(variable));
                 }
-                if self.rules.has(Fault::BinderRepeatsRefused) && seen & bit(variable) != 0 {
-                    self.sorts.sound = false;
+                if self.rules.has(Fault::BinderRepeatsRefused) {
+                    self.sorts.sound &= !listed.has(variable);
+                    listed.insert(variable);
                 }
                 if self.rules.has(Fault::BinderGetsTerm) {
                     self.records.variable(variable);
                 }
-                seen |= bit(variable);
                 self.parts.push(variable);
                 if self.cursor.closes() {
                     break;
@@ -246,18 +252,19 @@ impl<'a, R: Rules> Parser<'a, R> {
     }
 
     /// The next pair of a let, up to its bound term.
-    fn bind(&mut self, seen: u64, start: usize) -> Result<Open, Refusal> {
+    fn bind(&mut self, start: usize) -> Result<Open, Refusal> {
         self.cursor.open()?;
         let variable = self.variable()?;
-        if seen & bit(variable) != 0 {
-            self.sorts.repeated();
+        let folded = self.rules.has(Fault::RepeatsFolded);
+        let own = if folded { (variable - 1) % OLD_VARIABLES + 1 } else { variable };
+        if let Some(listed) = self.listed.last_mut() {
+            if listed.has(own) {
+                self.sorts.repeated();
+            }
+            listed.insert(own);
         }
         self.parts.push(variable);
-        Ok(Open::Bindings {
-            sort: self.sorts.variable(variable),
-            seen: seen | bit(variable),
-            start,
-        })
+        Ok(Open::Bindings { sort: self.sorts.variable(variable), start })
     }
 
     /// Gives a term to the innermost bracket: its value, where that was its last part.
@@ -304,16 +311,17 @@ impl<'a, R: Rules> Parser<'a, R> {
                 self.cursor.close()?;
                 Ok(Some(self.quantifier(kind, start, value.record)))
             }
-            Open::Bindings { sort, seen, start } => {
+            Open::Bindings { sort, start } => {
                 if !self.rules.has(Fault::BoundSortsUnread) {
                     self.sorts.same(sort, value.sort);
                 }
                 self.parts.push(value.record);
                 self.cursor.close()?;
                 let open = if self.cursor.closes() {
+                    self.listed.pop();
                     Open::Body { start }
                 } else {
-                    self.bind(seen, start)?
+                    self.bind(start)?
                 };
                 self.open.push(open);
                 Ok(None)
@@ -358,9 +366,4 @@ impl<'a, R: Rules> Parser<'a, R> {
         self.parts.truncate(start);
         Value { sort: Sort::Truth, record }
     }
-}
-
-/// Bit of a variable (from 1) in a set.
-fn bit(variable: u32) -> u64 {
-    1 << (variable - 1)
 }

@@ -1,7 +1,7 @@
 //! The twelve examples of document 01.
 
 use crate::{judge, judge_bytes};
-use nezkaldo_compare::bundle::{to_bytes, to_words};
+use nezkaldo_compare::bundle::{MAX_BYTES, MAX_SETS, MAX_WORDS, SET_WORDS, to_bytes, to_words};
 use nezkaldo_compare::check::check;
 use nezkaldo_compare::eval::{Evaluator, World};
 use nezkaldo_compare::expand::{expand, written};
@@ -15,9 +15,10 @@ const SEEDS: std::ops::Range<u64> = 0..20;
 fn example_1_accepted_with_its_free_sets() {
     let (answer, free) = judge(examples::LET_EXPANSION);
     assert_eq!(answer, (0, 0));
-    assert_eq!(free[..5], [1, 0, 1, 0, 0]);
-    assert!(free[5..].iter().all(|&word| word == 0));
-    let claim = check(&to_bytes(examples::LET_EXPANSION), &mut [0; 5]).unwrap();
+    let first_words: Vec<u64> = free.iter().copied().step_by(SET_WORDS).collect();
+    assert_eq!(first_words[..5], [1, 0, 1, 0, 0]);
+    assert_eq!(free.iter().sum::<u64>(), 2, "all else is zero");
+    let claim = check(&to_bytes(examples::LET_EXPANSION), &mut [0; 5 * SET_WORDS]).unwrap();
     assert_eq!((claim.left, claim.right), (5, 4));
 }
 
@@ -103,7 +104,8 @@ fn example_11_written_file() {
     assert_eq!(steps, [2, 1, 1, 2, 5]);
     assert_eq!(examples::WRITTEN[8], 5);
 
-    let (mut out, mut words, mut sets) = (vec![9; 58_148], vec![9; 14_537], vec![9; 1_024]);
+    let (mut out, mut words, mut sets) =
+        (vec![9; MAX_BYTES], vec![9; MAX_WORDS], vec![9; MAX_SETS]);
     assert_eq!(expand(&job, &mut out, &mut words, &mut sets), Ok(file.len()));
     assert_eq!(out[..file.len()], file);
     assert!(out[file.len()..].iter().all(|&byte| byte == 0));

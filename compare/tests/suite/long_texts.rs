@@ -4,10 +4,9 @@
 
 use crate::{exact_read, with_stack};
 use nezkaldo_compare::answer::Packed;
-use nezkaldo_compare::bundle::{MAX_BYTES, MAX_WORDS, to_bytes};
+use nezkaldo_compare::bundle::{MAX_BYTES, MAX_SETS, MAX_WORDS, to_bytes};
 use nezkaldo_compare::compare_reader::{Reader, call};
 use nezkaldo_compare::compare_writer::Areas;
-use nezkaldo_compare::expand::SETS;
 use nezkaldo_compare::ffi;
 use nezkaldo_compare::read::job;
 use std::time::Instant;
@@ -23,7 +22,7 @@ fn declarations(width: u32) -> Vec<u8> {
 }
 
 const MEGABYTES: usize = 10_000_000;
-const ENOUGH: [usize; 3] = [MAX_BYTES, MAX_WORDS, SETS];
+const ENOUGH: [usize; 3] = [MAX_BYTES, MAX_WORDS, MAX_SETS];
 
 #[derive(Clone, Copy, Debug, PartialEq, Eq)]
 enum Answer {

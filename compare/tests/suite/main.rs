@@ -7,11 +7,13 @@ mod long_texts;
 mod parties;
 mod reader;
 mod teeth;
+mod variables;
+mod vectors;
 mod worlds;
 mod writer;
 
 use nezkaldo_compare::answer::packed;
-use nezkaldo_compare::bundle::{Section, to_bytes};
+use nezkaldo_compare::bundle::{MAX_SETS, to_bytes};
 use nezkaldo_compare::{
     check, compare_reader, compare_writer, expand, naive, naive_expand, naive_read, read,
 };
@@ -75,7 +77,7 @@ pub fn judge(words: &[u32]) -> ((u32, u32), Vec<u64>) {
 }
 
 pub fn judge_bytes(file: &[u8]) -> ((u32, u32), Vec<u64>) {
-    let area = vec![u64::MAX; Section::Terms.limit() as usize + 3];
+    let area = vec![u64::MAX; MAX_SETS + 3];
     let (mut free, mut other) = (area.clone(), area);
     let answer = exact(file, &mut free);
     assert_eq!(answer, plain(file, &mut other), "the two readings answer alike");

@@ -3,7 +3,7 @@
 
 use crate::{exact, exact_expand, exact_read};
 use nezkaldo_compare::answer::{Claim, Refusal, line};
-use nezkaldo_compare::bundle::to_bytes;
+use nezkaldo_compare::bundle::{MAX_SETS, to_bytes};
 use nezkaldo_compare::check::check;
 use nezkaldo_compare::compare::{self, Checkers};
 use nezkaldo_compare::compare_reader::{self, Readers};
@@ -67,7 +67,7 @@ fn prints(stdout: impl Into<Vec<u8>>, stderr: impl Into<Vec<u8>>) -> io::Result<
 fn check_but(
     change: impl Fn(Result<Claim, Refusal>) -> Result<Claim, Refusal>,
 ) -> impl Fn(&[u8]) -> io::Result<Output> {
-    move |file| prints(line(change(check(file, &mut [0; 1024]))), "")
+    move |file| prints(line(change(check(file, &mut [0; MAX_SETS]))), "")
 }
 
 #[test]

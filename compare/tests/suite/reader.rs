@@ -1,22 +1,18 @@
 //! The reader: its refusals in order, its areas and its limits.
 
-use crate::{exact, exact_expand, exact_read, plain_read, with_stack};
+use crate::{exact_read, plain_read};
 use nezkaldo_compare::answer::{Packed, Reason, Refusal};
 use nezkaldo_compare::bundle::{
-    LEFT, MAX_BYTES, MAX_WORDS, RIGHT, Section, counts_of, to_bytes, to_words,
+    LEFT, MAX_BYTES, MAX_SETS, MAX_WORDS, RIGHT, Section, counts_of, to_bytes, to_words,
 };
-use nezkaldo_compare::compare_reader::{Reader, call};
-use nezkaldo_compare::expand::SETS;
-use nezkaldo_compare::ffi;
+use nezkaldo_compare::compare_reader::call;
 use nezkaldo_compare::read::{job, read};
-use nezkaldo_compare::vectors::{self, Party};
-use std::collections::BTreeMap;
 
 /// f33 is an item, f34 a predicate of two items, f35 a truth value; v1 is an item, v2 a
 /// truth value.
 const DECLARATIONS: [u32; 21] = [1, 3, 2, 0, 2, 0, 0, 0, 0, 1, 0, 0, 1, 0, 0, 1, 0, 1, 2, 1, 0];
 
-const ENOUGH: [usize; 3] = [MAX_BYTES, MAX_WORDS, SETS];
+const ENOUGH: [usize; 3] = [MAX_BYTES, MAX_WORDS, MAX_SETS];
 
 /// Number and record, (0, 0) where a job is written. A short text goes to both readers.
 fn answer_to(declarations: &[u8], text: &[u8]) -> (u64, u64) {
@@ -54,7 +50,8 @@ fn refusals_come_in_order() {
     assert_eq!(answer_to(&all, text), (2, 0));
     assert_eq!(answer_to(&with(&[(1, 65), bad_link]), text), (3, 0));
     assert_eq!(answer_to(&with(&[(1, 64), bad_link]), text), (1, 0));
-    let short = call(&exact_read, &with(&[bad_link]), text, [MAX_BYTES - 1, MAX_WORDS, SETS], 1);
+    let short =
+        call(&exact_read, &with(&[bad_link]), text, [MAX_BYTES - 1, MAX_WORDS, MAX_SETS], 1);
     assert_eq!(short.0, Refusal::whole(Reason::Area).packed());
     assert_eq!(answer_to(&with(&[bad_link, bad_sort, bad_claim]), text), (5, 1));
     assert_eq!(answer_to(&with(&[bad_sort, bad_claim]), text), (6, 2));
@@ -166,9 +163,9 @@ fn counts_and_sorts() {
 fn areas_are_cleared() {
     let declarations = to_bytes(&DECLARATIONS);
     for [out, words, sets] in [
-        [MAX_BYTES - 1, MAX_WORDS, SETS],
-        [MAX_BYTES, MAX_WORDS - 1, SETS],
-        [MAX_BYTES, MAX_WORDS, SETS - 1],
+        [MAX_BYTES - 1, MAX_WORDS, MAX_SETS],
+        [MAX_BYTES, MAX_WORDS - 1, MAX_SETS],
+        [MAX_BYTES, MAX_WORDS, MAX_SETS - 1],
         [0, 0, 0],
     ] {
         let (mut out, mut words, mut sets) = (vec![7; out], vec![7; words], vec![7; sets]);
@@ -178,7 +175,7 @@ fn areas_are_cleared() {
         assert!(words.iter().all(|&word| word == 0) && sets.iter().all(|&set| set == 0));
     }
     let (mut out, mut words, mut sets) =
-        (vec![7; MAX_BYTES + 3], vec![7; MAX_WORDS + 1], vec![7; SETS + 2]);
+        (vec![7; MAX_BYTES + 3], vec![7; MAX_WORDS + 1], vec![7; MAX_SETS + 2]);
     let length = read(&declarations, b"(not v2)", &mut out, &mut words, &mut sets).unwrap();
     assert_eq!(out[..length], job(&declarations, b"(not v2)").unwrap());
     assert!(out[length..].iter().all(|&byte| byte == 0));
@@ -254,39 +251,4 @@ fn every_short_text() {
             }
         }
     }
-}
-
-/// Both readers, and the library's where it is there, are held to the vectors of Req 01;
-/// the texts there have every number.
-#[test]
-fn vectors_of_the_request() {
-    with_stack(hold_to_vectors);
-}
-
-fn hold_to_vectors() {
-    let text = include_str!("../../vectors/req01.txt");
-    let party = |name, read, longest_text| Party {
-        name,
-        check: &exact,
-        expand: &exact_expand,
-        read,
-        longest_text,
-    };
-    let mut parties = vec![
-        party("Rust", &exact_read as Reader, usize::MAX),
-        party("the plain reading", &plain_read, 2_000),
-    ];
-    match ffi::library() {
-        Some(library) => parties.push(party("the library", library.read, usize::MAX)),
-        None => eprintln!("no proved library in this build: not held to the vectors"),
-    }
-    let report = vectors::run(text, &BTreeMap::new(), &parties);
-    assert!(report.agrees(), "{report}");
-    assert_eq!(report.cases, 311);
-    // Those that lend short areas are among them.
-    assert_eq!(text.matches(" = refused 4 0\n").count(), 5);
-    for ((party, _), count) in report.answered {
-        assert!(count == 311 || party == "the plain reading", "{party}: {count}");
-    }
-    assert_eq!(vectors::refusals(text), [1, 2, 3, 4, 5, 6, 8, 16, 18, 19, 20]);
 }

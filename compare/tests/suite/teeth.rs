@@ -1,6 +1,7 @@
 //! The comparison notices every single fault, by the ordinary files alone.
 
 use crate::{exact, exact_expand, exact_read};
+use nezkaldo_compare::bundle::MAX_SETS;
 use nezkaldo_compare::compare::{self, Checkers};
 use nezkaldo_compare::eval::claim_holds;
 use nezkaldo_compare::fault::Fault;
@@ -56,7 +57,7 @@ fn unsound_faults_let_false_claims_through() {
         let broken = broken_checker(fault);
         let found = (0..40_000).any(|index| {
             let file = case(SEED, index).bytes;
-            let mut free = vec![0; 2048];
+            let mut free = vec![0; MAX_SETS];
             if broken(&file, &mut free) != 0 || exact(&file, &mut free) == 0 {
                 return false;
             }

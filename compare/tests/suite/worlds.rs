@@ -1,6 +1,6 @@
 //! What is accepted holds: claims in all small worlds, steps in random ones.
 
-use nezkaldo_compare::bundle::to_bytes;
+use nezkaldo_compare::bundle::{MAX_SETS, to_bytes};
 use nezkaldo_compare::eval::{claim_holds, steps_hold};
 use nezkaldo_compare::expand::written;
 use nezkaldo_compare::generate::derive::Care;
@@ -10,10 +10,9 @@ use nezkaldo_compare::naive;
 use nezkaldo_compare::rng::Rng;
 
 const SEED: u64 = 11;
-const AREA: usize = 1024;
 
 fn holds(file: &[u8], index: u64) -> Option<bool> {
-    let plain = naive::load(file, AREA).ok()?;
+    let plain = naive::load(file, MAX_SETS).ok()?;
     let mut rng = Rng::for_file(SEED, index);
     let tested =
         claim_holds(&plain, 600, &mut rng).unwrap_or_else(|text| panic!("file {index}: {text}"));
@@ -48,9 +47,10 @@ fn large_derivations_are_accepted_and_hold() {
             large::deep_contexts(rng(), 256, 300),
             large::long_lists(rng(), 600, 60),
             large::many_quantifiers(rng(), 32, 600),
+            large::wide_quantifiers(rng(), 128),
             large::random(rng(), Care::Full),
         ] {
-            assert!(naive::load(&to_bytes(&words), AREA).is_ok());
+            assert!(naive::load(&to_bytes(&words), MAX_SETS).is_ok());
             assert!(holds(&to_bytes(&words), index).is_some());
         }
     }

@@ -2,9 +2,11 @@
 
 use crate::exact;
 use nezkaldo_compare::answer::{Reason, Refusal};
-use nezkaldo_compare::bundle::{LEFT, MAX_BYTES, MAX_WORDS, RIGHT, Section, counts_of, to_bytes};
+use nezkaldo_compare::bundle::{
+    LEFT, MAX_BYTES, MAX_SETS, MAX_WORDS, RIGHT, Section, counts_of, to_bytes,
+};
 use nezkaldo_compare::compare_writer::misfit;
-use nezkaldo_compare::expand::{SETS, expand, written};
+use nezkaldo_compare::expand::{expand, written};
 use nezkaldo_compare::generate::builder::{Builder, FOR_ALL, ITEM, TRUTH};
 use nezkaldo_compare::generate::{examples, jobs, limits};
 use nezkaldo_compare::rng::Rng;
@@ -58,9 +60,9 @@ fn refusals_come_in_order() {
 fn short_areas_are_refused_and_cleared() {
     let job = to_bytes(examples::JOB);
     for [out, words, sets] in [
-        [MAX_BYTES - 1, MAX_WORDS, SETS],
-        [MAX_BYTES, MAX_WORDS - 1, SETS],
-        [MAX_BYTES, MAX_WORDS, SETS - 1],
+        [MAX_BYTES - 1, MAX_WORDS, MAX_SETS],
+        [MAX_BYTES, MAX_WORDS - 1, MAX_SETS],
+        [MAX_BYTES, MAX_WORDS, MAX_SETS - 1],
         [0, 0, 0],
     ] {
         let (mut out, mut words, mut sets) = (vec![7; out], vec![7; words], vec![7; sets]);
