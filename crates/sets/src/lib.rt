@@ -105,8 +105,8 @@ pub fn clear(area: &mut [u64], at: usize, n: usize)
     clear_words(area, at + 1, n - 1);
 }
 
-// The loop of `unite`.
-fn unite_words(area: &mut [u64], to: usize, from: usize, n: usize)
+// The same as `unite`, and its loop: for lists of many links, where the next union waits for this one, the loop alone is faster.
+pub fn unite_words(area: &mut [u64], to: usize, from: usize, n: usize)
     requires { ⌜ (from + n ≤ to) × (to + n ≤ length (now area)) ⌝ }
     ensures { λ _. ⌜ now (area .exit) ≡ united (now (area .entry)) to from n ⌝ }
 {

@@ -41,6 +41,20 @@ pub fn unite_term(area: &mut [u64], n: usize, t: usize, at: usize, i: usize)
     sets::unite(area, at, n * (i - 1), n);
 }
 
+// The same for a term far in a list.
+fn unite_far(area: &mut [u64], n: usize, t: usize, at: usize, i: usize)
+    requires { ⌜ SetRoom (now area) n t at ⌝ }
+    ensures { λ _. ⌜ Put (now (area .entry)) (now (area .exit)) n at (λ x. member (now (area .entry)) at n x || setBelow (now (area .entry)) n t i x) ⌝ }
+{
+    if i == 0 {
+        return;
+    }
+    if i >= t {
+        return;
+    }
+    sets::unite_words(area, at, n * (i - 1), n);
+}
+
 // Adds the sets of the terms of a list, one by one.
 fn unite_each(file: &[u8], b: Bundle, area: &mut [u64], n: usize, t: usize, at: usize, list: usize)
     requires { ⌜ Whole (now file) b × SetRoom (now area) n t at ⌝ }
@@ -254,7 +268,7 @@ fn unite_new(
     let mut i = start;
     while is_new(marks, i) {
         let term = link_field(file, b, i, 0);
-        unite_term(area, n, t, at, term);
+        unite_far(area, n, t, at, term);
         marks[i] = MET;
         i = next_link(file, b, i);
     }

@@ -32,8 +32,8 @@ is-new-requires c κs = omega (arith, c .before .before .before .before .before 
 link-field-requires : tie.Need-link-field-requires Inv-loop μ-loop
 link-field-requires c κs = search needs
 
-unite-term-requires : tie.Need-unite-term-requires Inv-loop μ-loop
-unite-term-requires c κs = let a = c .before .before .before .before .before .before .before .before .before .args in
+unite-far-requires : tie.Need-unite-far-requires Inv-loop μ-loop
+unite-far-requires c κs = let a = c .before .before .before .before .before .before .before .before .before .args in
     room-kept (a .area .now) (c .before .before .before .before .before .loop .area) (a .n) (a .t) (a .at)
     (c .before .before .before .before .before .before .before .before .before .pre .1) (c .before .before .before .before .before .loop .inv .1 .kept)
 
@@ -75,15 +75,15 @@ loop-again c =
     ∙ c .before .before .before .before .before .before .if1 .taken) in (
       walk-le (a .file .now) (a .b) (l .i) (c .next-link .result) (c .next-link .ensures),
       record {
-        kept = kept-trans (a .area .now) (l .area) (c .before .before .before .unite-term .last .0) (a .n) (a .at) (l .inv .1 .kept)
-            (c .before .before .before .unite-term .ensures .kept);
+        kept = kept-trans (a .area .now) (l .area) (c .before .before .before .unite-far .last .0) (a .n) (a .at) (l .inv .1 .kept)
+            (c .before .before .before .unite-far .ensures .kept);
         members = adding-turn (a .area .now) (a .n) (a .t) (a .at)
             (c .before .before .before .before .before .before .before .before .before .before .before .before .before .pre .1) (items b (a .start)) (l .area)
-            (c .before .before .before .unite-term .last .0) (items b (l .i)) (items b (c .next-link .result))
+            (c .before .before .before .unite-far .last .0) (items b (l .i)) (items b (c .next-link .result))
             (c .before .before .before .before .before .link-field .result) (l .inv .1 .kept) (l .inv .1 .members)
             (walk-cons (a .file .now) (a .b) (l .i) (c .before .before .before .before .before .link-field .result) (c .next-link .result) some (l .inv .0)
             (c .before .before .before .before .before .link-field .ensures) (c .next-link .ensures))
-            (c .before .before .before .unite-term .ensures);
+            (c .before .before .before .unite-far .ensures);
       },
       fewer-on (a .marks .now) (l .marks) (l .i) 1 (l .inv .2)
           (omega (
@@ -112,7 +112,7 @@ unite-new-spec =
     loop-holds
     is-new-requires
     link-field-requires
-    unite-term-requires
+    unite-far-requires
     mul-marks
     slice-write-marks
     next-link-requires
