@@ -160,7 +160,8 @@ pub fn free_sets(file: &[u8], b: Bundle, area: &mut [u64], n: usize)
     sets::clear(area, end, area.len() - end);
 }
 
-// The words that a file's sets take while it is checked: as many as its variables ask for. Most files get by with one.
+// The words that a file's sets take while it is checked: one where that is enough, as it is for most files. Of two numbers the compiler knows more than of
+// many.
 pub fn words_for(variables: usize) -> usize
     requires { ⌜ variables ≤ limits .variables ⌝ }
     ensures { λ r. ⌜ (1 ≤ r) × (r ≤ setWords) × (variables ≤ 64 * r) ⌝ }
@@ -168,5 +169,5 @@ pub fn words_for(variables: usize) -> usize
     if variables <= 64 {
         return 1;
     }
-    (variables + 63) / 64
+    Bundle::SET_WORDS
 }

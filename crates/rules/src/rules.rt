@@ -35,6 +35,7 @@ use premises::all_prove;
 use premises::step_carries;
 use premises::taken_field;
 use sets::lowest_bit;
+use sets::without_bit;
 
 // ---- REFL
 
@@ -207,7 +208,7 @@ fn free_in_image(b: Bundle, area: &[u64], n: usize, image: Image, x: usize, y: u
 }
 
 // Whether y is free in the image of a variable of one word of a set. The bits of the word are the variables from base + 1 on, of which only those that
-// there are count.
+// there are count. The lowest bit of what is left is taken out at each turn, so there are at most 64.
 fn word_hits(
     b: Bundle,
     area: &[u64],
@@ -223,9 +224,13 @@ fn word_hits(
     ensures { λ r. ⌜ (let hit = hitBy (freeIn (b .terms) (now (area .entry)) n) (imageAt (b .variables) (now (images .entry)) context) y in
         (r ≡ false → WordApart word base (b .variables) hit) × (r ≡ true → WordHit word base (b .variables) hit)) ⌝ }
 {
-    let mut j = 0;
-    while j < 64 {
-        let i = lowest_bit(word, j);
+    let mut x = word;
+    let mut left = 64usize;
+    while left != 0 {
+        if x == 0 {
+            return false;
+        }
+        let i = lowest_bit(x, 0);
         if i >= 64 {
             return false;
         }
@@ -237,7 +242,8 @@ fn word_hits(
         if free_in_image(b, area, n, image, z, y) {
             return true;
         }
-        j = i + 1;
+        x = without_bit(x, i);
+        left -= 1;
     }
     false
 }

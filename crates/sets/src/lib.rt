@@ -21,7 +21,7 @@ fn with_bit(x: u64, k: usize) -> u64
     x | (1u64 << k)
 }
 
-fn without_bit(x: u64, k: usize) -> u64
+pub fn without_bit(x: u64, k: usize) -> u64
     requires { ⌜ k < 64 ⌝ }
     ensures { λ r. ⌜ r ≡ withoutBit x k ⌝ }
 {
