@@ -180,7 +180,7 @@ read-number f text out words sets short = go (reading f text out words sets .ans
 
 fits-word : (a : Reply) → ((n : ℕ) → a ≡ Written n → n ≤ bytesOf limits) → ((n i : ℕ) → a ≡ Denied n i → (n ≤ 20) × (i ≤ 9223372036854775807))
     → packedReply a ≤ 18446744073709551615
-unfolding packedReply
+unfolding packedReply headerWords
 fits-word (Written n) short small = omega (arith, short n refl)
 fits-word (Denied n i) short small = omega (arith, small n i refl .0, small n i refl .1)
 
