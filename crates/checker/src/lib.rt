@@ -82,7 +82,30 @@ fn late_fault_in(
     }
 }
 
-// The same with room of its own, of one of four sizes. The room is cleared first, so a file with few variables and contexts gets little.
+// The same with room of its own, for files with many variables. Two places call this: so the compiler keeps it, and its room, apart, and no other file pays
+// for so much stack.
+fn late_fault_wide(file: &[u8], b: Bundle, sorts: &[usize], free: &[u64], n: usize) -> Fault
+    requires { ⌜ Whole (now file) b × Sorted (now file) b (now sorts) × FreeSets (now free) n (bundleAt (now file) b) × (n ≤ setWords) × (b .variables ≤ 64
+        * n) ⌝ }
+    ensures { λ r. ⌜ r ≡ lateFault (bundleAt (now (file .entry)) b) ⌝ }
+{
+    if b.contexts < 8 {
+        let mut few_images = [0u16; Bundle::VARIABLES * 8];
+        let mut few_moved = [0u64; Bundle::SET_WORDS * 8];
+        return late_fault_in(file, b, sorts, free, n, &mut few_images, &mut few_moved);
+    }
+    if b.contexts < 32 {
+        let mut some_images = [0u16; Bundle::VARIABLES * 32];
+        let mut some_moved = [0u64; Bundle::SET_WORDS * 32];
+        return late_fault_in(file, b, sorts, free, n, &mut some_images, &mut some_moved);
+    }
+    let mut images = [0u16; Bundle::VARIABLES * (Bundle::CONTEXTS + 1)];
+    let mut moved = [0u64; Bundle::SET_WORDS * (Bundle::CONTEXTS + 1)];
+    late_fault_in(file, b, sorts, free, n, &mut images, &mut moved)
+}
+
+// The same with room of one of three sizes, the last for 64 variables in all contexts, or as above. The room is cleared first, so a file with few variables
+// and contexts gets little.
 fn late_fault(file: &[u8], b: Bundle, sorts: &[usize], free: &[u64], n: usize) -> Fault
     requires { ⌜ Whole (now file) b × Sorted (now file) b (now sorts) × FreeSets (now free) n (bundleAt (now file) b) × (n ≤ setWords) × (b .variables ≤ 64
         * n) ⌝ }
@@ -101,14 +124,15 @@ fn late_fault(file: &[u8], b: Bundle, sorts: &[usize], free: &[u64], n: usize) -
         let mut some_moved = [0u64; 257];
         return late_fault_in(file, b, sorts, free, n, &mut some_images, &mut some_moved);
     }
-    if (places <= 16448) & (words <= 257) {
-        let mut more_images = [0u16; 16448];
-        let mut more_moved = [0u64; 257];
-        return late_fault_in(file, b, sorts, free, n, &mut more_images, &mut more_moved);
+    if places > 16448 {
+        return late_fault_wide(file, b, sorts, free, n);
     }
-    let mut images = [0u16; Bundle::VARIABLES * (Bundle::CONTEXTS + 1)];
-    let mut moved = [0u64; Bundle::SET_WORDS * (Bundle::CONTEXTS + 1)];
-    late_fault_in(file, b, sorts, free, n, &mut images, &mut moved)
+    if words > 257 {
+        return late_fault_wide(file, b, sorts, free, n);
+    }
+    let mut more_images = [0u16; 16448];
+    let mut more_moved = [0u64; 257];
+    late_fault_in(file, b, sorts, free, n, &mut more_images, &mut more_moved)
 }
 
 // What is wrong past the header, where the sorts of all terms are noted; number 0 where nothing is: the area then holds the free sets. While the file is

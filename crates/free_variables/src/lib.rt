@@ -120,7 +120,30 @@ fn free_terms(
     }
 }
 
-// The same, with room for the unions of the lists, of one of four sizes: small files ask for little room, since all of it is cleared.
+// The same, with room for the unions of the lists, for files with many variables. Two places call this: so the compiler keeps it, and its room, apart.
+fn fitting_wide(file: &[u8], b: Bundle, area: &mut [u64], n: usize)
+    requires { ⌜ Whole (now file) b × (1 ≤ n) × (n ≤ setWords) × (n * b .terms ≤ length (now area)) × (b .variables ≤ 64 * n) ⌝ }
+    ensures { λ _. ⌜ (length (now (area .exit)) ≡ length (now (area .entry)))
+        × SetsBelow (now (area .exit)) n (b .terms + 1) (bundleAt (now (file .entry)) b) ⌝ }
+{
+    if b.links <= 512 {
+        let mut few_lists = [0u64; Bundle::SET_WORDS * 513];
+        let mut few_marks = [0u16; 513];
+        free_terms(file, b, area, n, &mut few_lists, &mut few_marks);
+        return;
+    }
+    if b.links <= 1024 {
+        let mut some_lists = [0u64; Bundle::SET_WORDS * 1025];
+        let mut some_marks = [0u16; 1025];
+        free_terms(file, b, area, n, &mut some_lists, &mut some_marks);
+        return;
+    }
+    let mut lists = [0u64; Bundle::SET_WORDS * (Bundle::LINKS + 1)];
+    let mut marks = [0u16; Bundle::LINKS + 1];
+    free_terms(file, b, area, n, &mut lists, &mut marks);
+}
+
+// The same with room of one of three sizes, or as above: small files ask for little room, since all of it is cleared.
 fn fitting(file: &[u8], b: Bundle, area: &mut [u64], n: usize)
     requires { ⌜ Whole (now file) b × (1 ≤ n) × (n ≤ setWords) × (n * b .terms ≤ length (now area)) × (b .variables ≤ 64 * n) ⌝ }
     ensures { λ _. ⌜ (length (now (area .exit)) ≡ length (now (area .entry)))
@@ -139,15 +162,17 @@ fn fitting(file: &[u8], b: Bundle, area: &mut [u64], n: usize)
         free_terms(file, b, area, n, &mut some_lists, &mut some_marks);
         return;
     }
+    if n > 1 {
+        fitting_wide(file, b, area, n);
+        return;
+    }
     if words <= 2049 {
         let mut more_lists = [0u64; 2049];
         let mut more_marks = [0u16; 2049];
         free_terms(file, b, area, n, &mut more_lists, &mut more_marks);
         return;
     }
-    let mut lists = [0u64; Bundle::SET_WORDS * (Bundle::LINKS + 1)];
-    let mut marks = [0u16; Bundle::LINKS + 1];
-    free_terms(file, b, area, n, &mut lists, &mut marks);
+    fitting_wide(file, b, area, n);
 }
 
 // Writes the free sets of all terms, n words each, and zeros after them.

@@ -1,47 +1,16 @@
--- `late_fault` meets its contract: zeros are what is known of the empty context.
+-- `late_fault` meets its contract: each room is long enough.
 use Prim.Native.Nat.{ℕ, _+_, _*_, _≤_}
 use native.Mathlib.Omega.{arith}
-use native.Mathlib.Nat.{mul-le-mul-right}
 use mathlib.Core.Bool.{true, _&&_}
 use mathlib.Core.Path.{_≡_}
-use mathlib.Core.List.{List}
 use lib.Dec.{leb}
-use lib.ListN.{length, replicate, length-replicate}
 use borrow.Author.Tests.{leb-true}
-use Rattle.bundle.specs.declared.Bundle.{Bundle as Counts}
-use Rattle.bundle.specs.Limits.{limits, setWords, Within}
-use Rattle.bundle.specs.File.{Whole, bundleAt}
-use Rattle.bundle.proofs.Fields.{variables-length}
+use Rattle.bundle.specs.Limits.{limits}
 use Rattle.logic.proofs.Tests.{and-left, and-right}
-use Rattle.images.specs.ContextRows.{Images, MovedSets}
-use Rattle.images.proofs.ContextRows.{images-none, moved-none}
+use Rattle.checker.proofs.Rooms.{asks, places-in, words-in}
 use borrow.Author.Needs.{needs}
 use Rattle.checker.proofs.late_fault.Statement.{statement}
 use Rattle.checker.proofs.late_fault.Tie as tie
-
--- a room of p places and q words holds what is known of the empty context, and has a row and a set for each context
-module _ (f : List ℕ) (c : Counts) (n p q : ℕ) {A B : Type 0} (whole : Whole f c) (sorts : A) (free : B) (bits : c .variables ≤ 64 * n)
-    (row : c .variables * (c .contexts + 1) ≤ p) (set : n * (c .contexts + 1) ≤ q) where
-  asks : Whole f c × A × B × (c .variables ≤ 64 * n) × (c .variables * (c .contexts + 1) ≤ length {A = ℕ} (replicate p 0))
-      × (n * (c .contexts + 1) ≤ length {A = ℕ} (replicate q 0)) × Images (bundleAt f c) (replicate p 0) 1 × MovedSets (bundleAt f c) (replicate q 0) n 1
-  asks = (
-    whole,
-    sorts,
-    free,
-    bits,
-    omega (arith, length-replicate {A = ℕ} p 0),
-    omega (arith, length-replicate {A = ℕ} q 0),
-    images-none (bundleAt f c) p (rw (variables-length f c) (omega arith)),
-    moved-none (bundleAt f c) n q (omega arith),
-  )
-
--- so much suffices for any file
-module _ (c : Counts) (n : ℕ) (within : Within c) (words : n ≤ setWords) where
-  most-places : c .variables * (c .contexts + 1) ≤ limits .variables * (limits .contexts + 1)
-  most-places = omega (arith, mul-le-mul-right (c .contexts + 1) (within .variables), within .contexts)
-
-  most-words : n * (c .contexts + 1) ≤ setWords * (limits .contexts + 1)
-  most-words = omega (arith, mul-le-mul-right (c .contexts + 1) words, within .contexts)
 
 -- what the test of a room says
 module _ (places words p q : ℕ) (fits : (leb places p && leb words q) ≡ true) where
@@ -58,13 +27,13 @@ mul-places : tie.Need-mul-places
 mul-places c =
     let a = c .before .before .before .before .before .args in
     let p = c .before .before .before .before .before .pre in
-    omega (arith, most-places (a .b) (a .n) (p .0 .within) (p .3))
+    omega (arith, places-in (a .b) (a .n) (limits .contexts + 1) (p .0 .within) (p .3) (omega (arith, p .0 .within .contexts)))
 
 mul-words : tie.Need-mul-words
 mul-words c =
     let a = c .before .before .before .before .before .args in
     let p = c .before .before .before .before .before .pre in
-    omega (arith, most-words (a .b) (a .n) (p .0 .within) (p .3))
+    omega (arith, words-in (a .b) (a .n) (limits .contexts + 1) (p .0 .within) (p .3) (omega (arith, p .0 .within .contexts)))
 
 slice-aggregate-late-fault-in : tie.Need-slice-aggregate-late-fault-in
 slice-aggregate-late-fault-in c = search needs
@@ -102,6 +71,18 @@ late-fault-in-requires-2 c κs =
 returns-2 : tie.Need-returns-2
 returns-2 c = c .before .before .late-fault-in2 .ensures
 
+late-fault-wide-requires : tie.Need-late-fault-wide-requires
+late-fault-wide-requires c κs = search needs
+
+returns-3 : tie.Need-returns-3
+returns-3 c = c .late-fault-wide .ensures
+
+late-fault-wide-requires-2 : tie.Need-late-fault-wide-requires-2
+late-fault-wide-requires-2 c κs = search needs
+
+returns-4 : tie.Need-returns-4
+returns-4 c = c .late-fault-wide2 .ensures
+
 slice-aggregate-late-fault-in-5 : tie.Need-slice-aggregate-late-fault-in-5
 slice-aggregate-late-fault-in-5 c = search needs
 
@@ -110,31 +91,12 @@ slice-aggregate-late-fault-in-6 c = search needs
 
 late-fault-in-requires-3 : tie.Need-late-fault-in-requires-3
 late-fault-in-requires-3 c κs =
-    let a = c .before .before .before .before .before .before .before .before .before .before .args in
-    let p = c .before .before .before .before .before .before .before .before .before .before .pre in
-    let places = a .b .variables * (a .b .contexts + 1) in
-    let words = a .n * (a .b .contexts + 1) in
-    let fits = c .before .before .if3 .taken in
-    asks (a .file .now) (a .b) (a .n) 16448 257 (p .0) (p .1) (p .2) (p .4) (row-fits places words 16448 257 fits) (set-fits places words 16448 257 fits)
+    let a = c .before .before .before .before .before .before .before .before .before .before .before .args in
+    let p = c .before .before .before .before .before .before .before .before .before .before .before .pre in
+    asks (a .file .now) (a .b) (a .n) 16448 257 (p .0) (p .1) (p .2) (p .4) (omega (arith, c .before .before .before .if3 .left)) (omega (arith, c .before .before .if4 .left))
 
-returns-3 : tie.Need-returns-3
-returns-3 c = c .before .before .late-fault-in3 .ensures
-
-slice-aggregate-late-fault-in-7 : tie.Need-slice-aggregate-late-fault-in-7
-slice-aggregate-late-fault-in-7 c = search needs
-
-slice-aggregate-late-fault-in-8 : tie.Need-slice-aggregate-late-fault-in-8
-slice-aggregate-late-fault-in-8 c = search needs
-
-late-fault-in-requires-4 : tie.Need-late-fault-in-requires-4
-late-fault-in-requires-4 c κs =
-    let a = c .before .before .before .before .before .before .before .before .before .before .args in
-    let p = c .before .before .before .before .before .before .before .before .before .before .pre in
-    asks (a .file .now) (a .b) (a .n) (limits .variables * (limits .contexts + 1)) (setWords * (limits .contexts + 1)) (p .0) (p .1) (p .2) (p .4)
-    (most-places (a .b) (a .n) (p .0 .within) (p .3)) (most-words (a .b) (a .n) (p .0 .within) (p .3))
-
-returns-4 : tie.Need-returns-4
-returns-4 c = c .before .before .late-fault-in4 .ensures
+returns-5 : tie.Need-returns-5
+returns-5 c = c .before .before .late-fault-in3 .ensures
 
 pub late-fault-spec : {M : Type 1} → statement M
 late-fault-spec =
@@ -151,11 +113,11 @@ late-fault-spec =
     slice-aggregate-late-fault-in-4
     late-fault-in-requires-2
     returns-2
+    late-fault-wide-requires
+    returns-3
+    late-fault-wide-requires-2
+    returns-4
     slice-aggregate-late-fault-in-5
     slice-aggregate-late-fault-in-6
     late-fault-in-requires-3
-    returns-3
-    slice-aggregate-late-fault-in-7
-    slice-aggregate-late-fault-in-8
-    late-fault-in-requires-4
-    returns-4)
+    returns-5)

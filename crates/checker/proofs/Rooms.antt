@@ -1,0 +1,37 @@
+-- Room for what is known of contexts: zeros are what is known of the empty context.
+--     asks                        what a room of p places and q words is asked for
+--     places-in, words-in         so much suffices for a file with fewer than m contexts
+use Prim.Native.Nat.{ℕ, _+_, _*_, _≤_, _<_}
+use native.Mathlib.Omega.{arith}
+use native.Mathlib.Nat.{mul-le-mul-left, mul-le-mul-right}
+use mathlib.Core.List.{List}
+use lib.ListN.{length, replicate, length-replicate}
+use Rattle.bundle.specs.declared.Bundle.{Bundle as Counts}
+use Rattle.bundle.specs.Limits.{limits, setWords, Within}
+use Rattle.bundle.specs.File.{Whole, bundleAt}
+use Rattle.bundle.proofs.Fields.{variables-length}
+use Rattle.images.specs.ContextRows.{Images, MovedSets}
+use Rattle.images.proofs.ContextRows.{images-none, moved-none}
+
+-- a room of p places and q words holds what is known of the empty context, and has a row and a set for each context
+module _ (f : List ℕ) (c : Counts) (n p q : ℕ) {A B : Type 0} (whole : Whole f c) (sorts : A) (free : B) (bits : c .variables ≤ 64 * n)
+    (row : c .variables * (c .contexts + 1) ≤ p) (set : n * (c .contexts + 1) ≤ q) where
+  pub asks : Whole f c × A × B × (c .variables ≤ 64 * n) × (c .variables * (c .contexts + 1) ≤ length {A = ℕ} (replicate p 0))
+      × (n * (c .contexts + 1) ≤ length {A = ℕ} (replicate q 0)) × Images (bundleAt f c) (replicate p 0) 1 × MovedSets (bundleAt f c) (replicate q 0) n 1
+  asks = (
+    whole,
+    sorts,
+    free,
+    bits,
+    omega (arith, length-replicate {A = ℕ} p 0),
+    omega (arith, length-replicate {A = ℕ} q 0),
+    images-none (bundleAt f c) p (rw (variables-length f c) (omega arith)),
+    moved-none (bundleAt f c) n q (omega arith),
+  )
+
+module _ (c : Counts) (n m : ℕ) (within : Within c) (words : n ≤ setWords) (few : c .contexts < m) where
+  pub places-in : c .variables * (c .contexts + 1) ≤ limits .variables * m
+  places-in = omega (arith, mul-le-mul-right (c .contexts + 1) (within .variables))
+
+  pub words-in : n * (c .contexts + 1) ≤ setWords * m
+  words-in = omega (arith, mul-le-mul-right (c .contexts + 1) words)
