@@ -59,12 +59,12 @@ pub fn insert(area: &mut [u64], at: usize, n: usize, v: usize)
     if v == 0 {
         return;
     }
-    let k = (v - 1) / 64;
-    if k >= n {
+    let place = (v - 1) / 64;
+    if place >= n {
         return;
     }
-    let word = with_bit(area[at + k], (v - 1) % 64);
-    area[at + k] = word;
+    let word = with_bit(area[at + place], (v - 1) % 64);
+    area[at + place] = word;
 }
 
 pub fn remove(area: &mut [u64], at: usize, n: usize, v: usize)

@@ -9,8 +9,8 @@ returns : tie.Need-returns
 unfolding changed
 returns c = rw (holds-zero (c .before .before .args .n) (c .before .before .args .v) (c .if1 .taken))
 
-sub-k : tie.Need-sub-k
-sub-k c = search needs
+sub-place : tie.Need-sub-place
+sub-place c = search needs
 
 returns-2 : tie.Need-returns-2
 unfolding changed
@@ -57,7 +57,7 @@ insert-spec =
     tie.close
     (tie.spec
     returns
-    sub-k
+    sub-place
     returns-2
     add-with-bit
     mul-with-bit
