@@ -31,13 +31,13 @@ past-free b t x past = go (freeAt b t x) refl
     go true e = absurd (omega (arith, numbers-of (length (b .variables)) x (free-known b t x e) .1))
     go false e = refl
 
-module _ (b : Bundle) (n m size : ℕ) (w v : List ℕ) (one : 1 ≤ n) (narrow : n ≤ m) (bits : length (b .variables) ≤ 64 * n)
+module _ (b : Bundle) (n m size : ℕ) (w v : List ℕ) (one : 1 ≤ n) (words-fit : n ≤ m) (bits : length (b .variables) ≤ 64 * n)
     (room : m * length (b .terms) ≤ size) (area : w ≡ freeArea b n size) (moved : Spread w v n m (length (b .terms))) where
   abbrev terms : ℕ
   terms = length (b .terms)
 
   few : n * terms ≤ m * terms
-  few = mul-le-mul-right terms narrow
+  few = mul-le-mul-right terms words-fit
 
   long : length v ≡ length (freeArea b m size)
   unfolding freeArea

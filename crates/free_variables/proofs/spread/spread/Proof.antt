@@ -21,7 +21,7 @@ pub record Partly (w v : List ℕ) (n terms t : ℕ) : Type 0 where
   pub rest : (j : ℕ) → setWords * terms ≤ j → getD v j 0 ≡ getD w j 0
 
 -- one set more
-module _ (w v u : List ℕ) (n terms t : ℕ) (narrow : n ≤ setWords) (so : Partly w v n terms t) (some : t ≡ 0 → ⊥) (one : SpreadOne v u n setWords (t - 1)) where
+module _ (w v u : List ℕ) (n terms t : ℕ) (words-fit : n ≤ setWords) (so : Partly w v n terms t) (some : t ≡ 0 → ⊥) (one : SpreadOne v u n setWords (t - 1)) where
   partly-on : Partly w u n terms (t - 1)
   partly-on = record {
     few = omega (arith, so .few);
@@ -33,7 +33,7 @@ module _ (w v u : List ℕ) (n terms t : ℕ) (narrow : n ≤ setWords) (so : Pa
     where
       go : (q : ℕ) → t - 1 ≤ q → q < terms → Dec (q ≡ t - 1) → Moved w u n setWords q
       go q up low (yes e) = rw e (record {
-        words = λ k l. one .moved .words k l ∙ so .lower (n * (t - 1) + k) (omega (arith, mul-le-mul-right (t - 1) narrow));
+        words = λ k l. one .moved .words k l ∙ so .lower (n * (t - 1) + k) (omega (arith, mul-le-mul-right (t - 1) words-fit));
         zeros = one .moved .zeros;
       })
       go q up low (no e) =

@@ -23,7 +23,7 @@ pub record Partly (w v : List ℕ) (n t k : ℕ) : Type 0 where
   pub upper : (j : ℕ) → setWords * t + setWords ≤ j → getD v j 0 ≡ getD w j 0
 
 -- one word more, which is x
-module _ (w v : List ℕ) (n t k x : ℕ) (narrow : n ≤ setWords) (room : setWords * t + setWords ≤ length w) (so : Partly w v n t k) (some : k ≡ 0 → ⊥)
+module _ (w v : List ℕ) (n t k x : ℕ) (words-fit : n ≤ setWords) (room : setWords * t + setWords ≤ length w) (so : Partly w v n t k) (some : k ≡ 0 → ⊥)
     (word : k - 1 < n → x ≡ getD w (n * t + (k - 1)) 0) (zero : n ≤ k - 1 → x ≡ 0) where
   abbrev at : ℕ
   at = setWords * t + (k - 1)
