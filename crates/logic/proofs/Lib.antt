@@ -15,6 +15,7 @@
 --     Formed           THE THEOREMS: checks 5 to 9, and 5 to 11, find nothing exactly in well-formed bundles
 --     TermNumbers      what records and contexts name are terms; what a tree says of its record
 --     Instances        THE THEOREMS: a step passes 12 to 14 exactly where it is an instance of its rule with its premises
+--     CongWalk         THE THEOREMS: CONG's test reads at most, and where it passes exactly, the links of its three lists
 --     LetSide          THE THEOREM: LET's printed side holds of every instance in a well-formed bundle
 --     Values           laws of values: domains, quantifiers, valuations; a value depends on the free variables only
 --     Images           equations of images, from what a context's record says
@@ -49,6 +50,7 @@ pub mod FreeSettled
 pub mod Formed
 pub mod TermNumbers
 pub mod Instances
+pub mod CongWalk
 pub mod LetSide
 pub mod Values
 pub mod Images

@@ -1,14 +1,15 @@
 -- The five rules as tests on record numbers, and checks 12, 13 and 14 of a step. A test whose name ends in `By` is over a reading, of which it
 -- takes what it needs; under the plain name stands the same test at the bundle's own reading.
-use Prim.Native.Nat.{ℕ, _-_}
+use Prim.Native.Nat.{ℕ, _+_, _-_}
 use mathlib.Core.Bool.{Bool, true, false, cond, not, _&&_, _||_}
-use mathlib.Core.List.{List, [], _∷_}
+use mathlib.Core.List.{List, [], _∷_, _++_}
 use lib.ListN.{length}
 use lib.Dec.{eqb, leb}
 use Rattle.bundle.specs.Bundle.{Bundle, Step, termOf, contextOf, stepOf}
 use Rattle.bundle.specs.Links.{items}
 use Rattle.bundle.specs.Lists.{numbers, each, sameList, firstOf, secondOf, single, lastOf}
 use Rattle.logic.specs.declared.Fault.{Fault}
+use Rattle.logic.specs.declared.Walk.{Walk}
 use Rattle.logic.specs.declared.Image.{Image}
 use Rattle.logic.specs.declared.Image.the-variants.{Own, Gives}
 use Rattle.logic.specs.Tests.{passed, upTo, Test, test, firstFailing, firstFault}
@@ -37,18 +38,25 @@ leftOver true [] = false
 leftOver true (p ∷ []) = true
 leftOver true (p ∷ q ∷ ps) = false
 
--- in context c, one premise for each pair of two lists, in order; and one more where `body` says so
-unfoldable pub allProveBy : (ℕ → Step) → Bool → ℕ → List ℕ → List ℕ → List ℕ → Bool
-unfolding leftOver
-allProveBy step body c [] [] ps = leftOver body ps
-allProveBy step body c [] (r ∷ rs) ps = false
-allProveBy step body c (l ∷ ls) [] ps = false
-allProveBy step body c (l ∷ ls) (r ∷ rs) [] = false
-allProveBy step body c (l ∷ ls) (r ∷ rs) (p ∷ ps) = carries (step p) c l r && allProveBy step body c ls rs ps
+-- how many links are read to see that: one, where there is a premise for the body
+unfoldable pub leftOverLinks : Bool → List ℕ → ℕ
+leftOverLinks false ps = 0
+leftOverLinks true [] = 0
+leftOverLinks true (p ∷ ps) = 1
 
-unfoldable pub allProve : Bundle → Bool → ℕ → List ℕ → List ℕ → List ℕ → Bool
-unfolding allProveBy
-allProve b = allProveBy (stepOf b)
+-- three links are read, one of each list; where they pass, the walk goes on
+abbrev pub threeThen : Bool → Walk → Walk
+threeThen good rest = record { passes = good && rest .passes; links = 3 + cond good (rest .links) 0 }
+
+-- In context c, one premise for each pair of two lists, in order; and one more where `body` says so. The walk takes each of the three lists once, an
+-- item of each at a time, and ends at the first premise that does not carry its pair, or where a list ends. It counts the links that it reads.
+unfoldable pub walkBy : (ℕ → Step) → Bool → ℕ → List ℕ → List ℕ → List ℕ → Walk
+unfolding leftOver leftOverLinks
+walkBy step body c [] [] ps = record { passes = leftOver body ps; links = leftOverLinks body ps }
+walkBy step body c [] (r ∷ rs) ps = record { passes = false; links = 0 }
+walkBy step body c (l ∷ ls) [] ps = record { passes = false; links = 0 }
+walkBy step body c (l ∷ ls) (r ∷ rs) [] = record { passes = false; links = 0 }
+walkBy step body c (l ∷ ls) (r ∷ rs) (p ∷ ps) = threeThen (carries (step p) c l r) (walkBy step body c ls rs ps)
 
 -- ---- REFL: left and right are the same term and it is settled; or left is a variable and right its image.
 
@@ -69,23 +77,40 @@ reflHolds b = reflHoldsBy (settled b) (image b) b
 
 -- ---- CONG: same symbol, premises in the step's context, one for each argument in order.
 
--- the premises carry the arguments of the one side to those of the other
-abbrev pub argumentsProve : (ℕ → Step) → Bundle → Step → Bool
-argumentsProve step b s =
-    allProveBy step false (s .context) (items b (termOf b (s .left) .b)) (items b (termOf b (s .right) .b)) (items b (s .premises))
-
--- the tests, where `proved` says whether they do
-unfoldable pub congWhere : Bool → Bundle → Step → List Bool
-congWhere proved b s =
+-- both sides are applications, of one symbol
+abbrev pub headTests : Bundle → Step → List Bool
+headTests b s =
     eqb (termOf b (s .left) .kind) 2
     ∷ eqb (termOf b (s .right) .kind) 2
     ∷ eqb (termOf b (s .left) .a) (termOf b (s .right) .a)
-    ∷ proved
     ∷ []
 
+-- the walk over the arguments of both sides and the premises
+abbrev pub argumentsWalk : (ℕ → Step) → Bundle → Step → Walk
+argumentsWalk step b s =
+    walkBy step false (s .context) (items b (termOf b (s .left) .b)) (items b (termOf b (s .right) .b)) (items b (s .premises))
+
+unfoldable pub congTestsBy : (ℕ → Step) → Bundle → Step → List Bool
+unfolding walkBy items
+congTestsBy step b s = headTests b s ++ (argumentsWalk step b s .passes ∷ [])
+
 unfoldable pub congTests : Bundle → Step → List Bool
-unfolding congWhere allProve items
-congTests b s = congWhere (argumentsProve (stepOf b) b s) b s
+unfolding congTestsBy walkBy items
+congTests b = congTestsBy (stepOf b) b
+
+-- THE WALK OF THE TEST: whether it passes, and how many links it reads: none where the sides differ without them
+unfoldable pub congWalkBy : (ℕ → Step) → Bundle → Step → Walk
+unfolding congTestsBy walkBy items passed
+congWalkBy step b s =
+    record { passes = passed (congTestsBy step b s); links = cond (passed (headTests b s)) (argumentsWalk step b s .links) 0 }
+
+unfoldable pub congWalk : Bundle → Step → Walk
+unfolding congWalkBy
+congWalk b = congWalkBy (stepOf b) b
+
+-- the lengths of its three lists together; a link that two of them share is one of each
+abbrev pub threeLengths : Bundle → Step → ℕ
+threeLengths b s = length (items b (termOf b (s .left) .b)) + length (items b (termOf b (s .right) .b)) + length (items b (s .premises))
 
 -- ---- TRANS: left to middle, middle to right, same context; the middle is settled.
 
@@ -197,8 +222,13 @@ bodyStepBy step b s = step (lastOf (items b (s .premises)))
 abbrev pub bodyStep : Bundle → Step → Step
 bodyStep b = bodyStepBy (stepOf b) b
 
+-- the walk over the bound terms, those that the context of the last premise puts in, and the premises: the same as CONG's, with one premise more
+abbrev pub boundWalk : (ℕ → Step) → Bundle → Step → Walk
+boundWalk step b s =
+    walkBy step true (s .context) (items b (termOf b (s .left) .b)) (items b (contextOf b (bodyStepBy step b s .context) .b)) (items b (s .premises))
+
 unfoldable pub letTestsBy : (ℕ → Step) → Bundle → Step → List Bool
-unfolding lastOf items sameList allProveBy
+unfolding lastOf items sameList walkBy
 letTestsBy step b s =
     eqb (termOf b (s .left) .kind) 5
     ∷ eqb (bodyStepBy step b s .left) (termOf b (s .left) .c)
@@ -206,11 +236,11 @@ letTestsBy step b s =
     ∷ eqb (contextOf b (bodyStepBy step b s .context) .kind) 2
     ∷ eqb (contextOf b (bodyStepBy step b s .context) .parent) (s .context)
     ∷ sameList (items b (contextOf b (bodyStepBy step b s .context) .a)) (items b (termOf b (s .left) .a))
-    ∷ allProveBy step true (s .context) (items b (termOf b (s .left) .b)) (items b (contextOf b (bodyStepBy step b s .context) .b)) (items b (s .premises))
+    ∷ boundWalk step b s .passes
     ∷ []
 
 unfoldable pub letTests : Bundle → Step → List Bool
-unfolding letTestsBy lastOf items sameList allProve
+unfolding letTestsBy lastOf items sameList walkBy
 letTests b = letTestsBy (stepOf b) b
 
 -- ---- the checks of a step
@@ -245,29 +275,14 @@ unfolding refersBy
 stepRefers b k = refersBy b (k - 1) (stepOf b k)
 
 -- 13: any other mismatch with its rule
--- where `proved` says whether the premises of a CONG carry its arguments
-unfoldable pub matchesWhere : Bool → Reading → Bundle → Rule → Step → Bool
-unfolding reflHoldsBy congWhere transTestsBy bindTermsBy bindContextsBy letTestsBy passed
-matchesWhere proved g b REFL s = reflHoldsBy (g .settled) (g .image) b s
-matchesWhere proved g b CONG s = passed (congWhere proved b s)
-matchesWhere proved g b TRANS s = passed (transTestsBy (g .step) b s)
-matchesWhere proved g b BIND s = passed (bindTermsBy (g .step) b s) && passed (bindContextsBy (g .step) b s)
-matchesWhere proved g b LET s = passed (letTestsBy (g .step) b s)
-matchesWhere proved g b noRule s = false
-
--- and whether they do
-unfoldable pub walkBy : (ℕ → Step) → Bundle → Rule → Step → Bool
-unfolding allProveBy items
-walkBy step b REFL s = true
-walkBy step b CONG s = argumentsProve step b s
-walkBy step b TRANS s = true
-walkBy step b BIND s = true
-walkBy step b LET s = true
-walkBy step b noRule s = true
-
 unfoldable pub matchesBy : Reading → Bundle → Rule → Step → Bool
-unfolding matchesWhere walkBy
-matchesBy g b rule s = matchesWhere (walkBy (g .step) b rule s) g b rule s
+unfolding reflHoldsBy congTestsBy transTestsBy bindTermsBy bindContextsBy letTestsBy passed
+matchesBy g b REFL s = reflHoldsBy (g .settled) (g .image) b s
+matchesBy g b CONG s = passed (congTestsBy (g .step) b s)
+matchesBy g b TRANS s = passed (transTestsBy (g .step) b s)
+matchesBy g b BIND s = passed (bindTermsBy (g .step) b s) && passed (bindContextsBy (g .step) b s)
+matchesBy g b LET s = passed (letTestsBy (g .step) b s)
+matchesBy g b noRule s = false
 
 unfoldable pub matchesAs : Bundle → Rule → Step → Bool
 unfolding matchesBy isBinder reflHolds congTests transTests bindTerms bindContexts letTests passed
@@ -296,11 +311,11 @@ unfolding sidesAs ruleOf
 sides b k = sidesAs b (ruleOf (stepOf b k .rule)) (stepOf b k)
 
 -- the tests of a step s after n others, in the order of their numbers
-abbrev pub ruleTestsWhere : Bool → Reading → Bundle → Step → List Test
-ruleTestsWhere proved g b s = test 13 (matchesWhere proved g b (ruleOf (s .rule)) s) ∷ test 14 (sidesBy g b (ruleOf (s .rule)) s) ∷ []
+abbrev pub ruleTestsBy : Reading → Bundle → Step → List Test
+ruleTestsBy g b s = test 13 (matchesBy g b (ruleOf (s .rule)) s) ∷ test 14 (sidesBy g b (ruleOf (s .rule)) s) ∷ []
 
 abbrev pub stepTestsBy : Reading → Bundle → ℕ → Step → List Test
-stepTestsBy g b n s = test 12 (refersBy b n s) ∷ ruleTestsWhere (walkBy (g .step) b (ruleOf (s .rule)) s) g b s
+stepTestsBy g b n s = test 12 (refersBy b n s) ∷ ruleTestsBy g b s
 
 unfoldable pub stepFaultBy : Reading → Bundle → ℕ → Step → ℕ
 unfolding firstFailing refersBy

@@ -11,6 +11,12 @@ pub struct Fault {
     pub record: usize,
 }
 
+// What a walk over lists of links finds: whether they pass its test, and how many links it read.
+pub struct Walk {
+    pub passes: bool,
+    pub links: usize,
+}
+
 // The signature of a symbol.
 pub enum Signature {
     // Built in: `count` arguments, each of sort `sort`, and a result of sort `result`.
