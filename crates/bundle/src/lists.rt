@@ -13,7 +13,8 @@ pub fn first_link(b: Bundle, start: usize) -> usize
     if start <= b.links { start } else { 0 }
 }
 
-fn followed(links: usize, i: usize, next: usize) -> usize
+// The link after link i, whose next is so: 0 where the list ends there.
+pub fn followed(links: usize, i: usize, next: usize) -> usize
     ensures { λ r. ⌜ r ≡ follows links i next ⌝ }
 {
     if (i < next) & (next <= links) {

@@ -1,4 +1,5 @@
 -- Earlier steps, of the file or of the bed.
+--     taken-step                            a step of the file
 --     taken-file, taken-bed, taken-none     a field of a step of the file, of the bed, of neither
 use mathlib.Core.Path.{_≡_, refl, ap, _∙_}
 use mathlib.Core.List.{List}
@@ -15,10 +16,13 @@ use Rattle.bundle.proofs.Fields.{steps-length, step-word}
 use Rattle.logic.proofs.Longer.{prefix-at}
 use Rattle.images.specs.LentReading.{bedSteps, stepIn}
 
+pub taken-step : (f : List ℕ) (c : Counts) (bed : List ℕ) (p : ℕ) → p ≤ c .steps → stepIn (bundleAt f c) bed p ≡ stepOf (bundleAt f c) p
+unfolding stepIn
+taken-step f c bed p l = prefix-at noStep (bundleAt f c .steps) _ (bedSteps bed, refl) p (rw steps-length l)
+
 module _ (f : List ℕ) (c : Counts) (bed : List ℕ) (p k : ℕ) where
   pub taken-file : p ≤ c .steps → stepField (stepIn (bundleAt f c) bed p) k ≡ stepField (stepOf (bundleAt f c) p) k
-  unfolding stepIn
-  taken-file l = ap (λ (s : Step). stepField s k) (prefix-at noStep (bundleAt f c .steps) _ (bedSteps bed, refl) p (rw steps-length l))
+  taken-file l = ap (λ (s : Step). stepField s k) (taken-step f c bed p l)
 
   module _ (over : c .steps < p) (few : k < 5) where
     past : stepIn (bundleAt f c) bed p ≡ getD (bedSteps bed) (p - c .steps - 1) noStep
