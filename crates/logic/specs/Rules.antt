@@ -227,17 +227,20 @@ abbrev pub boundWalk : (ℕ → Step) → Bundle → Step → Walk
 boundWalk step b s =
     walkBy step true (s .context) (items b (termOf b (s .left) .b)) (items b (contextOf b (bodyStepBy step b s .context) .b)) (items b (s .premises))
 
-unfoldable pub letTestsBy : (ℕ → Step) → Bundle → Step → List Bool
-unfolding lastOf items sameList walkBy
-letTestsBy step b s =
+-- the rest: left is a let, the last premise carries its body to the right side, in a context that replaces the let's variables
+abbrev pub bodyTests : (ℕ → Step) → Bundle → Step → List Bool
+bodyTests step b s =
     eqb (termOf b (s .left) .kind) 5
     ∷ eqb (bodyStepBy step b s .left) (termOf b (s .left) .c)
     ∷ eqb (bodyStepBy step b s .right) (s .right)
     ∷ eqb (contextOf b (bodyStepBy step b s .context) .kind) 2
     ∷ eqb (contextOf b (bodyStepBy step b s .context) .parent) (s .context)
     ∷ sameList (items b (contextOf b (bodyStepBy step b s .context) .a)) (items b (termOf b (s .left) .a))
-    ∷ boundWalk step b s .passes
     ∷ []
+
+unfoldable pub letTestsBy : (ℕ → Step) → Bundle → Step → List Bool
+unfolding lastOf items sameList walkBy
+letTestsBy step b s = bodyTests step b s ++ (boundWalk step b s .passes ∷ [])
 
 unfoldable pub letTests : Bundle → Step → List Bool
 unfolding letTestsBy lastOf items sameList walkBy

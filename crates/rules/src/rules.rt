@@ -1,4 +1,4 @@
-// The five rules, one function each.
+// The five rules, one function each; CONG and LET share their walk.
 ghost use mathlib.Core.Path.{_≡_};
 ghost use mathlib.Core.Bool.{true, false};
 ghost use Prim.Native.Nat.{_+_, _*_, _≤_};
@@ -6,12 +6,14 @@ ghost use lib.ListN.{length};
 ghost use Rattle.bundle.specs.Limits.{limits};
 ghost use Rattle.bundle.specs.File.{Whole, bundleAt};
 ghost use Rattle.logic.specs.Tests.{passed};
-ghost use Rattle.logic.specs.Rules.{isImage, reflHoldsBy, congWhere, transTestsBy, transSideBy, bindTermsBy, bindContextsBy, freeInImageBy};
+ghost use Rattle.logic.specs.Rules.{isImage, reflHoldsBy, congWalkBy, transTestsBy, transSideBy, bindTermsBy, bindContextsBy, freeInImageBy};
 ghost use Rattle.logic.specs.Rules.{bindSidesBy, letTestsBy};
 ghost use Rattle.rules.specs.StepWords.{asStep};
+ghost use Rattle.rules.specs.WalkLists.{CongLists, LetLists};
 ghost use Rattle.rules.specs.WordSides.{hitBy, WordApart, WordHit};
 ghost use Rattle.images.specs.ContextRows.{imageAt};
 ghost use Rattle.images.specs.LentReading.{Lent, freeIn, stepIn, imagesIn, allSettledIn};
+use super::Lists;
 use super::StepWords;
 use bundle::Bundle;
 use bundle::lists::same_list;
@@ -26,14 +28,16 @@ use images::images::is_free;
 use images::images::is_settled;
 use images::images::is_variable;
 use logic::Image;
+use logic::Walk;
 use logic::kinds::APPLICATION;
 use logic::kinds::FIXES;
 use logic::kinds::LET;
 use logic::kinds::REPLACES;
 use logic::kinds::is_binder;
-use premises::all_prove;
+use logic::rules::CONG;
 use premises::step_carries;
 use premises::taken_field;
+use premises::walk;
 use sets::lowest_bit;
 use sets::without_bit;
 
@@ -76,25 +80,6 @@ pub fn refl_holds(
     let variable = term_field(file, b, left, 1);
     let image = image_of(b, images, context, variable);
     is_image(image, left, right)
-}
-
-// ---- CONG
-
-// The sides: applications of one symbol. `proved` says whether the premises carry the arguments.
-pub fn cong_holds(file: &[u8], b: Bundle, s: StepWords, proved: bool) -> bool
-    requires { ⌜ Whole (now file) b ⌝ }
-    ensures { λ r. ⌜ r ≡ passed (congWhere proved (bundleAt (now (file .entry)) b) (asStep s)) ⌝ }
-{
-    let left = s.left;
-    let right = s.right;
-    let left_kind = term_field(file, b, left, 0);
-    let right_kind = term_field(file, b, right, 0);
-    let left_symbol = term_field(file, b, left, 1);
-    let right_symbol = term_field(file, b, right, 1);
-    (left_kind == APPLICATION)
-        & (right_kind == APPLICATION)
-        & (left_symbol == right_symbol)
-        & proved
 }
 
 // ---- TRANS
@@ -292,12 +277,38 @@ pub fn bind_sides(
     true
 }
 
-// ---- LET
+// ---- CONG and LET
 
-pub fn let_holds(file: &[u8], b: Bundle, bed: &[u32], s: StepWords) -> bool
+// CONG: the arguments. The rest: both sides are applications, of one symbol.
+fn cong_lists(file: &[u8], b: Bundle, s: StepWords) -> Lists
     requires { ⌜ Whole (now file) b ⌝ }
     ensures { λ r. ⌜ (let bundle = bundleAt (now (file .entry)) b in
-        r ≡ passed (letTestsBy (stepIn bundle (now (bed .entry))) bundle (asStep s))) ⌝ }
+        CongLists bundle (asStep s) r) ⌝ }
+{
+    let left = s.left;
+    let right = s.right;
+    let left_kind = term_field(file, b, left, 0);
+    let right_kind = term_field(file, b, right, 0);
+    let left_symbol = term_field(file, b, left, 1);
+    let right_symbol = term_field(file, b, right, 1);
+    let lefts = term_field(file, b, left, 2);
+    let rights = term_field(file, b, right, 2);
+    let good = (left_kind == APPLICATION)
+        & (right_kind == APPLICATION)
+        & (left_symbol == right_symbol);
+    Lists {
+        good,
+        body: false,
+        lefts,
+        rights,
+    }
+}
+
+// LET: the bound terms, and those that the last premise's context puts in. The rest is of the body, and of that context.
+fn let_lists(file: &[u8], b: Bundle, bed: &[u32], s: StepWords) -> Lists
+    requires { ⌜ Whole (now file) b ⌝ }
+    ensures { λ r. ⌜ (let bundle = bundleAt (now (file .entry)) b in
+        LetLists (stepIn bundle (now (bed .entry))) bundle (asStep s) r) ⌝ }
 {
     let context = s.context;
     let left = s.left;
@@ -316,12 +327,52 @@ pub fn let_holds(file: &[u8], b: Bundle, bed: &[u32], s: StepWords) -> bool
     let terms = context_field(file, b, inner, 2);
     let parent = context_field(file, b, inner, 3);
     let same = same_list(file, b, replaced, variables);
-    let proved = all_prove(file, b, bed, true, context, bound, terms, premises);
-    (kind == LET)
+    let good = (kind == LET)
         & (from == body)
         & (to == right)
         & (inner_kind == REPLACES)
         & (parent == context)
-        & same
-        & proved
+        & same;
+    Lists {
+        good,
+        body: true,
+        lefts: bound,
+        rights: terms,
+    }
+}
+
+// The lists of a CONG, or else of a LET.
+fn step_lists(file: &[u8], b: Bundle, bed: &[u32], s: StepWords) -> Lists
+    requires { ⌜ Whole (now file) b ⌝ }
+    ensures { λ r. ⌜ (let bundle = bundleAt (now (file .entry)) b in
+        s .rule ≡ 2 → CongLists bundle (asStep s) r) ⌝ }
+    ensures { λ r. ⌜ (let bundle = bundleAt (now (file .entry)) b in
+        (s .rule ≡ 2 → ⊥) → LetLists (stepIn bundle (now (bed .entry))) bundle (asStep s) r) ⌝ }
+{
+    let rule = s.rule;
+    if rule == CONG {
+        return cong_lists(file, b, s);
+    }
+    let_lists(file, b, bed, s)
+}
+
+// The test of a CONG, with the links that its walk read, or else that of a LET. One place calls the walk: so the compiler puts it where the steps are judged, and
+// a step with short lists pays for no call.
+pub fn step_walk(file: &[u8], b: Bundle, bed: &[u32], s: StepWords) -> Walk
+    requires { ⌜ Whole (now file) b ⌝ }
+    ensures { λ r. ⌜ (let bundle = bundleAt (now (file .entry)) b in
+        s .rule ≡ 2 → r ≡ congWalkBy (stepIn bundle (now (bed .entry))) bundle (asStep s)) ⌝ }
+    ensures { λ r. ⌜ (let bundle = bundleAt (now (file .entry)) b in
+        (s .rule ≡ 2 → ⊥) → r .passes ≡ passed (letTestsBy (stepIn bundle (now (bed .entry))) bundle (asStep s))) ⌝ }
+{
+    let context = s.context;
+    let premises = s.premises;
+    let lists = step_lists(file, b, bed, s);
+    if !lists.good {
+        return Walk {
+            passes: false,
+            links: 0,
+        };
+    }
+    walk(file, b, bed, lists.body, context, lists.lefts, lists.rights, premises)
 }

@@ -1,9 +1,9 @@
--- `rules::let_holds` meets its contract: a straight line of reads, in the definition's order.
+-- `rules::let_lists` meets its contract: a straight line of reads, in the definition's order.
+use mathlib.Core.Path.{refl, _∙_}
 use Rattle.logic.specs.Tests.{passed}
-use Rattle.logic.specs.Rules.{letTestsBy}
 use borrow.Author.Needs.{needs}
-use Rattle.rules.proofs.rules.let_holds.Statement.{statement}
-use Rattle.rules.proofs.rules.let_holds.Tie as tie
+use Rattle.rules.proofs.rules.let_lists.Statement.{statement}
+use Rattle.rules.proofs.rules.let_lists.Tie as tie
 
 term-field-requires : tie.Need-term-field-requires
 term-field-requires c κs = search needs
@@ -44,31 +44,30 @@ context-field-requires-4 c κs = search needs
 same-list-requires : tie.Need-same-list-requires
 same-list-requires c κs = c .before .before .before .before .before .before .before .before .before .before .before .before .before .before .pre
 
-all-prove-requires : tie.Need-all-prove-requires
-all-prove-requires c κs = c .before .before .before .before .before .before .before .before .before .before .before .before .before .before .before .pre
-
 returns : tie.Need-returns
-unfolding passed letTestsBy
+unfolding passed
 returns c =
-    rw (
-      ← c .before .before .before .before .before .before .before .before .before .before .before .before .before .term-field .ensures,
-      ← c .before .before .before .before .before .before .before .before .before .before .before .before .term-field2 .ensures,
-      ← c .before .before .before .before .before .before .before .before .before .before .before .term-field3 .ensures,
-      ← c .before .before .before .before .before .before .before .before .before .before .term-field4 .ensures,
-      ← c .before .before .before .before .before .before .before .before .before .last-item .ensures,
-      ← c .before .before .before .before .before .before .before .before .taken-field .ensures,
-      ← c .before .before .before .before .before .before .before .taken-field2 .ensures,
-      ← c .before .before .before .before .before .before .taken-field3 .ensures,
-      ← c .before .before .before .before .before .context-field .ensures,
-      ← c .before .before .before .before .context-field2 .ensures,
-      ← c .before .before .before .context-field3 .ensures,
-      ← c .before .before .context-field4 .ensures,
-      ← c .before .same-list .ensures,
-      ← c .all-prove .ensures,
-    )
+    record {
+      good = rw (
+        ← c .before .before .before .before .before .before .before .before .before .before .before .before .term-field .ensures,
+        ← c .before .before .before .before .before .before .before .before .before .before .before .term-field2 .ensures,
+        ← c .before .before .before .before .before .before .before .before .before .term-field4 .ensures,
+        ← c .before .before .before .before .before .before .before .before .last-item .ensures,
+        ← c .before .before .before .before .before .before .before .taken-field .ensures,
+        ← c .before .before .before .before .before .before .taken-field2 .ensures,
+        ← c .before .before .before .before .before .taken-field3 .ensures,
+        ← c .before .before .before .before .context-field .ensures,
+        ← c .before .before .before .context-field2 .ensures,
+        ← c .before .context-field4 .ensures,
+        ← c .same-list .ensures,
+      );
+      body = refl;
+      lefts = c .before .before .before .before .before .before .before .before .before .before .term-field3 .ensures;
+      rights = rw (← c .before .before .before .before .before .before .before .before .last-item .ensures, ← c .before .before .before .before .before .before .before .taken-field .ensures) (c .before .before .context-field3 .ensures);
+    }
 
-pub let-holds-spec : {M : Type 1} → statement M
-let-holds-spec =
+pub let-lists-spec : {M : Type 1} → statement M
+let-lists-spec =
     tie.close
     (tie.spec
     term-field-requires
@@ -84,5 +83,4 @@ let-holds-spec =
     context-field-requires-3
     context-field-requires-4
     same-list-requires
-    all-prove-requires
     returns)
