@@ -93,15 +93,7 @@ fn take(file: &[u8], b: Bundle, i: usize, read: usize) -> Taken
 }
 
 // The end of a walk that has read so many links, where one list has ended at least: what is left of the lists starts at the links i, j and k.
-fn end_walk(
-    file: &[u8],
-    b: Bundle,
-    body: bool,
-    i: usize,
-    j: usize,
-    k: usize,
-    read: usize,
-) -> Walk
+fn end_walk(file: &[u8], b: Bundle, body: bool, i: usize, j: usize, k: usize, read: usize) -> Walk
     requires { ⌜ Whole (now file) b × (i ≤ b .links) × (j ≤ b .links) × (k ≤ b .links) × (read ≤ 8192)
         × (((eqb i 0 || eqb j 0) || eqb k 0) ≡ true) ⌝ }
     ensures { λ r. ⌜ (let bundle = bundleAt (now (file .entry)) b in

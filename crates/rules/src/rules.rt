@@ -374,5 +374,14 @@ pub fn step_walk(file: &[u8], b: Bundle, bed: &[u32], s: StepWords) -> Walk
             links: 0,
         };
     }
-    walk(file, b, bed, lists.body, context, lists.lefts, lists.rights, premises)
+    walk(
+        file,
+        b,
+        bed,
+        lists.body,
+        context,
+        lists.lefts,
+        lists.rights,
+        premises,
+    )
 }
