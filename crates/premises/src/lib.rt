@@ -150,7 +150,7 @@ pub fn walk(
     if (i == 0) | (j == 0) | (k == 0) {
         return end_walk(file, b, body, i, j, k, 0);
     }
-    while i != 0 {
+    loop {
         let l = take(file, b, i, read);
         let r = take(file, b, j, l.read);
         let p = take(file, b, k, r.read);
@@ -180,9 +180,5 @@ pub fn walk(
             let more_premises = followed(links, k, next_premise);
             return end_walk(file, b, body, more_lefts, more_rights, more_premises, read);
         }
-    }
-    Walk {
-        passes: false,
-        links: read,
     }
 }

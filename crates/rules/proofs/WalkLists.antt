@@ -15,7 +15,7 @@ use Rattle.rules.specs.WalkLists.{CongLists, LetLists}
 module _ (step : ℕ → Step) (b : Bundle) (s : Step) (l : Lists) where
   -- what the code's walk finds
   abbrev Walked : Walk → Type 0
-  Walked w = w ≡ walkBy step (l .body) (s .context) (items b (l .lefts)) (items b (l .rights)) (items b (s .premises))
+  Walked w = w ≡ walkBy step (l .body) (l .context) (items b (l .lefts)) (items b (l .rights)) (items b (s .premises))
 
   pub cong-bad : CongLists b s l → l .good ≡ false → record { passes = false; links = 0 } ≡ congWalkBy step b s
   unfolding congWalkBy
@@ -27,7 +27,7 @@ module _ (step : ℕ → Step) (b : Bundle) (s : Step) (l : Lists) where
   unfolding congWalkBy
   cong-good w h e found =
       let d : passed (headTests b s) ≡ true = sym (h .good) ∙ e in
-      (rw (h .body, h .lefts, h .rights) at found)
+      (rw (h .body, h .context, h .lefts, h .rights) at found)
       ∙ sym (λ i. record { passes = d i && argumentsWalk step b s .passes; links = cond (d i) (argumentsWalk step b s .links) 0 })
 
   pub let-bad : LetLists step b s l → l .good ≡ false → false ≡ passed (letTestsBy step b s)
@@ -40,4 +40,4 @@ module _ (step : ℕ → Step) (b : Bundle) (s : Step) (l : Lists) where
   unfolding letTestsBy passed
   let-good w h e found =
       let d : passed (bodyTests step b s) ≡ true = sym (h .good) ∙ e in
-      ap (λ (x : Walk). x .passes) (rw (h .body, h .lefts, h .rights) at found) ∙ sym (λ i. d i && boundWalk step b s .passes)
+      ap (λ (x : Walk). x .passes) (rw (h .body, h .context, h .lefts, h .rights) at found) ∙ sym (λ i. d i && boundWalk step b s .passes)

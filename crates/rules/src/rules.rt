@@ -299,6 +299,7 @@ fn cong_lists(file: &[u8], b: Bundle, s: StepWords) -> Lists
     Lists {
         good,
         body: false,
+        context: s.context,
         lefts,
         rights,
     }
@@ -310,7 +311,7 @@ fn let_lists(file: &[u8], b: Bundle, bed: &[u32], s: StepWords) -> Lists
     ensures { λ r. ⌜ (let bundle = bundleAt (now (file .entry)) b in
         LetLists (stepIn bundle (now (bed .entry))) bundle (asStep s) r) ⌝ }
 {
-    let context = s.context;
+    let home = s.context;
     let left = s.left;
     let right = s.right;
     let premises = s.premises;
@@ -331,11 +332,12 @@ fn let_lists(file: &[u8], b: Bundle, bed: &[u32], s: StepWords) -> Lists
         & (from == body)
         & (to == right)
         & (inner_kind == REPLACES)
-        & (parent == context)
+        & (parent == home)
         & same;
     Lists {
         good,
         body: true,
+        context: home,
         lefts: bound,
         rights: terms,
     }
@@ -365,7 +367,6 @@ pub fn step_walk(file: &[u8], b: Bundle, bed: &[u32], s: StepWords) -> Walk
     ensures { λ r. ⌜ (let bundle = bundleAt (now (file .entry)) b in
         (s .rule ≡ 2 → ⊥) → r .passes ≡ passed (letTestsBy (stepIn bundle (now (bed .entry))) bundle (asStep s))) ⌝ }
 {
-    let context = s.context;
     let premises = s.premises;
     let lists = step_lists(file, b, bed, s);
     if !lists.good {
@@ -379,7 +380,7 @@ pub fn step_walk(file: &[u8], b: Bundle, bed: &[u32], s: StepWords) -> Walk
         b,
         bed,
         lists.body,
-        context,
+        lists.context,
         lists.lefts,
         lists.rights,
         premises,

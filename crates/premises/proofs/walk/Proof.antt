@@ -74,31 +74,31 @@ loop-holds c =
 
 take-requires : tie.Need-take-requires Inv-loop μ-loop
 take-requires c κs =
-    let l = c .before .loop in
-    (c .before .before .before .before .before .before .before .before .pre, l .inv .0 .0, l .inv .1 .0, omega (arith, l .inv .2, l .inv .1 .0, c .before .before .before .before .before .before .before .before .pre .within .links))
+    let l = c .loop in
+    (c .before .before .before .before .before .before .before .pre, l .inv .0 .0, l .inv .1 .0, omega (arith, l .inv .2, l .inv .1 .0, c .before .before .before .before .before .before .before .pre .within .links))
 
 take-requires-2 : tie.Need-take-requires-2 Inv-loop μ-loop
 take-requires-2 c κs =
-    let l = c .before .before .loop in
-    (c .before .before .before .before .before .before .before .before .before .pre, l .inv .0 .1, l .inv .1 .1, omega (arith, c .take .ensures .2, l .inv .2, l .inv .1 .0, c .before .before .before .before .before .before .before .before .before .pre .within .links))
+    let l = c .before .loop in
+    (c .before .before .before .before .before .before .before .before .pre, l .inv .0 .1, l .inv .1 .1, omega (arith, c .take .ensures .2, l .inv .2, l .inv .1 .0, c .before .before .before .before .before .before .before .before .pre .within .links))
 
 take-requires-3 : tie.Need-take-requires-3 Inv-loop μ-loop
 take-requires-3 c κs =
-    let l = c .before .before .before .loop in (
-      c .before .before .before .before .before .before .before .before .before .before .pre,
+    let l = c .before .before .loop in (
+      c .before .before .before .before .before .before .before .before .before .pre,
       l .inv .0 .2,
       l .inv .1 .2,
-      omega (arith, c .before .take .ensures .2, c .take2 .ensures .2, l .inv .2, l .inv .1 .0, c .before .before .before .before .before .before .before .before .before .before .pre .within .links),
+      omega (arith, c .before .take .ensures .2, c .take2 .ensures .2, l .inv .2, l .inv .1 .0, c .before .before .before .before .before .before .before .before .before .pre .within .links),
     )
 
 step-carries-requires : tie.Need-step-carries-requires Inv-loop μ-loop
 step-carries-requires c κs =
-    c .before .before .before .before .before .before .before .before .before .before .before .pre
+    c .before .before .before .before .before .before .before .before .before .before .pre
 
 returns-2 : tie.Need-returns-2 Inv-loop μ-loop
 returns-2 c =
-    let a = c .before .before .before .before .before .before .before .before .before .before .before .before .before .args in
-    let l = c .before .before .before .before .before .before .loop in
+    let a = c .before .before .before .before .before .before .before .before .before .before .before .before .args in
+    let l = c .before .before .before .before .before .loop in
     let step = stepIn (bundleAt (a .file .now) (a .b)) (a .bed .now) in
     stops (next-walk (a .file .now) (a .b) step (a .body) (a .context) (l .i) (l .j) (l .k)) (l .read) (c .before .before .take3 .result .read) (l .inv .3)
     (walk-on (a .file .now) (a .b) step (a .body) (a .context) (l .inv .0 .0) (l .inv .0 .1) (l .inv .0 .2) (l .inv .1 .0) (l .inv .1 .1) (l .inv .1 .2)
@@ -108,14 +108,14 @@ returns-2 c =
 
 loop-less : tie.Need-loop-less Inv-loop μ-loop
 loop-less c =
-    let l = c .before .before .before .before .before .before .before .loop in
-    let up = all-rise (c .before .before .before .before .before .before .before .before .before .before .before .before .before .before .args .b .links) (l .i) (l .j) (l .k) (c .before .before .before .before .before .take .result .next) (c .before .before .before .before .take2 .result .next) (c .before .before .before .take3 .result .next) (c .if3 .taken) in
+    let l = c .before .before .before .before .before .before .loop in
+    let up = all-rise (c .before .before .before .before .before .before .before .before .before .before .before .before .before .args .b .links) (l .i) (l .j) (l .k) (c .before .before .before .before .before .take .result .next) (c .before .before .before .before .take2 .result .next) (c .before .before .before .take3 .result .next) (c .if3 .taken) in
     omega (arith, up .0)
 
 loop-again : tie.Need-loop-again Inv-loop μ-loop
 loop-again c =
-    let a = c .before .before .before .before .before .before .before .before .before .before .before .before .before .before .args in
-    let l = c .before .before .before .before .before .before .before .loop in
+    let a = c .before .before .before .before .before .before .before .before .before .before .before .before .before .args in
+    let l = c .before .before .before .before .before .before .loop in
     let step = stepIn (bundleAt (a .file .now) (a .b)) (a .bed .now) in
     let up = all-rise (a .b .links) (l .i) (l .j) (l .k) (c .before .before .before .before .before .take .result .next) (c .before .before .before .before .take2 .result .next) (c .before .before .before .take3 .result .next) (c .if3 .taken) in
     let count : c .before .before .before .take3 .result .read ≡ l .read + 1 + 1 + 1 = omega (arith, c .before .before .before .before .before .take .ensures .2, c .before .before .before .before .take2 .ensures .2, c .before .before .before .take3 .ensures .2) in (
@@ -144,21 +144,21 @@ followed-requires-3 c κs = search needs
 
 end-walk-requires-2 : tie.Need-end-walk-requires-2 Inv-loop μ-loop
 end-walk-requires-2 c κs =
-    let a = c .before .before .before .before .before .before .before .before .before .before .before .before .before .before .before .before .before .args in
-    let l = c .before .before .before .before .before .before .before .before .before .before .loop in (
-      c .before .before .before .before .before .before .before .before .before .before .before .before .before .before .before .before .before .pre,
+    let a = c .before .before .before .before .before .before .before .before .before .before .before .before .before .before .before .before .args in
+    let l = c .before .before .before .before .before .before .before .before .before .loop in (
+      c .before .before .before .before .before .before .before .before .before .before .before .before .before .before .before .before .pre,
       walk-le (a .file .now) (a .b) (l .i) (c .before .before .followed .result) (next-is (a .file .now) (a .b) (l .i) (c .before .before .before .before .before .before .before .before .take .ensures .1) (c .before .before .followed .ensures)),
       walk-le (a .file .now) (a .b) (l .j) (c .before .followed2 .result) (next-is (a .file .now) (a .b) (l .j) (c .before .before .before .before .before .before .before .take2 .ensures .1) (c .before .followed2 .ensures)),
       walk-le (a .file .now) (a .b) (l .k) (c .followed3 .result) (next-is (a .file .now) (a .b) (l .k) (c .before .before .before .before .before .before .take3 .ensures .1) (c .followed3 .ensures)),
-      omega (arith, c .before .before .before .before .before .before .before .before .take .ensures .2, c .before .before .before .before .before .before .before .take2 .ensures .2, c .before .before .before .before .before .before .take3 .ensures .2, l .inv .2, l .inv .1 .0, c .before .before .before .before .before .before .before .before .before .before .before .before .before .before .before .before .before .pre .within .links),
+      omega (arith, c .before .before .before .before .before .before .before .before .take .ensures .2, c .before .before .before .before .before .before .before .take2 .ensures .2, c .before .before .before .before .before .before .take3 .ensures .2, l .inv .2, l .inv .1 .0, c .before .before .before .before .before .before .before .before .before .before .before .before .before .before .before .before .pre .within .links),
       rw (c .before .before .followed .ensures, c .before .followed2 .ensures, c .followed3 .ensures)
           (one-ends (a .b .links) (l .i) (l .j) (l .k) (c .before .before .before .before .before .before .before .before .take .result .next) (c .before .before .before .before .before .before .before .take2 .result .next) (c .before .before .before .before .before .before .take3 .result .next) (c .before .before .before .if3 .left)),
     )
 
 returns-3 : tie.Need-returns-3 Inv-loop μ-loop
 returns-3 c =
-    let a = c .before .before .before .before .before .before .before .before .before .before .before .before .before .before .before .before .before .before .args in
-    let l = c .before .before .before .before .before .before .before .before .before .before .before .loop in
+    let a = c .before .before .before .before .before .before .before .before .before .before .before .before .before .before .before .before .before .args in
+    let l = c .before .before .before .before .before .before .before .before .before .before .loop in
     let step = stepIn (bundleAt (a .file .now) (a .b)) (a .bed .now) in
     let count : c .before .before .before .before .before .before .before .take3 .result .read ≡ l .read + 1 + 1 + 1 = omega (arith, c .before .before .before .before .before .before .before .before .before .take .ensures .2, c .before .before .before .before .before .before .before .before .take2 .ensures .2, c .before .before .before .before .before .before .before .take3 .ensures .2) in
     (rw (
@@ -170,10 +170,6 @@ returns-3 c =
     (walk-on (a .file .now) (a .b) step (a .body) (a .context) (l .inv .0 .0) (l .inv .0 .1) (l .inv .0 .2) (l .inv .1 .0) (l .inv .1 .1) (l .inv .1 .2)
     (c .before .before .before .before .before .before .before .before .before .take .ensures .0) (c .before .before .before .before .before .before .before .before .take2 .ensures .0) (c .before .before .before .before .before .before .before .take3 .ensures .0) (c .before .before .before .before .before .before .step-carries .ensures))
     count (not-false (c .before .before .before .before .before .before .step-carries .result) (c .before .before .before .before .before .if2 .left)))
-
-returns-4 : tie.Need-returns-4 Inv-loop μ-loop
-returns-4 c =
-    absurd (c .before .loop .inv .0 .0 (c .loop-test .left))
 
 pub walk-spec : {M : Type 1} → statement M
 walk-spec =
@@ -198,5 +194,4 @@ walk-spec =
     followed-requires-2
     followed-requires-3
     end-walk-requires-2
-    returns-3
-    returns-4)
+    returns-3)

@@ -34,6 +34,7 @@ returns c =
         ← c .before .before .term-field4 .ensures,
       );
       body = refl;
+      context = refl;
       lefts = c .before .term-field5 .ensures;
       rights = c .term-field6 .ensures;
     }

@@ -62,6 +62,7 @@ returns c =
         ← c .same-list .ensures,
       );
       body = refl;
+      context = refl;
       lefts = c .before .before .before .before .before .before .before .before .before .before .term-field3 .ensures;
       rights = rw (← c .before .before .before .before .before .before .before .before .last-item .ensures, ← c .before .before .before .before .before .before .before .taken-field .ensures) (c .before .before .context-field3 .ensures);
     }
