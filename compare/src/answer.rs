@@ -105,6 +105,11 @@ impl Refusal {
         Refusal { reason, record: byte as u64 }
     }
 
+    /// A refusal with a count in the record's place.
+    fn counted(reason: Reason, count: usize) -> Self {
+        Refusal { reason, record: count as u64 }
+    }
+
     /// The form in which the proved library answers: number * 2^32 + record, also for a
     /// byte of 2^32 or more.
     pub fn packed(self) -> u64 {
@@ -142,6 +147,23 @@ pub fn line(outcome: Result<Claim, Refusal>) -> String {
 /// else number * 2^32 + record.
 pub fn packed(outcome: Result<Claim, Refusal>) -> u64 {
     outcome.map_or_else(Refusal::packed, |_| 0)
+}
+
+/// What CONG's test finds: whether it passes, and how many links it read.
+#[derive(Clone, Copy, Debug, PartialEq, Eq)]
+pub struct Walk {
+    pub passes: bool,
+    pub links: usize,
+}
+
+/// A walk, as the proved library packs it: the count where the test passes,
+/// 13 * 2^32 + count where it fails; where there is no walk, the refusal.
+pub fn packed_walk(outcome: Result<Walk, Refusal>) -> u64 {
+    match outcome {
+        Ok(Walk { passes: true, links }) => links as u64,
+        Ok(Walk { passes: false, links }) => Refusal::counted(Reason::Rule, links).packed(),
+        Err(refusal) => refusal.packed(),
+    }
 }
 
 /// A packed answer of the checker, for people.
