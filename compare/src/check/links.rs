@@ -59,3 +59,29 @@ fn walk_of_records<R: Rules>(
     let step = Step { premises: start(step.premises), ..*step };
     cong_walk(rules, &lists, steps, &step, sides, |one, other| one == other)
 }
+
+#[cfg(test)]
+mod tests {
+    use super::*;
+    use crate::generate::case;
+
+    /// The checker's own walk, on its tables, is the one over the records.
+    #[test]
+    fn the_two_walks_agree() {
+        let mut walks = [0, 0];
+        for index in 0..4_000 {
+            let file = case(9, index).bytes;
+            let Ok(tables) = Tables::decode(Exact, &file, |_| true) else { continue };
+            let Ok(contexts) = Contexts::decode(Exact, &tables) else { continue };
+            let Header { counts, .. } = tables.header;
+            let steps = Step::all(tables.section(Section::Steps).as_chunks().0);
+            for (number, step) in (0..).zip(&steps).filter(|(_, step)| step.rule == CONG) {
+                let Some(walk) = walk_of(Exact, &tables, &contexts, number) else { continue };
+                let other = walk_of_records(Exact, &tables.words, &counts, &steps, step);
+                assert_eq!(walk, other, "file {index}, step {number}");
+                walks[usize::from(walk.passes)] += 1;
+            }
+        }
+        assert!(walks[0] >= 100 && walks[1] >= 5_000, "{walks:?}");
+    }
+}
