@@ -25,8 +25,8 @@ fn main() {
             missing.push(archive);
         }
     }
-    // Where the library is not made at all there is nothing to say; half of it is an error of
-    // whoever made it.
+    // Half of the library is named, and all of it where a folder was given; no library at all is
+    // an ordinary build.
     if missing.len() == 1 || !missing.is_empty() && env::var_os("NEZKALDO_LIB_DIR").is_some() {
         for archive in &missing {
             println!("cargo:warning={} is not there: building Rust-only", archive.display());

@@ -86,7 +86,7 @@ impl Reason {
 pub struct Refusal {
     pub reason: Reason,
     /// The record in its section, from 1; 0 where the table names none. For 19 and 20
-    /// the byte of the text, from 0.
+    /// the byte of the text, from 0; for a walk that fails, the links that it read.
     pub record: u64,
 }
 
@@ -103,11 +103,6 @@ impl Refusal {
     /// A refusal of the text at a byte.
     pub fn at_byte(reason: Reason, byte: usize) -> Self {
         Refusal { reason, record: byte as u64 }
-    }
-
-    /// A refusal with a count in the record's place.
-    fn counted(reason: Reason, count: usize) -> Self {
-        Refusal { reason, record: count as u64 }
     }
 
     /// The form in which the proved library answers: number * 2^32 + record, also for a
@@ -161,7 +156,9 @@ pub struct Walk {
 pub fn packed_walk(outcome: Result<Walk, Refusal>) -> u64 {
     match outcome {
         Ok(Walk { passes: true, links }) => links as u64,
-        Ok(Walk { passes: false, links }) => Refusal::counted(Reason::Rule, links).packed(),
+        Ok(Walk { passes: false, links }) => {
+            Refusal { reason: Reason::Rule, record: links as u64 }.packed()
+        }
         Err(refusal) => refusal.packed(),
     }
 }

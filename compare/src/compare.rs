@@ -184,12 +184,9 @@ impl Report {
         steps_hold(&plain, 1, &mut rng).err()
     }
 
-    /// The numbers of the checker's table, and 0, answered fewer than `least` times by the
-    /// check, and those of a count by the counts of links.
+    /// The numbers of the checker's table, and 0, answered fewer than `least` times.
     pub fn unseen(&self, least: u64) -> Vec<u32> {
-        let mut unseen = self.tally.unseen(numbers(), least);
-        unseen.extend(self.walks.unseen(least));
-        unseen
+        self.tally.unseen(numbers(), least)
     }
 
     pub fn agrees(&self) -> bool {

@@ -87,7 +87,7 @@ impl Walks {
             .or_else(|| against(plain?(file, step), "from the plain reading"))
     }
 
-    /// The numbers of such an answer, and 0, seen fewer than `least` times.
+    /// The numbers of such an answer, and 0, answered fewer than `least` times.
     pub fn unseen(&self, least: u64) -> Vec<u32> {
         tally::unseen(&self.calls, numbers(), least)
     }

@@ -234,7 +234,9 @@ impl Run {
         let begun = Instant::now();
         let report = compare::run(checkers, self.seed, self.files, failures).map_err(unwritten)?;
         print!("{report}");
-        let good = self.ended(begun, &report.unseen(self.least)) & report.agrees();
+        let good = self.ended(begun, &report.unseen(self.least))
+            & self.seen("counts of links", &report.walks.unseen(self.least))
+            & report.agrees();
         let begun = Instant::now();
         let report =
             compare_writer::run(writers, self.seed, self.jobs, failures).map_err(unwritten)?;
@@ -250,8 +252,13 @@ impl Run {
     /// Prints the time, and which numbers were answered too seldom; whether none was.
     fn ended(&self, begun: Instant, unseen: &[u32]) -> bool {
         println!("seed {}, {:.1} s", self.seed, begun.elapsed().as_secs_f64());
+        self.seen("answers", unseen)
+    }
+
+    /// Prints which numbers were seen too seldom; whether none was.
+    fn seen(&self, what: &str, unseen: &[u32]) -> bool {
         if !unseen.is_empty() {
-            println!("seen fewer than {} times: {unseen:?}", self.least);
+            println!("{what} seen fewer than {} times: {unseen:?}", self.least);
         }
         unseen.is_empty()
     }

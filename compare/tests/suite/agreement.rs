@@ -24,6 +24,7 @@ fn check_files(checkers: Checkers) {
     let report = compare::run(checkers, SEED, FILES, failures()).unwrap();
     assert!(report.agrees(), "{report}");
     assert_eq!(report.unseen(1), [], "{report}");
+    assert_eq!(report.walks.unseen(1), [], "{report}");
 }
 
 fn check_jobs(writers: Writers) {
