@@ -7,6 +7,7 @@ use crate::answer::{Claim, Reason, Refusal, Walk};
 use crate::bundle::Section;
 use crate::fault::{Fault, OLD_VARIABLES, Rules};
 use crate::set::Set;
+use std::hint::black_box;
 
 const REFL: u32 = 1;
 pub const CONG: u32 = 2;
@@ -86,7 +87,8 @@ pub struct Side {
 /// CONG's test of a step, whose sides are given where they are applications. It takes
 /// each of the three lists once, a link of each at a time, and ends at the first
 /// premise that does not carry its pair, or where a list ends. A premise that is no
-/// step is a record of zeros.
+/// step is a record of zeros. Inlined, with what calls it, for steps of few arguments.
+#[inline(always)]
 pub fn cong_walk<R: Rules>(
     rules: R,
     lists: &Lists,
@@ -156,7 +158,9 @@ impl<R: Rules> Checker<'_, R> {
                 require(self.refl(&step), Reason::Side)
             }
             REFL => require(self.refl(&step), Reason::Rule),
-            CONG => require(self.cong(&step).passes, Reason::Rule),
+            // The count is made here too, though only `links` asks for it: without
+            // `black_box` the compiler would leave it out, and times would not compare.
+            CONG => require(black_box(self.cong(&step)).passes, Reason::Rule),
             TRANS => self.trans(&step),
             BIND => self.bind(&step),
             _ => require(self.let_(&step), Reason::Rule),
@@ -231,6 +235,7 @@ impl<R: Rules> Checker<'_, R> {
         }
     }
 
+    #[inline(always)]
     fn cong(&self, step: &Step) -> Walk {
         let Tables { lists, terms, .. } = self.tables;
         let sides = [step.left, step.right].map(|side| match terms.get(side).term {
