@@ -1,11 +1,12 @@
-//! Looks for the proved library and sets `proved` where it is there: its three calls are
-//! then linked, and an archive that lacks one does not link. Without the library the
-//! project builds Rust-only.
+//! Looks for the proved library's two archives and sets `proved` where both are there: its
+//! four calls are then linked, and an archive that lacks one of its own does not link.
+//! Without both the project builds Rust-only.
 
 use std::env;
 use std::path::PathBuf;
 
-const ARCHIVE: &str = "libnezkaldo.a";
+/// The archives: check, expand and read are in the first, links in the second.
+const ARCHIVES: [&str; 2] = ["nezkaldo", "nezkaldo_links"];
 
 fn main() {
     println!("cargo:rerun-if-env-changed=NEZKALDO_LIB_DIR");
@@ -16,19 +17,28 @@ fn main() {
         None => PathBuf::from(env::var_os("CARGO_MANIFEST_DIR").expect("cargo sets it"))
             .join("../target/staticlib"),
     };
-    let archive = folder.join(ARCHIVE);
-    println!("cargo:rerun-if-changed={}", archive.display());
-    if !archive.is_file() {
-        if env::var_os("NEZKALDO_LIB_DIR").is_some() {
-            println!(
-                "cargo:warning=NEZKALDO_LIB_DIR is set but {} is not there: building Rust-only",
-                archive.display()
-            );
+    let mut missing = Vec::new();
+    for name in ARCHIVES {
+        let archive = folder.join(format!("lib{name}.a"));
+        println!("cargo:rerun-if-changed={}", archive.display());
+        if !archive.is_file() {
+            missing.push(archive);
         }
+    }
+    // Half of the library is named, and all of it where a folder was given; no library at all is
+    // an ordinary build.
+    if missing.len() == 1 || !missing.is_empty() && env::var_os("NEZKALDO_LIB_DIR").is_some() {
+        for archive in &missing {
+            println!("cargo:warning={} is not there: building Rust-only", archive.display());
+        }
+    }
+    if !missing.is_empty() {
         return;
     }
     let folder = folder.canonicalize().expect("the folder of a file that is there");
     println!("cargo:rustc-link-search=native={}", folder.display());
-    println!("cargo:rustc-link-lib=static=nezkaldo");
+    for name in ARCHIVES {
+        println!("cargo:rustc-link-lib=static={name}");
+    }
     println!("cargo:rustc-cfg=proved");
 }

@@ -86,7 +86,7 @@ impl Reason {
 pub struct Refusal {
     pub reason: Reason,
     /// The record in its section, from 1; 0 where the table names none. For 19 and 20
-    /// the byte of the text, from 0.
+    /// the byte of the text, from 0; for a walk that fails, the links that it read.
     pub record: u64,
 }
 
@@ -142,6 +142,25 @@ pub fn line(outcome: Result<Claim, Refusal>) -> String {
 /// else number * 2^32 + record.
 pub fn packed(outcome: Result<Claim, Refusal>) -> u64 {
     outcome.map_or_else(Refusal::packed, |_| 0)
+}
+
+/// What CONG's test finds: whether it passes, and how many links it read.
+#[derive(Clone, Copy, Debug, PartialEq, Eq)]
+pub struct Walk {
+    pub passes: bool,
+    pub links: usize,
+}
+
+/// A walk, as the proved library packs it: the count where the test passes,
+/// 13 * 2^32 + count where it fails; where there is no walk, the refusal.
+pub fn packed_walk(outcome: Result<Walk, Refusal>) -> u64 {
+    match outcome {
+        Ok(Walk { passes: true, links }) => links as u64,
+        Ok(Walk { passes: false, links }) => {
+            Refusal { reason: Reason::Rule, record: links as u64 }.packed()
+        }
+        Err(refusal) => refusal.packed(),
+    }
 }
 
 /// A packed answer of the checker, for people.

@@ -1,11 +1,13 @@
 //! The comparison: the proved check and the Rust checker on the same files, for
 //! areas of several lengths filled with junk before; answers and areas have to be
-//! the same. A share of the files goes to the plain reading and to the program
-//! check too. What is accepted has to hold in finite worlds.
+//! the same, and so have the links that CONG's test reads at chosen steps. A share of
+//! the files goes to the plain reading and to the program check too. What is accepted
+//! has to hold in finite worlds.
 
 use crate::answer::{Packed, Reason, line};
 use crate::bundle::{MAX_SETS, Section, area_words, counts_of};
 use crate::check::check;
+use crate::compare_links::{self, Counter, Walks};
 use crate::eval::{claim_holds, steps_hold};
 use crate::generate::{Case, Family, case};
 use crate::naive;
@@ -35,23 +37,31 @@ pub fn call(check: Checker, file: &[u8], length: usize, junk: u64) -> (u64, Vec<
     (answer, area)
 }
 
+/// The calls of one of those who are compared on files.
+#[allow(missing_debug_implementations)]
+#[derive(Clone, Copy)]
+pub struct Calls<'a> {
+    pub check: Checker<'a>,
+    pub links: Counter<'a>,
+}
+
 /// What is compared.
 #[allow(missing_debug_implementations)]
 #[derive(Clone, Copy)]
 pub struct Checkers<'a> {
     /// The proved check, or what stands in for it.
-    pub subject: Checker<'a>,
+    pub subject: Calls<'a>,
     /// The Rust checker.
-    pub reference: Checker<'a>,
+    pub reference: Calls<'a>,
     /// The plain reading.
-    pub plain: Option<Checker<'a>>,
+    pub plain: Option<Calls<'a>>,
     /// The program check. It prints the claim that the proved check's answer lacks.
     pub program: Option<Program<'a>>,
 }
 
 impl<'a> Checkers<'a> {
     /// The subject against the reference alone.
-    pub fn two(subject: Checker<'a>, reference: Checker<'a>) -> Self {
+    pub fn two(subject: Calls<'a>, reference: Calls<'a>) -> Self {
         Checkers { subject, reference, plain: None, program: None }
     }
 }
@@ -65,6 +75,7 @@ pub struct Report {
     pub bytes: u64,
     pub calls: u64,
     pub tally: Tally<Family>,
+    pub walks: Walks,
     /// Accepted claims that were tried in worlds.
     pub claims: u64,
     /// Those of them whose sides are different terms.
@@ -95,6 +106,7 @@ impl Default for Report {
             bytes: 0,
             calls: 0,
             tally: Tally::new(PLAIN, PROGRAM),
+            walks: Walks::default(),
             claims: 0,
             claims_apart: 0,
             claims_everywhere: 0,
@@ -120,8 +132,8 @@ impl Report {
         let mut answer = 0;
         let mut plain = None;
         for (place, length) in areas(file).into_iter().enumerate() {
-            let expected = call(checkers.reference, file, length, index);
-            let found = call(checkers.subject, file, length, index);
+            let expected = call(checkers.reference.check, file, length, index);
+            let found = call(checkers.subject.check, file, length, index);
             self.calls += 1;
             self.tally.add_call(expected.0, place == 0);
             if place == 0 {
@@ -129,10 +141,18 @@ impl Report {
                 plain = checkers.plain.filter(|_| self.tally.plain.takes(family, answer));
             }
             let text = difference(&found, &expected, "the Rust checker").or_else(|| {
-                difference(&found, &call(plain?, file, length, index), "the plain reading")
+                difference(&found, &call(plain?.check, file, length, index), "the plain reading")
             });
             if let Some(text) = text {
                 return Some(format!("area of {length} words: {text}"));
+            }
+        }
+        let counters = [checkers.subject.links, checkers.reference.links];
+        for step in compare_links::steps(file, answer, index) {
+            let plain = plain.map(|plain| plain.links);
+            let text = self.walks.problem(counters, plain, file, step);
+            if text.is_some() {
+                return text;
             }
         }
         if answer == 0
@@ -211,6 +231,7 @@ impl fmt::Display for Report {
     fn fmt(&self, out: &mut fmt::Formatter<'_>) -> fmt::Result {
         writeln!(out, "{} files, {} bytes, {} calls", self.files, self.bytes, self.calls)?;
         self.tally.write(out, "files", "accepted", numbers())?;
+        write!(out, "{}", self.walks)?;
         writeln!(
             out,
             "{} accepted claims tried in worlds, {} of them with different sides; {} of these in \

@@ -121,7 +121,6 @@ faults! {
         CongPremiseMissing: "CONG takes too few premises",
         CongContextsDiffer: "CONG takes premises of another context",
         CongRightUnread: "CONG does not compare right sides",
-        CongRememberedUnread: "CONG takes any premises it has walked before",
         TransFirstContextUnread: "TRANS takes a first premise of another context",
         TransSecondContextUnread: "TRANS takes a second premise of another context",
         TransMiddlesDiffer: "TRANS takes two middles",
@@ -152,6 +151,14 @@ faults! {
         ClaimedLeftUnread: "the claimed left is not compared",
         ClaimedRightUnread: "the claimed right is not compared",
         NoStepsTaken: "a file without steps is taken",
+    }
+    // CONG's count of links.
+    WALK: {
+        CongPremisesUncounted: "the links of the premises are not counted",
+        CongRightWalkedTwice: "the right side's list is walked twice",
+        CongEndsAtSharedLink: "the walk ends where left and right go on at the same link",
+        CongLengthsFirst: "lists of other lengths are told before the walk",
+        CongLastPositionUncounted: "the links at which the test fails are not counted",
     }
     WRITER: {
         OutputOneShort: "an output one byte too short is taken",

@@ -3,6 +3,7 @@
 #![allow(unsafe_code)]
 
 use crate::compare::Checker;
+use crate::compare_links::Counter;
 use crate::compare_reader::Reader;
 use crate::compare_writer::Writer;
 
@@ -13,12 +14,13 @@ pub struct Library {
     pub check: Checker<'static>,
     pub expand: Writer<'static>,
     pub read: Reader<'static>,
+    pub links: Counter<'static>,
 }
 
-/// `None` where the library was not there when this was built.
+/// `None` where an archive of the library was not there when this was built.
 pub fn library() -> Option<Library> {
     #[cfg(proved)]
-    return Some(Library { check: &check, expand: &expand, read: &read });
+    return Some(Library { check: &check, expand: &expand, read: &read, links: &links });
     #[cfg(not(proved))]
     None
 }
@@ -48,6 +50,7 @@ unsafe extern "C" {
         sets: *mut u64,
         sets_len: usize,
     ) -> u64;
+    fn nezkaldo_links(file: *const u8, file_len: usize, step: usize) -> u64;
 }
 
 #[cfg(proved)]
@@ -97,4 +100,10 @@ fn read(
             sets.len(),
         )
     }
+}
+
+#[cfg(proved)]
+fn links(file: &[u8], step: usize) -> u64 {
+    // SAFETY: the pointer is a slice's, with its length; the call reads it alone.
+    unsafe { nezkaldo_links(file.as_ptr(), file.len(), step) }
 }

@@ -6,6 +6,7 @@ pub mod bench;
 pub mod bundle;
 pub mod check;
 pub mod compare;
+pub mod compare_links;
 pub mod compare_reader;
 pub mod compare_writer;
 pub mod damage;

@@ -5,7 +5,7 @@ mod arguments;
 use arguments::Arguments;
 use nezkaldo_compare::bench::Share;
 use nezkaldo_compare::bundle::MAX_SETS;
-use nezkaldo_compare::compare::Checkers;
+use nezkaldo_compare::compare::{Calls, Checkers};
 use nezkaldo_compare::compare_reader::Readers;
 use nezkaldo_compare::compare_writer::Writers;
 use nezkaldo_compare::ffi::Library;
@@ -85,6 +85,17 @@ fn plain_check(file: &[u8], free: &mut [u64]) -> u64 {
     answer::packed(naive::check(file, free))
 }
 
+fn exact_links(file: &[u8], step: usize) -> u64 {
+    answer::packed_walk(check::links(file, step))
+}
+
+fn plain_links(file: &[u8], step: usize) -> u64 {
+    answer::packed_walk(naive::links(file, step))
+}
+
+const EXACT: Calls = Calls { check: &exact_check, links: &exact_links };
+const PLAIN: Calls = Calls { check: &plain_check, links: &plain_links };
+
 fn exact_expand(job: &[u8], out: &mut [u8], words: &mut [u32], sets: &mut [u64]) -> u64 {
     compare_writer::packed(expand::expand(job, out, words, sets))
 }
@@ -147,18 +158,18 @@ fn run_compare(arguments: &Arguments) -> Result<ExitCode, String> {
             program: None,
             checkers: &[&plain_check, &exact_check],
         };
-        run.compare(Checkers::two(&plain_check, &exact_check), writers, readers)?
+        run.compare(Checkers::two(PLAIN, EXACT), writers, readers)?
     } else {
-        let Library { check, expand, read } = library()?;
+        let Library { check, expand, read, links } = library()?;
         let folder = Path::new(arguments.text("programs").unwrap_or(programs::FOLDER));
         let check_program = programs::program(folder, programs::CHECK)?;
         let expand_program = programs::program(folder, programs::EXPAND)?;
         let read_program = programs::text_program(folder, programs::READ)?;
         println!("the proved library and the programs against the Rust programs");
         let checkers = Checkers {
-            subject: check,
-            reference: &exact_check,
-            plain: Some(&plain_check),
+            subject: Calls { check, links },
+            reference: EXACT,
+            plain: Some(PLAIN),
             program: Some(&check_program),
         };
         let writers = Writers {
@@ -184,9 +195,9 @@ fn run_compare(arguments: &Arguments) -> Result<ExitCode, String> {
 /// The library, or what to do where it is not there.
 fn library() -> Result<Library, String> {
     ffi::library().ok_or_else(|| {
-        "there is no proved library in this build. Run `rt staticlib nezkaldo` in the \
-         repository's root, or set NEZKALDO_LIB_DIR to the folder of libnezkaldo.a, and build \
-         again; or compare with --self."
+        "there is no proved library in this build. Run `rt staticlib nezkaldo` and `rt staticlib \
+         nezkaldo_links` in the repository's root, or set NEZKALDO_LIB_DIR to the folder of \
+         libnezkaldo.a and libnezkaldo_links.a, and build again; or compare with --self."
             .into()
     })
 }
@@ -223,7 +234,9 @@ impl Run {
         let begun = Instant::now();
         let report = compare::run(checkers, self.seed, self.files, failures).map_err(unwritten)?;
         print!("{report}");
-        let good = self.ended(begun, &report.unseen(self.least)) & report.agrees();
+        let good = self.ended(begun, &report.unseen(self.least))
+            & self.seen("counts of links", &report.walks.unseen(self.least))
+            & report.agrees();
         let begun = Instant::now();
         let report =
             compare_writer::run(writers, self.seed, self.jobs, failures).map_err(unwritten)?;
@@ -239,8 +252,13 @@ impl Run {
     /// Prints the time, and which numbers were answered too seldom; whether none was.
     fn ended(&self, begun: Instant, unseen: &[u32]) -> bool {
         println!("seed {}, {:.1} s", self.seed, begun.elapsed().as_secs_f64());
+        self.seen("answers", unseen)
+    }
+
+    /// Prints which numbers were seen too seldom; whether none was.
+    fn seen(&self, what: &str, unseen: &[u32]) -> bool {
         if !unseen.is_empty() {
-            println!("seen fewer than {} times: {unseen:?}", self.least);
+            println!("{what} seen fewer than {} times: {unseen:?}", self.least);
         }
         unseen.is_empty()
     }
@@ -251,9 +269,11 @@ fn run_mutants(arguments: &Arguments) -> Result<ExitCode, String> {
     let files = arguments.number("files", 20_000)?;
     let seed = arguments.number("seed", 1)?;
     let checkers = mutants::try_checkers(&exact_check, seed, files, false);
+    let walks = mutants::try_walks(&exact_links, seed, files, false);
     let writers = mutants::try_writers(&exact_expand, seed, files / 10, false);
     let readers = mutants::try_readers(&exact_read, seed, files / 10, false);
     let good = print_verdicts("checker, files", &checkers)
+        & print_verdicts("counts of CONG's links, files", &walks)
         & print_verdicts("writer, jobs", &writers)
         & print_verdicts("reader, texts", &readers);
     Ok(if good { ExitCode::SUCCESS } else { ExitCode::FAILURE })
@@ -395,6 +415,7 @@ fn run_vectors(arguments: &Arguments) -> Result<ExitCode, String> {
         check: &exact_check,
         expand: &exact_expand,
         read: &exact_read,
+        links: &exact_links,
         longest_text: usize::MAX,
     };
     let plain = Party {
@@ -402,14 +423,15 @@ fn run_vectors(arguments: &Arguments) -> Result<ExitCode, String> {
         check: &plain_check,
         expand: &plain_expand,
         read: &plain_read,
+        links: &plain_links,
         longest_text: vectors::SHORT,
     };
     let mut parties = vec![rust, plain];
     let alone = arguments.flag("self");
     if !alone {
-        let Library { check, expand, read } = library()?;
+        let Library { check, expand, read, links } = library()?;
         let longest_text = usize::MAX;
-        parties.push(Party { name: "the library", check, expand, read, longest_text });
+        parties.push(Party { name: "the library", check, expand, read, links, longest_text });
     }
     let report = vectors::run(&text, &moved, &parties);
     if report.cases == 0 {

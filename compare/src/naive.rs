@@ -2,7 +2,7 @@
 //! free variables are sets, images are found by walking the entries, equal terms
 //! by trying every pair. Slow; it is there to try the checker on the files.
 
-use crate::answer::{Claim, Reason, Refusal};
+use crate::answer::{Claim, Reason, Refusal, Walk};
 use crate::bundle::{Counts, HEADER_BYTES, SET_WORDS, Section, counts_of, to_words};
 use std::collections::BTreeSet;
 
@@ -80,11 +80,65 @@ pub fn tables(file: &[u8], areas_suffice: impl Fn(&Counts) -> bool) -> Result<Pl
     Ok(plain)
 }
 
-/// A file up to its variables, or one of the refusals 1 to 6.
-pub fn declarations(
+/// The walk of the CONG step of this number (Req 03), by the records as they stand: one
+/// that is not there has zeros. Refused by 1 to 3, and by 12 where there is no such step.
+pub fn links(file: &[u8], number: usize) -> Result<Walk, Refusal> {
+    let (counts, words) = header(file, |_| true)?;
+    let field = |section: Section, record: u32, field: usize| {
+        let there = record >= 1 && record <= counts[section];
+        if there { words[counts.place(section, record, field)] } else { 0 }
+    };
+    let list = |start: u32| {
+        let mut values = Vec::new();
+        let mut at = start;
+        while at >= 1 && at <= counts[Section::Links] {
+            values.push(field(Section::Links, at, 0));
+            let next = field(Section::Links, at, 1);
+            at = if next > at { next } else { 0 };
+        }
+        values
+    };
+    let step = |number: u32| {
+        let [rule, context, left, right, premises] =
+            [0, 1, 2, 3, 4].map(|place| field(Section::Steps, number, place));
+        Step { rule, context, left, right, premises: list(premises) }
+    };
+    let number = u32::try_from(number).unwrap_or(0);
+    if field(Section::Steps, number, 0) != 2 {
+        return Err(Refusal::whole(Reason::Step));
+    }
+    let asked = step(number);
+    let side = |term: u32| [0, 1, 2].map(|place| field(Section::Terms, term, place));
+    let ([left, f, from], [right, g, to]) = (side(asked.left), side(asked.right));
+    if left != 2 || right != 2 || f != g {
+        return Ok(Walk { passes: false, links: 0 });
+    }
+    let before: Vec<Step> = asked.premises.iter().map(|&premise| step(premise)).collect();
+    Ok(asked.walk(&list(from), &list(to), &before))
+}
+
+impl Step {
+    /// CONG's walk over the arguments of both sides and the premises: the places up to the
+    /// end of the shortest list, or to the first premise that does not carry its pair.
+    fn walk(&self, from: &[u32], to: &[u32], before: &[Step]) -> Walk {
+        let lengths = [from.len(), to.len(), before.len()];
+        let shortest = lengths.into_iter().min().unwrap_or(0);
+        let carried = (0..shortest)
+            .take_while(|&i| {
+                (before[i].context, before[i].left, before[i].right)
+                    == (self.context, from[i], to[i])
+            })
+            .count();
+        let read = if carried < shortest { carried + 1 } else { shortest };
+        Walk { passes: lengths == [carried; 3], links: 3 * read }
+    }
+}
+
+/// Counts and words of a file, or one of the refusals 1 to 4.
+fn header(
     file: &[u8],
     areas_suffice: impl Fn(&Counts) -> bool,
-) -> Result<Plain, Refusal> {
+) -> Result<(Counts, Vec<u32>), Refusal> {
     let whole = |reason| Err(Refusal::whole(reason));
     if file.len() < HEADER_BYTES {
         return whole(Reason::Length);
@@ -105,6 +159,15 @@ pub fn declarations(
     if !areas_suffice(&counts) {
         return whole(Reason::Area);
     }
+    Ok((counts, words))
+}
+
+/// A file up to its variables, or one of the refusals 1 to 6.
+pub fn declarations(
+    file: &[u8],
+    areas_suffice: impl Fn(&Counts) -> bool,
+) -> Result<Plain, Refusal> {
+    let (_, words) = header(file, areas_suffice)?;
     let mut plain = Plain { left: words[7], right: words[8], ..Plain::default() };
     plain.each(file, Section::Links, Plain::link)?;
     plain.each(file, Section::Symbols, Plain::symbol)?;
@@ -403,13 +466,7 @@ impl Plain {
         else {
             return Some(Reason::Rule);
         };
-        let follows = f == g
-            && before.len() == from.len()
-            && before.len() == to.len()
-            && (0..before.len()).all(|i| {
-                (before[i].context, before[i].left, before[i].right)
-                    == (step.context, from[i], to[i])
-            });
+        let follows = f == g && step.walk(from, to, before).passes;
         if follows { None } else { Some(Reason::Rule) }
     }
 

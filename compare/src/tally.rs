@@ -11,10 +11,18 @@ use std::{fs, io, iter};
 pub const ENOUGH: usize = 10;
 
 /// Inputs or calls by the answer's number, 0 where there is no refusal.
-type Counts = BTreeMap<u64, u64>;
+pub type Counts = BTreeMap<u64, u64>;
 
-fn count(counts: &Counts, number: u64) -> u64 {
+pub fn count(counts: &Counts, number: u64) -> u64 {
     counts.get(&number).copied().unwrap_or(0)
+}
+
+/// Those of the numbers, and 0, that were counted fewer than `least` times.
+pub fn unseen(counts: &Counts, numbers: impl Iterator<Item = Reason>, least: u64) -> Vec<u32> {
+    iter::once(0)
+        .chain(numbers.map(Reason::number))
+        .filter(|&number| count(counts, u64::from(number)) < least)
+        .collect()
 }
 
 /// The share of the inputs that is tried more dearly: the first few of each kind,
@@ -97,10 +105,7 @@ impl<F: Ord + Debug> Tally<F> {
 
     /// Those of the numbers, and 0, that were answered fewer than `least` times.
     pub fn unseen(&self, numbers: impl Iterator<Item = Reason>, least: u64) -> Vec<u32> {
-        iter::once(0)
-            .chain(numbers.map(Reason::number))
-            .filter(|&number| count(&self.calls, u64::from(number)) < least)
-            .collect()
+        unseen(&self.calls, numbers, least)
     }
 
     /// The samples, the families, and a table of the numbers. `good` is the word for 0.

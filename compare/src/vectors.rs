@@ -4,6 +4,7 @@
 use crate::answer::Reason;
 use crate::bundle::{LEFT, RIGHT, to_bytes, to_words};
 use crate::compare::{self, Checker};
+use crate::compare_links::Counter;
 use crate::compare_reader::{self, Reader};
 use crate::compare_writer::{self, Areas, Writer};
 use std::collections::BTreeMap;
@@ -19,6 +20,7 @@ pub enum Call {
     Sets { lent: usize, file: Vec<u8> },
     Write { lengths: [usize; 3], job: Vec<u8> },
     Read { lengths: [usize; 3], declarations: Vec<u8>, text: Vec<u8> },
+    Links { step: usize, file: Vec<u8> },
 }
 
 /// One of those who are held to the lines, with its calls.
@@ -29,6 +31,7 @@ pub struct Party<'a> {
     pub check: Checker<'a>,
     pub expand: Writer<'a>,
     pub read: Reader<'a>,
+    pub links: Counter<'a>,
     /// Longer texts are not given to its reader; the report names their lines.
     pub longest_text: usize,
 }
@@ -48,6 +51,7 @@ impl Call {
                 declarations: bytes(declarations)?,
                 text: bytes(text)?,
             }),
+            ["links", step, file] => Ok(Call::Links { step: number(step)?, file: bytes(file)? }),
             _ => Err(format!("there is no such call here: {}", words[0])),
         }
     }
@@ -58,6 +62,7 @@ impl Call {
             Call::Sets { .. } => "sets",
             Call::Write { .. } => "write",
             Call::Read { .. } => "read",
+            Call::Links { .. } => "links",
         }
     }
 
@@ -90,6 +95,7 @@ impl Call {
                     written(compare_reader::call(read, declarations, text, *lengths, junk))
                 })
             }
+            Call::Links { step, file } => Some((counted((party.links)(file, *step)), None)),
         }
     }
 }
@@ -111,6 +117,25 @@ fn written((answer, areas): (u64, Areas)) -> (String, Option<&'static str>) {
     }
     out.truncate(length);
     (format!("written {}", spelled(&out)), problem)
+}
+
+/// How many links were read: exactly so many where the test passes.
+fn counted(answer: u64) -> String {
+    let links = answer & 0xffff_ffff;
+    match answer >> 32 {
+        0 => format!("exactly {links}"),
+        13 => format!("at-most {links}"),
+        _ => refused(answer),
+    }
+}
+
+/// Whether what was found is the answer. Fewer links than `at-most` gives are, too.
+fn meets(found: &str, answer: &str) -> bool {
+    let most = |text: &str| text.strip_prefix("at-most ")?.parse::<u64>().ok();
+    match (most(found), most(answer)) {
+        (Some(links), Some(most)) => links <= most,
+        _ => found == answer,
+    }
 }
 
 /// Number and record. A byte of 2^32 or more is none of a vector's.
@@ -223,7 +248,7 @@ impl Report {
                 continue;
             };
             *self.answered.entry((name, call.name())).or_default() += 1;
-            if found != answer {
+            if !meets(&found, answer) {
                 let (found, answer) = (shortened(&found), shortened(answer));
                 let text = format!("line {place}: {} says {found}, not {answer}", party.name);
                 self.differences.push(text);
@@ -305,6 +330,7 @@ mod tests {
                 out.fill(0);
                 1 << 32
             },
+            links: &|_, _| 1 << 32,
             longest_text,
         };
         let text =
@@ -313,6 +339,18 @@ mod tests {
         assert!(report.agrees(), "{report}");
         assert_eq!(report.answered.values().copied().collect::<Vec<_>>(), [2, 1]);
         assert!(report.to_string().contains("few: NOT held to lines [2]"), "{report}");
+    }
+
+    /// A count has to be the one where the test passes, and no more where it fails.
+    #[test]
+    fn counts_of_links() {
+        let failed = |links: u64| (13 << 32) + links;
+        let said = |answer: u64| counted(answer);
+        assert!(meets(&said(6), "exactly 6") && !meets(&said(5), "exactly 6"));
+        assert!(meets(&said(failed(6)), "at-most 6") && meets(&said(failed(0)), "at-most 6"));
+        assert!(!meets(&said(failed(7)), "at-most 6"));
+        assert!(!meets(&said(6), "at-most 6") && !meets(&said(failed(6)), "exactly 6"));
+        assert!(!meets(&said(12 << 32), "at-most 6") && !meets(&said(1 << 32), "exactly 0"));
     }
 
     #[test]

@@ -6,11 +6,9 @@ use super::word_map::WordMap;
 use crate::answer::{Reason, Refusal};
 use crate::fault::{Fault, Rules};
 
-/// A link, and what is known of the list that starts there.
+/// What is known of the list that starts at a link.
 #[derive(Clone, Copy, Debug)]
-struct Link {
-    value: u32,
-    next: u32,
+struct Known {
     length: u32,
     smallest: u32,
     largest: u32,
@@ -18,7 +16,7 @@ struct Link {
     class: u32,
 }
 
-const EMPTY: Link = Link { value: 0, next: 0, length: 0, smallest: u32::MAX, largest: 0, class: 0 };
+const EMPTY: Known = Known { length: 0, smallest: u32::MAX, largest: 0, class: 0 };
 
 /// Classes of lists: a list is its first value and the class of its tail. The
 /// empty list's class is 0.
@@ -37,41 +35,52 @@ impl Classes {
     }
 }
 
+/// Whether a link's next is a later link, of so many.
+fn climbs(number: u32, next: u32, count: u32) -> bool {
+    next > number && next <= count
+}
+
 #[derive(Debug)]
 pub struct Lists {
+    /// Value and next of each link: walks read these alone. Index 0 is no link.
+    links: Vec<[u32; 2]>,
     /// Index 0 is the empty list.
-    links: Vec<Link>,
+    known: Vec<Known>,
 }
 
 impl Lists {
     pub fn decode<R: Rules>(rules: R, records: &[[u32; 2]]) -> Result<(Self, Classes), Refusal> {
         let count = records.len() as u32;
-        let ends_or_climbs = |number: u32, next: u32| next == 0 || (next > number && next <= count);
         first_refusal(rules, records.iter(), |number, &[_, next]| {
-            let sound = ends_or_climbs(number, next)
+            let sound = (next == 0 || climbs(number, next, count))
                 && !(rules.has(Fault::LastLinkRefused) && next == count)
                 || rules.has(Fault::LinkToItselfTaken) && next == number
                 || rules.has(Fault::LinkPastEndTaken) && next == count + 1;
             if sound { Ok(()) } else { Err(Reason::Link) }
         })?;
+        Ok(Self::read(records))
+    }
 
+    /// The lists of any links: a chain ends at a next that does not climb, or that is
+    /// over the number of links.
+    pub fn read(records: &[[u32; 2]]) -> (Self, Classes) {
+        let count = records.len() as u32;
         let mut classes = Classes::with_capacity(records.len());
-        let mut links = vec![EMPTY; records.len() + 1];
+        let mut links = vec![[0; 2]; records.len() + 1];
+        let mut known = vec![EMPTY; records.len() + 1];
         for (index, &[value, next]) in records.iter().enumerate().rev() {
             let number = index as u32 + 1;
-            // Only a fault lets another next come here: it then ends the list.
-            let next = if ends_or_climbs(number, next) { next } else { 0 };
-            let tail = links[next as usize];
-            links[number as usize] = Link {
-                value,
-                next,
+            let next = if climbs(number, next, count) { next } else { 0 };
+            let tail = known[next as usize];
+            links[number as usize] = [value, next];
+            known[number as usize] = Known {
                 length: tail.length + 1,
                 smallest: tail.smallest.min(value),
                 largest: tail.largest.max(value),
                 class: classes.class(value, tail.class),
             };
         }
-        Ok((Lists { links }, classes))
+        (Lists { links, known }, classes)
     }
 
     /// Whether `start` may start a list: 0 or a link.
@@ -80,24 +89,24 @@ impl Lists {
     }
 
     pub fn length(&self, start: u32) -> u32 {
-        self.links[start as usize].length
+        self.known[start as usize].length
     }
 
     /// Whether every value of the list is from 1 to `largest`.
     pub fn within(&self, start: u32, largest: u32) -> bool {
-        let list = &self.links[start as usize];
+        let list = &self.known[start as usize];
         list.smallest >= 1 && list.largest <= largest
     }
 
     /// Whether every value of the list is at most `largest`.
     pub fn at_most(&self, start: u32, largest: u32) -> bool {
-        self.links[start as usize].largest <= largest
+        self.known[start as usize].largest <= largest
     }
 
     /// Two starts have the same class exactly where their lists have the same
     /// values.
     pub fn class(&self, start: u32) -> u32 {
-        self.links[start as usize].class
+        self.known[start as usize].class
     }
 
     /// The first value and the start of the rest; `None` for the empty list.
@@ -105,8 +114,13 @@ impl Lists {
         if start == 0 {
             return None;
         }
-        let link = &self.links[start as usize];
-        Some((link.value, link.next))
+        let [value, next] = self.link(start);
+        Some((value, next))
+    }
+
+    /// A link's value and next.
+    pub fn link(&self, number: u32) -> [u32; 2] {
+        self.links[number as usize]
     }
 
     pub fn values(&self, start: u32) -> impl Iterator<Item = u32> + '_ {

@@ -3,12 +3,14 @@
 //! A file is decoded into tables in the order of the refusals. What a record
 //! needs to know of a list (its length, smallest and largest value, and which
 //! other lists equal it) is computed once for each link, from the end of the
-//! chain, and what a list of terms or premises was found to be is remembered at
-//! its links. So the time is linear in the file, also where lists are shared,
-//! but for a factor of at most 256 in lets and contexts (a variable each).
+//! chain, and what a list of terms was found to be is remembered at its links. So
+//! the time is linear in the file, also where lists are shared, but for a factor of
+//! at most 256 in lets and contexts (a variable each), and for CONG: it takes each of
+//! its three lists once at every step (Req 03), so as long as they are together.
 
 mod contexts;
 mod header;
+mod links;
 mod lists;
 mod signature;
 mod steps;
@@ -16,6 +18,8 @@ mod terms;
 mod word_map;
 
 pub use header::Header;
+pub use links::links;
+pub(crate) use links::links_with;
 pub use lists::Lists;
 pub use signature::{Arguments, Profile, Signature, Sort};
 pub use terms::{Quantifier, Term, Terms};

@@ -2,25 +2,40 @@
 
 use super::contexts::{Contexts, Entry};
 use super::terms::Term;
-use super::{Tables, first_refusal, member};
-use crate::answer::{Claim, Reason, Refusal};
+use super::{Lists, Tables, first_refusal, member};
+use crate::answer::{Claim, Reason, Refusal, Walk};
 use crate::bundle::Section;
 use crate::fault::{Fault, OLD_VARIABLES, Rules};
 use crate::set::Set;
+use std::hint::black_box;
 
 const REFL: u32 = 1;
-const CONG: u32 = 2;
+pub const CONG: u32 = 2;
 const TRANS: u32 = 3;
 const BIND: u32 = 4;
 const LET: u32 = 5;
 
-#[derive(Clone, Copy, Debug, Default, PartialEq, Eq)]
-struct Step {
-    rule: u32,
-    context: u32,
-    left: u32,
-    right: u32,
-    premises: u32,
+#[derive(Clone, Copy, Debug, PartialEq, Eq)]
+pub struct Step {
+    pub rule: u32,
+    pub context: u32,
+    pub left: u32,
+    pub right: u32,
+    pub premises: u32,
+}
+
+/// What a number that is no step's reads as.
+const NO_STEP: Step = Step { rule: 0, context: 0, left: 0, right: 0, premises: 0 };
+
+impl Step {
+    fn of(&[rule, context, left, right, premises]: &[u32; 5]) -> Self {
+        Step { rule, context, left, right, premises }
+    }
+
+    /// The steps by number: index 0 is no step.
+    pub fn all(records: &[[u32; 5]]) -> Vec<Step> {
+        [NO_STEP].into_iter().chain(records.iter().map(Step::of)).collect()
+    }
 }
 
 pub fn check<R: Rules>(rules: R, tables: &Tables, contexts: &Contexts) -> Result<Claim, Refusal> {
@@ -28,17 +43,24 @@ pub fn check<R: Rules>(rules: R, tables: &Tables, contexts: &Contexts) -> Result
     if rules.has(Fault::ClaimBeforeSteps) {
         claim(rules, tables, records)?;
     }
-    let mut checker = Checker {
-        rules,
-        tables,
-        contexts,
-        steps: vec![Step::default(); records.len() + 1],
-        conclusions: vec![Conclusions::default(); tables.lists.count() + 1],
-    };
-    first_refusal(rules, records.iter(), |number, &[rule, context, left, right, premises]| {
-        checker.step(number, Step { rule, context, left, right, premises })
-    })?;
+    let steps = vec![NO_STEP; records.len() + 1];
+    let mut checker = Checker { rules, tables, contexts, steps };
+    first_refusal(rules, records.iter(), |number, record| checker.step(number, Step::of(record)))?;
     claim(rules, tables, records)
+}
+
+/// The walk of the CONG step of this number, whatever the steps before it are;
+/// `None` where 12 refuses it.
+pub fn walk_of<R: Rules>(
+    rules: R,
+    tables: &Tables,
+    contexts: &Contexts,
+    number: u32,
+) -> Option<Walk> {
+    let steps = Step::all(tables.section(Section::Steps).as_chunks::<5>().0);
+    let step = steps[number as usize];
+    let checker = Checker { rules, tables, contexts, steps };
+    checker.references_sound(number, &step).then(|| checker.cong(&step))
 }
 
 /// The last step has to be the claim, in the empty context.
@@ -55,14 +77,66 @@ fn claim<R: Rules>(rules: R, tables: &Tables, records: &[[u32; 5]]) -> Result<Cl
     if proved { Ok(claim) } else { Err(Refusal::whole(Reason::Claim)) }
 }
 
-/// What the premises that start at a link conclude together: one context, and
-/// the classes of the lists of their left and right sides. Left is 0 where the
-/// link was not walked yet.
-#[derive(Clone, Copy, Debug, Default, PartialEq, Eq)]
-struct Conclusions {
-    context: u32,
-    left: u32,
-    right: u32,
+/// A side of a CONG step that is an application: its symbol and list of arguments.
+#[derive(Clone, Copy, Debug)]
+pub struct Side {
+    pub symbol: u32,
+    pub arguments: u32,
+}
+
+/// CONG's test of a step, whose sides are given where they are applications. It takes
+/// each of the three lists once, a link of each at a time, and ends at the first
+/// premise that does not carry its pair, or where a list ends. A premise that is no
+/// step is a record of zeros. Inlined, with what calls it, for steps of few arguments.
+#[inline(always)]
+pub fn cong_walk<R: Rules>(
+    rules: R,
+    lists: &Lists,
+    steps: &[Step],
+    step: &Step,
+    sides: [Option<Side>; 2],
+    same_context: impl Fn(u32, u32) -> bool,
+) -> Walk {
+    let mut links = 0;
+    let ended = |passes, links| Walk { passes, links };
+    let [Some(left), Some(right)] = sides else { return ended(false, links) };
+    if left.symbol != right.symbol && !rules.has(Fault::CongSymbolsDiffer) {
+        return ended(false, links);
+    }
+    let (mut left, mut right, mut premises) = (left.arguments, right.arguments, step.premises);
+    if rules.has(Fault::CongLengthsFirst)
+        && [right, premises].iter().any(|&start| lists.length(start) != lists.length(left))
+    {
+        return ended(false, links);
+    }
+    while left != 0 && right != 0 && premises != 0 {
+        if rules.has(Fault::CongEndsAtSharedLink) && left == right {
+            return ended(true, links);
+        }
+        let [[from, next_left], [to, next_right], [premise, next]] =
+            [left, right, premises].map(|start| lists.link(start));
+        let premise = steps.get(premise as usize).unwrap_or(&NO_STEP);
+        let carries = (same_context(premise.context, step.context)
+            || rules.has(Fault::CongContextsDiffer))
+            && premise.left == from
+            && (premise.right == to || rules.has(Fault::CongRightUnread));
+        if !carries && rules.has(Fault::CongLastPositionUncounted) {
+            return ended(false, links);
+        }
+        links += if rules.has(Fault::CongPremisesUncounted) {
+            2
+        } else if rules.has(Fault::CongRightWalkedTwice) {
+            4
+        } else {
+            3
+        };
+        if !carries {
+            return ended(false, links);
+        }
+        (left, right, premises) = (next_left, next_right, next);
+    }
+    let arguments_end = left == 0 && right == 0 || rules.has(Fault::CongPremiseMissing);
+    ended(arguments_end && premises == 0, links)
 }
 
 struct Checker<'a, R> {
@@ -71,7 +145,6 @@ struct Checker<'a, R> {
     contexts: &'a Contexts,
     /// Index 0 is no step.
     steps: Vec<Step>,
-    conclusions: Vec<Conclusions>,
 }
 
 impl<R: Rules> Checker<'_, R> {
@@ -85,7 +158,9 @@ impl<R: Rules> Checker<'_, R> {
                 require(self.refl(&step), Reason::Side)
             }
             REFL => require(self.refl(&step), Reason::Rule),
-            CONG => require(self.cong(&step), Reason::Rule),
+            // The count is made here too, though only `links` asks for it: without
+            // `black_box` the compiler would leave it out, and times would not compare.
+            CONG => require(black_box(self.cong(&step)).passes, Reason::Rule),
             TRANS => self.trans(&step),
             BIND => self.bind(&step),
             _ => require(self.let_(&step), Reason::Rule),
@@ -160,51 +235,15 @@ impl<R: Rules> Checker<'_, R> {
         }
     }
 
-    fn cong(&mut self, step: &Step) -> bool {
+    #[inline(always)]
+    fn cong(&self, step: &Step) -> Walk {
         let Tables { lists, terms, .. } = self.tables;
-        let (left, right) = (terms.get(step.left).term, terms.get(step.right).term);
-        let (
-            Term::Application { symbol, arguments: mut left },
-            Term::Application { symbol: other, arguments: mut right },
-        ) = (left, right)
-        else {
-            return false;
-        };
-        let (arguments, count) = (lists.length(left), lists.length(step.premises));
-        if arguments != lists.length(right)
-            || symbol != other && !self.rules.has(Fault::CongSymbolsDiffer)
-        {
-            return false;
-        }
-        if count != arguments && !(self.rules.has(Fault::CongPremiseMissing) && count < arguments) {
-            return false;
-        }
-        let mut premises = step.premises;
-        while let (Some((premise, next)), Some((from, next_left)), Some((to, next_right))) =
-            (lists.split(premises), lists.split(left), lists.split(right))
-        {
-            let here = Conclusions {
-                context: step.context,
-                left: lists.class(left),
-                right: lists.class(right),
-            };
-            let known = self.conclusions[premises as usize];
-            if known.left != 0 {
-                return known == here || self.rules.has(Fault::CongRememberedUnread);
-            }
-            let premise = &self.steps[premise as usize];
-            let proves = (self.same_context(premise.context, step.context)
-                || self.rules.has(Fault::CongContextsDiffer))
-                && premise.left == from
-                && (premise.right == to || self.rules.has(Fault::CongRightUnread));
-            if !proves {
-                return false;
-            }
-            // A mismatch further on ends the check, so this is not read then.
-            self.conclusions[premises as usize] = here;
-            (premises, left, right) = (next, next_left, next_right);
-        }
-        true
+        let sides = [step.left, step.right].map(|side| match terms.get(side).term {
+            Term::Application { symbol, arguments } => Some(Side { symbol, arguments }),
+            _ => None,
+        });
+        let same_context = |one, other| self.same_context(one, other);
+        cong_walk(self.rules, lists, &self.steps, step, sides, same_context)
     }
 
     fn trans(&self, step: &Step) -> Result<(), Reason> {

@@ -1,8 +1,10 @@
 //! The comparison on files, jobs and texts: with the proved library and the programs where
 //! they are there, and with the plain readings always.
 
-use crate::{exact, exact_expand, exact_read, plain, plain_expand, plain_read, with_stack};
-use nezkaldo_compare::compare::{self, Checkers};
+use crate::{
+    EXACT, PLAIN, exact, exact_expand, exact_read, plain, plain_expand, plain_read, with_stack,
+};
+use nezkaldo_compare::compare::{self, Calls, Checkers};
 use nezkaldo_compare::compare_reader::{self, Readers};
 use nezkaldo_compare::compare_writer::{self, Writers};
 use nezkaldo_compare::ffi::{self, Library};
@@ -22,6 +24,7 @@ fn check_files(checkers: Checkers) {
     let report = compare::run(checkers, SEED, FILES, failures()).unwrap();
     assert!(report.agrees(), "{report}");
     assert_eq!(report.unseen(1), [], "{report}");
+    assert_eq!(report.walks.unseen(1), [], "{report}");
 }
 
 fn check_jobs(writers: Writers) {
@@ -39,7 +42,7 @@ fn check_texts(readers: Readers) {
 
 #[test]
 fn the_two_readings_agree_on_files() {
-    check_files(Checkers::two(&plain, &exact));
+    check_files(Checkers::two(PLAIN, EXACT));
 }
 
 #[test]
@@ -66,7 +69,7 @@ fn the_two_readings_agree_on_texts() {
 
 #[test]
 fn the_proved_check_agrees() {
-    let Some(Library { check, .. }) = ffi::library() else {
+    let Some(Library { check, links, .. }) = ffi::library() else {
         eprintln!("no proved library in this build: not compared");
         return;
     };
@@ -75,7 +78,8 @@ fn the_proved_check_agrees() {
         eprintln!("no program check: not compared");
     }
     let program = program.as_ref().map(|program| program as Program);
-    check_files(Checkers { subject: check, reference: &exact, plain: Some(&plain), program });
+    let subject = Calls { check, links };
+    check_files(Checkers { subject, reference: EXACT, plain: Some(PLAIN), program });
 }
 
 #[test]

@@ -9,11 +9,13 @@ mod reader;
 mod teeth;
 mod variables;
 mod vectors;
+mod walks;
 mod worlds;
 mod writer;
 
-use nezkaldo_compare::answer::packed;
+use nezkaldo_compare::answer::{packed, packed_walk};
 use nezkaldo_compare::bundle::{MAX_SETS, to_bytes};
+use nezkaldo_compare::compare::Calls;
 use nezkaldo_compare::{
     check, compare_reader, compare_writer, expand, naive, naive_expand, naive_read, read,
 };
@@ -41,6 +43,19 @@ pub fn exact(file: &[u8], free: &mut [u64]) -> u64 {
 pub fn plain(file: &[u8], free: &mut [u64]) -> u64 {
     packed(naive::check(file, free))
 }
+
+/// The links that the checker's CONG test reads at a step, in the library's form.
+pub fn exact_links(file: &[u8], step: usize) -> u64 {
+    packed_walk(check::links(file, step))
+}
+
+/// The plain reading's.
+pub fn plain_links(file: &[u8], step: usize) -> u64 {
+    packed_walk(naive::links(file, step))
+}
+
+pub const EXACT: Calls = Calls { check: &exact, links: &exact_links };
+pub const PLAIN: Calls = Calls { check: &plain, links: &plain_links };
 
 pub fn exact_expand(job: &[u8], out: &mut [u8], words: &mut [u32], sets: &mut [u64]) -> u64 {
     compare_writer::packed(expand::expand(job, out, words, sets))

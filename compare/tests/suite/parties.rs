@@ -1,11 +1,11 @@
 //! The plain readings and the programs have a say of their own: one that differs
 //! from an otherwise exact comparison is noticed.
 
-use crate::{exact, exact_expand, exact_read};
+use crate::{EXACT, exact, exact_expand, exact_read};
 use nezkaldo_compare::answer::{Claim, Refusal, line};
 use nezkaldo_compare::bundle::{MAX_SETS, to_bytes};
 use nezkaldo_compare::check::check;
-use nezkaldo_compare::compare::{self, Checkers};
+use nezkaldo_compare::compare::{self, Calls, Checkers};
 use nezkaldo_compare::compare_reader::{self, Readers};
 use nezkaldo_compare::compare_writer::{self, Writers};
 use nezkaldo_compare::expand::written;
@@ -26,7 +26,7 @@ const JOBS: u64 = 600;
 const TEXTS: u64 = 600;
 
 fn checkers(program: Program) -> Checkers {
-    Checkers { program: Some(program), ..Checkers::two(&exact, &exact) }
+    Checkers { program: Some(program), ..Checkers::two(EXACT, EXACT) }
 }
 
 fn writers(program: Option<Program>) -> Writers {
@@ -258,7 +258,8 @@ fn long_inputs_pass_through() {
 fn another_plain_reading_is_noticed() {
     for fault in [Fault::BindImagesUnread, Fault::AreaTailKept, Fault::AreaKeptOnRefusal] {
         let broken = broken_checker(fault);
-        let checkers = Checkers { plain: Some(&broken), ..Checkers::two(&exact, &exact) };
+        let plain = Some(Calls { check: &broken, ..EXACT });
+        let checkers = Checkers { plain, ..Checkers::two(EXACT, EXACT) };
         let report = compare::run(checkers, SEED, 20_000, None).unwrap();
         assert!(!report.agrees(), "{fault:?}");
         assert!(report.to_string().contains("from the plain reading"), "{report}");

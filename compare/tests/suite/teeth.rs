@@ -1,12 +1,14 @@
 //! The comparison notices every single fault, by the ordinary files alone.
 
-use crate::{exact, exact_expand, exact_read};
+use crate::{EXACT, exact, exact_expand, exact_links, exact_read};
 use nezkaldo_compare::bundle::MAX_SETS;
-use nezkaldo_compare::compare::{self, Checkers};
+use nezkaldo_compare::compare::{self, Calls, Checkers};
 use nezkaldo_compare::eval::claim_holds;
 use nezkaldo_compare::fault::Fault;
 use nezkaldo_compare::generate::case;
-use nezkaldo_compare::mutants::{Verdict, broken_checker, try_checkers, try_readers, try_writers};
+use nezkaldo_compare::mutants::{
+    Verdict, broken_checker, broken_links, try_checkers, try_readers, try_walks, try_writers,
+};
 use nezkaldo_compare::naive;
 use nezkaldo_compare::rng::Rng;
 
@@ -40,8 +42,27 @@ fn every_broken_reader_is_told_apart() {
 /// An exact copy is not told apart: no fault is no difference.
 #[test]
 fn the_exact_checker_is_not() {
-    let report = compare::run(Checkers::two(&exact, &exact), SEED, 500, None).unwrap();
+    let report = compare::run(Checkers::two(EXACT, EXACT), SEED, 500, None).unwrap();
     assert!(report.agrees());
+}
+
+/// A walk is told apart by its count, in the library's place and in the plain reading's.
+#[test]
+fn every_broken_walk_is_told_apart() {
+    assert_all_told(&try_walks(&exact_links, SEED, 2_000, true));
+    for &fault in Fault::WALK {
+        let broken = broken_links(fault);
+        let broken = Calls { links: &broken, ..EXACT };
+        for (checkers, from) in [
+            (Checkers::two(broken, EXACT), "from the Rust checker"),
+            (Checkers { plain: Some(broken), ..Checkers::two(EXACT, EXACT) }, "from the plain"),
+        ] {
+            let report = compare::run(checkers, SEED, 2_000, None).unwrap();
+            let said = report.differences.first().map(|difference| difference.text.clone());
+            let said = said.unwrap_or_default();
+            assert!(said.starts_with("links of step") && said.contains(from), "{fault:?}: {said}");
+        }
+    }
 }
 
 /// The evaluator has teeth too: files that only an unsound checker accepts claim

@@ -1,16 +1,20 @@
 //! The two readings, and the library where it is there, are held to the cases with answers
 //! of each request that has landed, with the answers that later ones moved.
 
-use crate::{exact, exact_expand, exact_read, plain, plain_expand, plain_read, with_stack};
+use crate::{
+    exact, exact_expand, exact_links, exact_read, plain, plain_expand, plain_links, plain_read,
+    with_stack,
+};
 use nezkaldo_compare::ffi::{self, Library};
 use nezkaldo_compare::vectors::{self, Party, Report};
 
 /// The last request that has landed.
-const LANDED: u32 = 2;
+const LANDED: u32 = 3;
 
 const MOVES: &str = include_str!("../../vectors/moves.txt");
 const REQ_01: &str = include_str!("../../vectors/req01.txt");
 const REQ_02: &str = include_str!("../../vectors/req02.txt");
+const REQ_03: &str = include_str!("../../vectors/req03.txt");
 
 fn held(name: &str, text: &str) -> Report {
     let moved = vectors::moves(MOVES, name, LANDED).unwrap();
@@ -20,6 +24,7 @@ fn held(name: &str, text: &str) -> Report {
             check: &exact,
             expand: &exact_expand,
             read: &exact_read,
+            links: &exact_links,
             longest_text: usize::MAX,
         },
         Party {
@@ -27,13 +32,14 @@ fn held(name: &str, text: &str) -> Report {
             check: &plain,
             expand: &plain_expand,
             read: &plain_read,
+            links: &plain_links,
             longest_text: 2_000,
         },
     ];
     match ffi::library() {
-        Some(Library { check, expand, read }) => {
+        Some(Library { check, expand, read, links }) => {
             let longest_text = usize::MAX;
-            parties.push(Party { name: "the library", check, expand, read, longest_text });
+            parties.push(Party { name: "the library", check, expand, read, links, longest_text });
         }
         None => eprintln!("no proved library in this build: not held to {name}"),
     }
@@ -53,6 +59,11 @@ fn held(name: &str, text: &str) -> Report {
     report
 }
 
+/// How many cases of these calls the Rust programs answered.
+fn by_call<const N: usize>(report: &Report, calls: [&'static str; N]) -> [usize; N] {
+    calls.map(|call| report.answered[&("Rust".to_string(), call)])
+}
+
 /// The texts have every number that a reader answers. Those that lent as much as Req 01
 /// asked for are refused by Req 02.
 #[test]
@@ -69,9 +80,13 @@ fn vectors_of_req_02() {
     with_stack(|| {
         let report = held("req02", REQ_02);
         assert_eq!((report.cases, report.moved), (281, 0));
-        let calls: Vec<usize> = ["check", "read", "sets", "write"]
-            .map(|call| report.answered[&("Rust".to_string(), call)])
-            .to_vec();
-        assert_eq!(calls, [195, 17, 22, 47]);
+        assert_eq!(by_call(&report, ["check", "read", "sets", "write"]), [195, 17, 22, 47]);
     });
+}
+
+#[test]
+fn vectors_of_req_03() {
+    let report = held("req03", REQ_03);
+    assert_eq!((report.cases, report.moved), (338, 0));
+    assert_eq!(by_call(&report, ["check", "links"]), [185, 153]);
 }
