@@ -7,7 +7,6 @@ use crate::answer::{Claim, Reason, Refusal, Walk};
 use crate::bundle::Section;
 use crate::fault::{Fault, OLD_VARIABLES, Rules};
 use crate::set::Set;
-use std::hint::black_box;
 
 const REFL: u32 = 1;
 pub const CONG: u32 = 2;
@@ -158,9 +157,9 @@ impl<R: Rules> Checker<'_, R> {
                 require(self.refl(&step), Reason::Side)
             }
             REFL => require(self.refl(&step), Reason::Rule),
-            // The count is made here too, though only `links` asks for it: without
-            // `black_box` the compiler would leave it out, and times would not compare.
-            CONG => require(black_box(self.cong(&step)).passes, Reason::Rule),
+            // Only `links` asks for the count: here the compiler may leave it out, as it
+            // does in the proved library.
+            CONG => require(self.cong(&step).passes, Reason::Rule),
             TRANS => self.trans(&step),
             BIND => self.bind(&step),
             _ => require(self.let_(&step), Reason::Rule),

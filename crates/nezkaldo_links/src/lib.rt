@@ -23,8 +23,8 @@ fn walk_number(w: Walk) -> u64
     55834574848 + links as u64
 }
 
-// The links that the test of a CONG step reads where it passes; 13 · 2^32 more than that where it fails. 12 · 2^32 for a number that is no CONG step's, and n · 2^32
-// for a file whose header fails check n, of 1 to 3.
+// The links that the test of a CONG step reads where it passes; 13 · 2^32 more than that where it fails. 12 · 2^32 for a number that is no CONG step's,
+// and n · 2^32 for a file whose header fails check n, of 1 to 3.
 #[no_mangle]
 pub extern "C" fn nezkaldo_links(file: &[u8], step: usize) -> u64
     ensures { λ r. ⌜ r ≡ linksNumber (now (file .entry)) step ⌝ }

@@ -10,8 +10,8 @@ pub struct StepWords {
     pub premises: usize,
 }
 
-// What a step's walk takes beside its premises: the context in which they carry the terms of one list to those of another, and whether one more is left over for
-// a let's body. `good` says whether the rest of what the rule asks for is there.
+// What a step's walk takes beside its premises: the context in which they carry the terms of one list to those of another, and whether one more is left
+// over for a let's body. `good` says whether the rest of what the rule asks for is there.
 pub struct Lists {
     pub good: bool,
     pub body: bool,

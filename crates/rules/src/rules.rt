@@ -358,8 +358,8 @@ fn step_lists(file: &[u8], b: Bundle, bed: &[u32], s: StepWords) -> Lists
     let_lists(file, b, bed, s)
 }
 
-// The test of a CONG, with the links that its walk read, or else that of a LET. One place calls the walk: so the compiler puts it where the steps are judged, and
-// a step with short lists pays for no call.
+// The test of a CONG, with the links that its walk read, or else that of a LET. One place calls the walk: so the compiler puts it where the steps are
+// judged, and a step with short lists pays for no call.
 pub fn step_walk(file: &[u8], b: Bundle, bed: &[u32], s: StepWords) -> Walk
     requires { ⌜ Whole (now file) b ⌝ }
     ensures { λ r. ⌜ (let bundle = bundleAt (now (file .entry)) b in

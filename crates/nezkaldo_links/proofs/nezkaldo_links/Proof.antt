@@ -62,27 +62,28 @@ header-fault-requires : tie.Need-header-fault-requires
 header-fault-requires c κs = search needs
 
 mul-result : tie.Need-mul-result
-mul-result c =
-    omega (arith, header-small (c .before .before .before .args .file .now), c .before .header-fault .ensures)
+mul-result c = omega (arith, header-small (c .before .before .before .args .file .now), c .before .header-fault .ensures)
 
 returns : tie.Need-returns
-returns c =
-    refused (c .before .before .before .args .file .now) (c .before .before .before .args .step) (c .before .header-fault .ensures) (c .if1 .taken)
+returns c = refused (c .before .before .before .args .file .now) (c .before .before .before .args .step) (c .before .header-fault .ensures) (c .if1 .taken)
 
 counts-requires : tie.Need-counts-requires
 counts-requires c κs =
-    header-exactly (c .before .before .before .args .file .now) 0 0 .0 (sym (c .before .header-fault .ensures) ∙ c .if1 .left) .0 .long
+    let a = c .before .before .before .args in
+    header-exactly (a .file .now) 0 0 .0 (sym (c .before .header-fault .ensures) ∙ c .if1 .left) .0 .long
 
 step-words-requires : tie.Need-step-words-requires
 step-words-requires c κs =
-    whole (c .before .before .before .before .args .file .now) (c .before .before .header-fault .ensures) (c .before .if1 .left) (c .counts .ensures)
+    let a = c .before .before .before .before .args in
+    whole (a .file .now) (c .before .before .header-fault .ensures) (c .before .if1 .left) (c .counts .ensures)
 
 returns-2 : tie.Need-returns-2
 returns-2 c =
     let a = c .before .before .before .before .before .before .args in
-    let b = bundleAt (a .file .now) (c .before .before .counts .result) in
+    let q = c .before .before .counts in
+    let b = bundleAt (a .file .now) (q .result) in
     let s = c .before .step-words in
-    sym (counted (a .file .now) (c .before .before .before .before .header-fault .ensures) (c .before .before .before .if1 .left) (c .before .before .counts .ensures) (a .step)
+    sym (counted (a .file .now) (c .before .before .before .before .header-fault .ensures) (c .before .before .before .if1 .left) (q .ensures) (a .step)
     ∙ no-cong b (asStep (s .result)) (stepOf b (a .step)) (s .ensures) (c .if2 .taken))
 
 slice-aggregate-step-walk : tie.Need-slice-aggregate-step-walk
@@ -90,31 +91,36 @@ slice-aggregate-step-walk c = search needs
 
 step-walk-requires : tie.Need-step-walk-requires
 step-walk-requires c κs =
-    whole (c .before .before .before .before .before .before .before .args .file .now) (c .before .before .before .before .before .header-fault .ensures) (c .before .before .before .before .if1 .left) (c .before .before .before .counts .ensures)
+    let a = c .before .before .before .before .before .before .before .args in
+    let h = c .before .before .before .before .before .header-fault in
+    let q = c .before .before .before .counts in
+    whole (a .file .now) (h .ensures) (c .before .before .before .before .if1 .left) (q .ensures)
 
 walk-number-requires : tie.Need-walk-number-requires
 walk-number-requires c κs =
     let a = c .before .before .before .before .before .before .before .before .args in
+    let h = c .before .before .before .before .before .before .header-fault in
     let q = c .before .before .before .before .counts in
-    let w = whole (a .file .now) (c .before .before .before .before .before .before .header-fault .ensures) (c .before .before .before .before .before .if1 .left) (q .ensures) in
     let s = asStep (c .before .before .before .step-words .result) in
     omega (
       arith,
       ap (λ (x : Walk). x .links) (c .step-walk .ensures .0 (c .before .before .if2 .left) ∙ plain (a .file .now) (q .result) _ s (omega arith)),
-      links-short (a .file .now) (q .result) s w,
+      links-short (a .file .now) (q .result) s (whole (a .file .now) (h .ensures) (c .before .before .before .before .before .if1 .left) (q .ensures)),
     )
 
 returns-3 : tie.Need-returns-3
 returns-3 c =
     let a = c .before .before .before .before .before .before .before .before .before .args in
+    let h = c .before .before .before .before .before .before .before .header-fault in
     let q = c .before .before .before .before .before .counts in
     let b = bundleAt (a .file .now) (q .result) in
     let s = c .before .before .before .before .step-words in
+    let cong = c .before .before .before .if2 .left in
     let w = c .before .step-walk in
     c .walk-number .ensures
-    ∙ sym (counted (a .file .now) (c .before .before .before .before .before .before .before .header-fault .ensures) (c .before .before .before .before .before .before .if1 .left) (q .ensures) (a .step)
-    ∙ cong-number b (asStep (s .result)) (stepOf b (a .step)) (s .ensures) (w .result) (c .before .before .before .if2 .left)
-    (w .ensures .0 (c .before .before .before .if2 .left) ∙ plain (a .file .now) (q .result) _ (asStep (s .result)) (omega arith)))
+    ∙ sym (counted (a .file .now) (h .ensures) (c .before .before .before .before .before .before .if1 .left) (q .ensures) (a .step)
+    ∙ cong-number b (asStep (s .result)) (stepOf b (a .step)) (s .ensures) (w .result) cong
+    (w .ensures .0 cong ∙ plain (a .file .now) (q .result) _ (asStep (s .result)) (omega arith)))
 
 pub nezkaldo-links-spec : {M : Type 1} → statement M
 nezkaldo-links-spec =

@@ -17,15 +17,17 @@ returns c step x =
 returns-2 : tie.Need-returns-2
 returns-2 c step x =
     let a = c .before .before .before .args in
+    let h = c .before .before .before .pre in
     in-all (a .read) (a .read) 0
-    (end-plain (a .file .now) (a .b) step x (a .i) (a .j) (a .k) (c .before .if1 .left) (not-true (a .body) (c .if2 .taken)) (c .before .before .before .pre .3))
+    (end-plain (a .file .now) (a .b) step x (a .i) (a .j) (a .k) (c .before .if1 .left) (not-true (a .body) (c .if2 .taken)) (h .3))
     (omega arith)
 
 returns-3 : tie.Need-returns-3
 returns-3 c step x =
     let a = c .before .before .before .before .args in
+    let body = not-false (a .body) (c .before .if2 .left) in
     in-all (a .read) (a .read) 0
-    (end-missing (a .file .now) (a .b) step x (a .i) (a .j) (a .k) (c .before .before .if1 .left) (not-false (a .body) (c .before .if2 .left)) (c .if3 .taken))
+    (end-missing (a .file .now) (a .b) step x (a .i) (a .j) (a .k) (c .before .before .if1 .left) body (c .if3 .taken))
     (omega arith)
 
 take-requires : tie.Need-take-requires
@@ -37,11 +39,14 @@ followed-requires c κs = search needs
 returns-4 : tie.Need-returns-4
 returns-4 c step x =
     let a = c .before .before .before .before .before .before .args in
-    in-all (a .read) (c .before .take .result .read) 1
-    (end-body (a .file .now) (a .b) step x (a .i) (a .j) (a .k) (c .before .before .before .before .if1 .left)
-    (not-false (a .body) (c .before .before .before .if2 .left)) (c .followed .result) (c .before .before .if3 .left) (c .before .before .before .before .before .before .pre .3)
-    (next-is (a .file .now) (a .b) (a .k) (c .before .take .ensures .1) (c .followed .ensures)))
-    (c .before .take .ensures .2)
+    let h = c .before .before .before .before .before .before .pre in
+    let body = not-false (a .body) (c .before .before .before .if2 .left) in
+    let t = c .before .take in
+    let r = c .followed in
+    in-all (a .read) (t .result .read) 1
+    (end-body (a .file .now) (a .b) step x (a .i) (a .j) (a .k) (c .before .before .before .before .if1 .left) body (r .result)
+    (c .before .before .if3 .left) (h .3) (next-is (a .file .now) (a .b) (a .k) (t .ensures .1) (r .ensures)))
+    (t .ensures .2)
 
 pub end-walk-spec : {M : Type 1} → statement M
 end-walk-spec =

@@ -64,7 +64,10 @@ returns c =
       body = refl;
       context = refl;
       lefts = c .before .before .before .before .before .before .before .before .before .before .term-field3 .ensures;
-      rights = rw (← c .before .before .before .before .before .before .before .before .last-item .ensures, ← c .before .before .before .before .before .before .before .taken-field .ensures) (c .before .before .context-field3 .ensures);
+      rights = rw (
+        ← c .before .before .before .before .before .before .before .before .last-item .ensures,
+        ← c .before .before .before .before .before .before .before .taken-field .ensures,
+      ) (c .before .before .context-field3 .ensures);
     }
 
 pub let-lists-spec : {M : Type 1} → statement M
