@@ -1,5 +1,5 @@
 -- WHAT THE NUMBER SAYS that `nezkaldo_links` answers.
---     links-short     a CONG of a file with a header reads at most 6,144 links
+--     links-short     a CONG reads at most three times as many links as a file may have
 --     step-number     the number of a CONG step
 --     links-number    THE THEOREM
 use mathlib.Core.Path.{_≡_, refl, sym, _∙_}
@@ -9,6 +9,7 @@ use Prim.Native.Nat.{ℕ, _+_, _*_, _≤_, _<_}
 use native.Mathlib.Omega.{arith}
 use lib.ListN.{length}
 use Rattle.bundle.specs.declared.Bundle.{Bundle as Counts}
+use Rattle.bundle.specs.Limits.{limits}
 use Rattle.bundle.specs.Bundle.{Bundle, Step, stepOf}
 use Rattle.bundle.specs.File.{Whole, bundleAt, bundleOf, countsOf}
 use Rattle.bundle.proofs.Fields.{links-length}
@@ -20,17 +21,17 @@ use Rattle.nezkaldo_links.specs.Links.{walkNumber, stepNumber, linksNumb
 use Rattle.nezkaldo_links.proofs.Short.{lengths-short}
 
 -- the links that a CONG reads, at most
-read-few : (b : Bundle) (s : Step) → length (b .links) ≤ 2048 → congWalk b s .links ≤ 6144
+read-few : (b : Bundle) (s : Step) → length (b .links) ≤ limits .links → congWalk b s .links ≤ 3 * limits .links
 unfolding congWalk
 read-few b s few = omega (arith, cong-at-most (stepOf b) b s, lengths-short b s)
 
-few-links : (f : List ℕ) (c : Counts) → Whole f c → length (bundleAt f c .links) ≤ 2048
+few-links : (f : List ℕ) (c : Counts) → Whole f c → length (bundleAt f c .links) ≤ limits .links
 few-links f c whole = rw (links-length f c) (whole .within .links)
 
-pub links-short : (f : List ℕ) (c : Counts) (s : Step) → Whole f c → congWalk (bundleAt f c) s .links ≤ 6144
+pub links-short : (f : List ℕ) (c : Counts) (s : Step) → Whole f c → congWalk (bundleAt f c) s .links ≤ 3 * limits .links
 links-short f c s whole = read-few (bundleAt f c) s (few-links f c whole)
 
-module _ (b : Bundle) (k p : ℕ) (few : length (b .links) ≤ 2048) (cong : stepOf b k .rule ≡ 2) (is : p ≡ walkNumber (congWalk b (stepOf b k))) where
+module _ (b : Bundle) (k p : ℕ) (few : length (b .links) ≤ limits .links) (cong : stepOf b k .rule ≡ 2) (is : p ≡ walkNumber (congWalk b (stepOf b k))) where
   abbrev w : Walk
   w = congWalk b (stepOf b k)
 
@@ -43,7 +44,7 @@ module _ (b : Bundle) (k p : ℕ) (few : length (b .links) ≤ 2048) (cong : ste
   unfolding congWalk
   say true e =
       let all : p ≡ w .links = is ∙ rw e in
-      let small : w .links ≤ 6144 = read-few b (stepOf b k) few in
+      let small : w .links ≤ 3 * limits .links = read-few b (stepOf b k) few in
       record {
         passes = ((λ _. sym same ∙ e), (λ _. omega (arith, all, small)));
         exactly = λ _. all ∙ cong-exactly (stepOf b) b (stepOf b k) e;

@@ -3,6 +3,7 @@ ghost use mathlib.Core.Path.{_≡_};
 ghost use mathlib.Core.Bool.{true, _||_};
 ghost use lib.Dec.{eqb};
 ghost use Prim.Native.Nat.{ℕ, _+_, _*_, _≤_, _<_};
+ghost use Rattle.bundle.specs.Limits.{limits};
 ghost use Rattle.bundle.specs.Bundle.{Step, linkOf, stepOf, stepField};
 ghost use Rattle.bundle.specs.Links.{items};
 ghost use Rattle.bundle.specs.File.{Whole, bundleAt};
@@ -79,7 +80,7 @@ struct Taken {
 
 // Reads link i, after so many others. A walk reads links here and nowhere else, so it counts each.
 fn take(file: &[u8], b: Bundle, i: usize, read: usize) -> Taken
-    requires { ⌜ Whole (now file) b × (i ≡ 0 → ⊥) × (i ≤ b .links) × (read ≤ 8192) ⌝ }
+    requires { ⌜ Whole (now file) b × (i ≡ 0 → ⊥) × (i ≤ b .links) × (read ≤ 3 * limits .links) ⌝ }
     ensures { λ r. ⌜ (let link = linkOf (bundleAt (now (file .entry)) b) i in
         (r .value ≡ link .value) × (r .next ≡ link .next) × (r .read ≡ read + 1)) ⌝ }
 {
@@ -94,7 +95,7 @@ fn take(file: &[u8], b: Bundle, i: usize, read: usize) -> Taken
 
 // The end of a walk that has read so many links, where one list has ended at least: what is left of the lists starts at the links i, j and k.
 fn end_walk(file: &[u8], b: Bundle, body: bool, i: usize, j: usize, k: usize, read: usize) -> Walk
-    requires { ⌜ Whole (now file) b × (i ≤ b .links) × (j ≤ b .links) × (k ≤ b .links) × (read ≤ 8192)
+    requires { ⌜ Whole (now file) b × (i ≤ b .links) × (j ≤ b .links) × (k ≤ b .links) × (read ≤ 3 * limits .links)
         × (((eqb i 0 || eqb j 0) || eqb k 0) ≡ true) ⌝ }
     ensures { λ r. ⌜ (let bundle = bundleAt (now (file .entry)) b in
         (step : ℕ → Step) (c : ℕ) → r ≡ after read (walkBy step body c (items bundle i) (items bundle j) (items bundle k))) ⌝ }
