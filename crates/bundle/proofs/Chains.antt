@@ -1,6 +1,7 @@
 -- Laws of lists of links. A walk needs three: `chain-nil`, `chain-cons` and `next-le`; its measure is the length of the list that is left.
 --     chain-nil, chain-past    0 and a number past the last link start the empty list
 --     chain-cons               a link's list is its value, and then the list of the link that follows
+--     chain-short              a list has no more items than there are links
 --     next-le, next-up         the link that follows is a link or 0; if it is not 0, it is above
 use mathlib.Core.Path.{_≡_, refl, sym, ap, _∙_}
 use mathlib.Core.List.{List, [], _∷_}
@@ -104,3 +105,21 @@ next-le ls i = follows-le (length ls) i (at noLink ls i .next)
 
 pub next-up : (ls : List Link) (i : ℕ) → (nextOf ls i ≡ 0 → ⊥) → i < nextOf ls i
 next-up ls i = follows-up (length ls) i (at noLink ls i .next)
+
+-- xs, or nothing
+only-if-short : (p : Bool) (xs : List ℕ) (n : ℕ) → length xs ≤ n → length (cond p xs []) ≤ n
+only-if-short true xs n h = h
+only-if-short false xs n h = omega arith
+
+lists-short : (n : ℕ) (ls : List Link) (k : ℕ) → length (getD (lists n ls) k []) ≤ length ls
+unfolding lists rest
+lists-short n [] k = omega arith
+lists-short n (l ∷ ls) zero =
+    let next : List ℕ = getD (lists (suc n) ls) (l .next - suc n) [] in
+    omega (arith, only-if-short (ltb n (l .next)) next (length ls) (lists-short (suc n) ls (l .next - suc n)))
+lists-short n (l ∷ ls) (suc k) = omega (arith, lists-short (suc n) ls k)
+
+pub chain-short : (ls : List Link) (s : ℕ) → length (chain ls s) ≤ length ls
+unfolding chain
+chain-short ls zero = omega arith
+chain-short ls (suc s) = lists-short 1 ls s

@@ -2,6 +2,7 @@
 --     Tab          `tab` and the total lookup `at`
 --     Limits       the test of the counts says that each is within its limit
 --     Fields       the fields of records are the words where they stand; the counts are the lengths of the sections
+--     Parts        records read in a part of a file
 --     Chains       lists of links
 --     BundleWalks  what a walk over links knows
 --     Walks        the same of a file
@@ -12,6 +13,7 @@
 pub mod Tab
 pub mod Limits
 pub mod Fields
+pub mod Parts
 pub mod Chains
 pub mod BundleWalks
 pub mod Walks

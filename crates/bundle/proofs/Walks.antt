@@ -1,6 +1,7 @@
 -- The laws of BundleWalks, said of a file's bundle; and two tests of loops.
 --     or-none, numbers-not               tests of code as tests of specs/
-use mathlib.Core.Path.{_≡_, refl, sym}
+--     next-is, next-on                   the link after a link, from its next as it was read
+use mathlib.Core.Path.{_≡_, refl, sym, _∙_}
 use mathlib.Core.List.{List, [], _∷_}
 use mathlib.Core.Bool.{Bool, true, false, not, _||_, and-false, false≢true}
 use Prim.Native.Nat.{ℕ, _+_, _<_, _≤_}
@@ -10,10 +11,10 @@ use lib.Dec.{eqb, ltb}
 use borrow.Author.Tests.{eqb-true, eqb-false, ltb-true, ltb-false, lt-ltb, le-ltb, lt-leb, le-leb}
 use Rattle.bundle.specs.declared.Bundle.{Bundle as Counts}
 use Rattle.bundle.specs.Bundle.{linkOf}
-use Rattle.bundle.specs.Links.{items, nextOf, startsAt}
+use Rattle.bundle.specs.Links.{items, follows, nextOf, startsAt}
 use Rattle.bundle.specs.File.{bundleAt}
 use Rattle.bundle.specs.Lists.{sameList, numbers}
-use Rattle.bundle.proofs.Fields.{sized-at}
+use Rattle.bundle.proofs.Fields.{sized-at, links-length}
 use Rattle.bundle.proofs.BundleWalks as any
 
 -- both tests of an `or` fail where it does
@@ -67,3 +68,11 @@ module _ (f : List ℕ) (c : Counts) where
 
   pub nil-same : (j : ℕ) → j ≤ c .links → sameList [] (items (bundleAt f c) j) ≡ eqb j 0
   nil-same = any.nil-same (sized-at f c)
+
+  pub next-is : (i : ℕ) {next r : ℕ} → next ≡ linkOf (bundleAt f c) i .next → r ≡ follows (c .links) i next → r ≡ nextOf (bundleAt f c .links) i
+  next-is i d e = e ∙ rw (d, links-length f c)
+
+  -- a next that rises within the links is the link after
+  pub next-on : (i : ℕ) {next : ℕ} → next ≡ linkOf (bundleAt f c) i .next → i < next → next ≤ c .links → next ≡ nextOf (bundleAt f c .links) i
+  unfolding follows
+  next-on i {next} d l h = next-is i d (rw (lt-ltb i next l, le-leb next (c .links) h))

@@ -1,15 +1,17 @@
 -- How many links the walk over three lists reads.
 --     walk-at-most, walk-exactly     of any three lists
 --     cong-at-most, cong-exactly     THE THEOREMS: of CONG's
+--     lengths-short                  the three lengths are at most three times the links of the bundle
 use mathlib.Core.Path.{_≡_, refl}
 use mathlib.Core.Bool.{Bool, true, false, cond, false≢true, _&&_}
 use mathlib.Core.List.{List, [], _∷_}
-use Prim.Native.Nat.{ℕ, _+_, _≤_}
+use Prim.Native.Nat.{ℕ, _+_, _*_, _≤_}
 use native.Mathlib.Omega.{arith}
 use lib.ListN.{length}
 use Rattle.logic.proofs.Tests.{and-left, and-right}
 use Rattle.bundle.specs.Bundle.{Bundle, Step, termOf}
 use Rattle.bundle.specs.Links.{items}
+use Rattle.bundle.proofs.Chains.{chain-short}
 use Rattle.logic.specs.Tests.{passed}
 use Rattle.logic.specs.Rules.{carries, leftOver, leftOverLinks, walkBy, headTests, argumentsWalk, congWalkBy, threeLengths}
 use Rattle.logic.specs.Statements.{WalkAtMost, WalkExactly}
@@ -69,3 +71,11 @@ cong-exactly step b s e =
     rw (and-left (passed (headTests b s)) (argumentsWalk step b s .passes) e)
     (walk-exactly step false (s .context) (items b (termOf b (s .left) .b)) (items b (termOf b (s .right) .b)) (items b (s .premises))
     (and-right (passed (headTests b s)) (argumentsWalk step b s .passes) e))
+
+items-short : (b : Bundle) (s : ℕ) → length (items b s) ≤ length (b .links)
+unfolding items
+items-short b s = chain-short (b .links) s
+
+pub lengths-short : (b : Bundle) (s : Step) → threeLengths b s ≤ 3 * length (b .links)
+lengths-short b s =
+    omega (arith, items-short b (termOf b (s .left) .b), items-short b (termOf b (s .right) .b), items-short b (s .premises))

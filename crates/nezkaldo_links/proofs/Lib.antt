@@ -1,5 +1,3 @@
--- Laws and the theorem.
---     Short   a list has no more items than there are links
+-- The theorem.
 --     Links   WHAT THE NUMBER SAYS
-pub mod Short
 pub mod Links

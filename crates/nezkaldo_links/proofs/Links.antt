@@ -15,10 +15,9 @@ use Rattle.bundle.specs.File.{Whole, bundleAt, bundleOf, countsOf}
 use Rattle.bundle.proofs.Fields.{links-length}
 use Rattle.logic.specs.declared.Walk.{Walk}
 use Rattle.logic.specs.Rules.{ruleOf, congWalk, threeLengths, matches}
-use Rattle.logic.proofs.CongWalk.{cong-at-most, cong-exactly}
+use Rattle.logic.proofs.CongWalk.{cong-at-most, cong-exactly, lengths-short}
 use Rattle.logic.proofs.Headers.{header-exactly}
 use Rattle.nezkaldo_links.specs.Links.{walkNumber, stepNumber, linksNumber, LinksSay, LinksNumber}
-use Rattle.nezkaldo_links.proofs.Short.{lengths-short}
 
 -- the links that a CONG reads, at most
 read-few : (b : Bundle) (s : Step) → length (b .links) ≤ limits .links → congWalk b s .links ≤ 3 * limits .links

@@ -1,8 +1,9 @@
 -- `end_walk` meets its contract: a list has ended, so nothing more is read but a premise for a body.
 use native.Mathlib.Omega.{arith}
 use borrow.Author.Tests.{not-true, not-false}
+use Rattle.bundle.proofs.Walks.{next-is}
 use borrow.Author.Needs.{needs}
-use Rattle.premises.proofs.Premises.{walk-short, end-plain, end-missing, end-body, in-all, next-is}
+use Rattle.premises.proofs.Premises.{walk-short, end-plain, end-missing, end-body, in-all}
 use Rattle.premises.proofs.end_walk.Statement.{statement}
 use Rattle.premises.proofs.end_walk.Tie as tie
 

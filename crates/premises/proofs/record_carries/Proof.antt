@@ -5,7 +5,7 @@ use mathlib.Core.Path.{_∙_}
 use lib.ListN.{length}
 use Rattle.bundle.specs.Limits.{stepsAt}
 use borrow.Author.Needs.{needs}
-use Rattle.premises.proofs.Parts.{step-part}
+use Rattle.bundle.proofs.Parts.{step-part}
 use Rattle.premises.proofs.record_carries.Statement.{statement}
 use Rattle.premises.proofs.record_carries.Tie as tie
 

@@ -5,7 +5,7 @@ use mathlib.Core.Path.{_≡_, refl, _∙_}
 use lib.ListN.{length}
 use Rattle.bundle.specs.Limits.{linksAt}
 use borrow.Author.Needs.{needs}
-use Rattle.premises.proofs.Parts.{link-part}
+use Rattle.bundle.proofs.Parts.{link-part}
 use Rattle.premises.proofs.take.Statement.{statement}
 use Rattle.premises.proofs.take.Tie as tie
 

@@ -8,11 +8,11 @@ use lib.Dec.{eqb}
 use borrow.Author.Tests.{eqb-false, not-true, not-false}
 use Rattle.bundle.specs.Links.{items}
 use Rattle.bundle.specs.File.{bundleAt}
-use Rattle.bundle.proofs.Walks.{walk-start-le, walk-le, or-none}
+use Rattle.bundle.proofs.Walks.{walk-start-le, walk-le, next-is, next-on, or-none}
 use Rattle.logic.specs.Rules.{walkBy}
 use Rattle.images.specs.LentReading.{stepIn}
 use Rattle.premises.specs.Counted.{after}
-use Rattle.premises.proofs.Premises.{some-three, next-is, next-on, all-rise, one-ends, from-start, three-more}
+use Rattle.premises.proofs.Premises.{some-three, all-rise, one-ends, from-start, three-more}
 use Rattle.premises.proofs.Premises.{position-passes, position-fails}
 use borrow.Author.Needs.{needs}
 use Rattle.premises.proofs.walk.Statement.{statement}
