@@ -34,6 +34,16 @@
 --     FormedKept       old records of a well-formed bundle are well formed in a longer one
 --     Later            THE THEOREM: later records change nothing earlier
 --     NextStep         a step after all those of a bundle
+--     Meets            terms that meet: what the walk of whole-term REFL compares, as a relation of trees
+--     ReflWalk         the walk of whole-term REFL, one number at a time; THE LAW: with n pairs left it is spent exactly where it visits more
+--     ReflExactly      THE THEOREM: the walk ends with no difference exactly at the capture-avoiding replacement, up to names
+--     Replacements     laws of capture-avoiding replacement; THE LAW: terms that are the same up to names
+--     ReplacementSound THE THEOREM: a term seen through a context has the value of its capture-avoiding replacement
+--     ReflStep         THE THEOREMS: a REFL step passes 21 and 13 exactly where right is left's replacement within the pairs; it is sound
+--     WalkBound        THE THEOREMS: what a walk can cost
+--     WalkKept         THE THEOREM: later records change no walk between earlier terms
+--     ReplacementRules replacements from replacements of parts, as CONG and BIND have them
+--     ReflExamples     examples of whole-term REFL, by computation
 pub mod Tables
 pub mod Firsts
 pub mod Tests
@@ -69,3 +79,5 @@ pub mod Kept
 pub mod FormedKept
 pub mod Later
 pub mod NextStep
+pub mod Meets
+pub mod ReflWalk

@@ -18,6 +18,10 @@
 --     Meanings     what values mean: document 01's sentences, and that worlds exist, as types
 --     Longer       bundles with records appended
 --     Lookup       terms looked up
+--     Nameless     terms without the names of their binders
+--     Replacement  CAPTURE-AVOIDING REPLACEMENT, up to the names of binders; terms that are the same up to names
+--     ReflWalk     the walk of whole-term REFL over pairs of records, with the number of pairs that it visits
+--     ReflStep     a REFL step: the two forms, then the walk; checks 21 and 13
 --     Statements   the theorems, as types: proofs/ has each under the same name
 pub mod Tests
 pub mod Lists
@@ -38,4 +42,8 @@ pub mod Values
 pub mod Meanings
 pub mod Longer
 pub mod Lookup
+pub mod Nameless
+pub mod Replacement
+pub mod ReflWalk
+pub mod ReflStep
 pub mod Statements

@@ -44,6 +44,13 @@ pub enum Image {
     Gives(usize),
 }
 
+// How a walk ended that may visit so many pairs and no more: with no difference, or at one, with so many pairs left; or the pairs did not suffice.
+pub enum Limited {
+    Same(usize),
+    Different(usize),
+    Spent,
+}
+
 // Nothing is wrong.
 pub fn no_fault() -> Fault
     ensures { λ r. ⌜ r ≡ fault 0 0 ⌝ }
