@@ -35,6 +35,7 @@
 --     Later            THE THEOREM: later records change nothing earlier
 --     NextStep         a step after all those of a bundle
 --     Meets            terms that meet: what the walk of whole-term REFL compares, as a relation of trees
+--     Crossings        what binders that meet cross; THE LAW: a let's variables may be crossed in any order
 --     ReflWalk         the walk of whole-term REFL, one number at a time; THE LAW: with n pairs left it is spent exactly where it visits more
 --     ReflExactly      THE THEOREM: the walk ends with no difference exactly at the capture-avoiding replacement, up to names
 --     Replacements     laws of capture-avoiding replacement; THE LAW: terms that are the same up to names
@@ -80,4 +81,13 @@ pub mod FormedKept
 pub mod Later
 pub mod NextStep
 pub mod Meets
+pub mod Crossings
 pub mod ReflWalk
+pub mod ReflExactly
+pub mod Replacements
+pub mod ReplacementSound
+pub mod ReflStep
+pub mod WalkBound
+pub mod WalkKept
+pub mod ReplacementRules
+pub mod ReflExamples
