@@ -1,138 +1,115 @@
--- A REFL step with whole-term REFL.
---     holds-replacement      a step that one of document 01's two forms takes is a replacement
---     refl-fault             what code finds is the first failing test
---     refl-step-exactly      THE THEOREM: a REFL step passes exactly where right is the replacement of left, and a form takes it or the pairs suffice
---     refl-step-sound        so its left side, seen through its context, has the value of its right side
---     last-pairs             where all REFL steps pass, the last REFL walked visited at most 4,096 pairs
+-- A REFL step: document 01's two forms, and whole terms.
+--     refl-forms                 THE THEOREM: the two forms are capture-avoiding replacements
+--     form-exactly               the test of the forms says what they say of trees
+--     refl-matches-exactly       a REFL passes 13 exactly where its right side is the replacement of its left side
+--     refl-suffices-exactly      it passes 21 exactly where one of the forms takes it or the pairs suffice
 use mathlib.Core.Path.{_≡_, refl, sym, ap, _∙_, subst}
-use Prim.Native.Nat.{ℕ, zero, suc, _-_, _≤_}
-use mathlib.Core.Bool.{Bool, true, false, cond, not, _&&_, _||_}
-use mathlib.Core.Logic.{_⊎_, inl, inr}
+use Prim.Native.Nat.{ℕ, _≤_}
+use mathlib.Core.Bool.{Bool, true, false, _&&_, _||_}
+use mathlib.Core.Logic.{_⊎_, inl, inr, _↔_, Iff·trans}
 use mathlib.Core.List.{[]}
-use native.Mathlib.Omega.{arith}
-use native.Mathlib.Decide.{decLe}
 use lib.Dec.{eqb, leb}
-use borrow.Author.Tests.{eqb-true, eq-eqb, leb-true, le-leb, lt-leb}
-use Rattle.bundle.specs.Bundle.{Bundle, TermRecord, Step, termOf, stepOf}
+use borrow.Author.Tests.{eqb-true, eq-eqb, leb-true, le-leb}
+use Rattle.bundle.specs.Bundle.{Bundle, TermRecord, Step, termOf}
 use Rattle.logic.specs.declared.Image.{Image}
 use Rattle.logic.specs.declared.Image.the-variants.{Own, Gives}
-use Rattle.logic.specs.Tests.{firstFailing}
-use Rattle.logic.specs.Terms.{var, tree}
-use Rattle.logic.specs.Free.{freeAt}
-use Rattle.logic.specs.Contexts.{image, treeOfImage, imageTree, settled}
-use Rattle.logic.specs.Rules.{isImage, reflHolds}
+use Rattle.logic.specs.Terms.{Term, var, tree}
+use Rattle.logic.specs.Contexts.{image, treeOfImage, imageTree, Settled, settled}
+use Rattle.logic.specs.Distinct.{Distinct}
+use Rattle.logic.specs.Rules.{isImage, reflHolds, reflMatches, reflSuffices}
 use Rattle.logic.specs.WellFormed.{WellFormed}
-use Rattle.logic.specs.Replacement.{Replacement, ReplacementAt}
-use Rattle.logic.specs.ReflWalk.{PairWalk, reflWalk, pairLimit, ended, limit}
-use Rattle.logic.specs.ReflStep.{notSpent, reflMatches, reflTests, faultOf, reflFault, walked, lastPairs}
-use Rattle.logic.specs.Statements.{ReflStepExactly, ReflStepSound}
-use Rattle.logic.proofs.Tests.{or-cases, or-left, or-right, and-left, and-right, and-both, failing-none, none-failing}
+use Rattle.logic.specs.Replacement.{Replacement}
+use Rattle.logic.specs.ReflWalk.{reflWalk, pairLimit}
+use Rattle.logic.specs.Instance.{ReflForm}
+use Rattle.logic.specs.Statements.{ReflForms}
+use Rattle.logic.proofs.Tests.{or-cases, or-left, or-right, and-left, and-right, and-both}
 use Rattle.logic.proofs.FreeSettled.{is-variable-exactly, settled-exactly}
-use Rattle.logic.proofs.ReflWalk.{limit-fits, limit-over, pair-walk-limited}
+use Rattle.logic.proofs.Formed.{tables-formed-distinct}
+use Rattle.logic.proofs.TermNumbers.{IsTerm, same, ImageTerm, image-term}
 use Rattle.logic.proofs.ReflExactly.{pair-walk-exactly}
 use Rattle.logic.proofs.Replacements.{same-form, image-form}
-use Rattle.logic.proofs.ReplacementSound.{replacement-sound}
 
-module _ (b : Bundle) (s : Step) where
-  -- ---- document 01's two forms
+pub refl-forms : ReflForms
+refl-forms b Γ left right (inl (e, h)) = subst (Replacement b (imageTree b Γ) left) e (same-form b Γ left h)
+refl-forms b Γ left right (inr (x, l, r)) = rw (l, r) (image-form b (imageTree b Γ) x)
 
-  abbrev r : TermRecord
-  r = termOf b (s .left)
+module _ (b : Bundle) (well : WellFormed b) (s : Step) (left : IsTerm b (s .left)) (right : IsTerm b (s .right)) where
+  abbrev own : Distinct b
+  own = tables-formed-distinct b (well .tables)
 
-  image-tree : (x : ℕ) (i : Image) → isImage i (s .left) (s .right) ≡ true → tree b (s .left) ≡ var x → tree b (s .right) ≡ treeOfImage b i x
+  abbrev Form : Type 0
+  Form = ReflForm b (s .context) (tree b (s .left)) (tree b (s .right))
+
+  abbrev sameSettled : Bool
+  sameSettled = eqb (s .left) (s .right) && settled b (s .context) (s .left)
+
+  abbrev itsImage : ℕ → Bool
+  itsImage x = isImage (image b (s .context) x) (s .left) (s .right)
+
+  abbrev variableImage : Bool
+  variableImage = eqb (termOf b (s .left) .kind) 1 && itsImage (termOf b (s .left) .a)
+
+  by-image : (x : ℕ) (i : Image) → isImage i (s .left) (s .right) ≡ true → tree b (s .left) ≡ var x → tree b (s .right) ≡ treeOfImage b i x
   unfolding isImage treeOfImage
-  image-tree x Own e v = ap (tree b) (sym (eqb-true (s .left) (s .right) e)) ∙ v
-  image-tree x (Gives t) e v = ap (tree b) (sym (eqb-true t (s .right) e))
+  by-image x Own e v = ap (tree b) (sym (eqb-true (s .left) (s .right) e)) ∙ v
+  by-image x (Gives t) e v = ap (tree b) (sym (eqb-true t (s .right) e))
 
-  pub holds-replacement : WellFormed b → reflHolds b s ≡ true → ReplacementAt b (s .context) (s .left) (s .right)
+  image-by : (x : ℕ) (i : Image) → ImageTerm b i → tree b (s .left) ≡ var x → tree b (s .right) ≡ treeOfImage b i x
+      → isImage i (s .left) (s .right) ≡ true
+  unfolding isImage treeOfImage
+  image-by x Own h v e = eq-eqb (s .left) (s .right) (same b own (s .left) (s .right) left right (v ∙ sym e))
+  image-by x (Gives t) h v e = eq-eqb t (s .right) (same b own t (s .right) h right (sym e))
+
+  pub form-exactly : (reflHolds b s ≡ true) ↔ Form
   unfolding reflHolds imageTree
-  holds-replacement well e =
-      go (or-cases (eqb (s .left) (s .right) && settled b (s .context) (s .left)) (eqb (r .kind) 1 && by-image) e)
+  form-exactly = (λ e. there (or-cases sameSettled variableImage e), back)
     where
-      by-image : Bool
-      by-image = isImage (image b (s .context) (r .a)) (s .left) (s .right)
-
-      go : ((eqb (s .left) (s .right) && settled b (s .context) (s .left)) ≡ true) ⊎ ((eqb (r .kind) 1 && by-image) ≡ true)
-          → Replacement b (imageTree b (s .context)) (tree b (s .left)) (tree b (s .right))
-      go (inl h) =
-          subst (Replacement b (imageTree b (s .context)) (tree b (s .left)))
-          (ap (tree b) (eqb-true (s .left) (s .right) (and-left (eqb (s .left) (s .right)) (settled b (s .context) (s .left)) h)))
-          (same-form b (s .context) (tree b (s .left))
-          (settled-exactly b (well .tables) (s .context) (s .left) .0 (and-right (eqb (s .left) (s .right)) (settled b (s .context) (s .left)) h)))
-      go (inr h) =
+      there : (sameSettled ≡ true) ⊎ (variableImage ≡ true) → Form
+      there (inl e) =
+          inl (
+            ap (tree b) (eqb-true (s .left) (s .right) (and-left (eqb (s .left) (s .right)) (settled b (s .context) (s .left)) e)),
+            settled-exactly b (well .tables) (s .context) (s .left) .0 (and-right (eqb (s .left) (s .right)) (settled b (s .context) (s .left)) e),
+          )
+      there (inr e) =
+          let r : TermRecord = termOf b (s .left) in
+          let k : eqb (r .kind) 1 ≡ true = and-left (eqb (r .kind) 1) (itsImage (r .a)) e in
           let v : tree b (s .left) ≡ var (r .a) =
-          is-variable-exactly b (s .left) (r .a) .0
-          (and-both (eqb (r .kind) 1) (eqb (r .a) (r .a)) (and-left (eqb (r .kind) 1) by-image h) (eq-eqb (r .a) (r .a) refl)) in
-          let is : tree b (s .right) ≡ imageTree b (s .context) (r .a) =
-          image-tree (r .a) (image b (s .context) (r .a)) (and-right (eqb (r .kind) 1) by-image h) v in
-          rw (v, is) (image-form b (imageTree b (s .context)) (r .a))
+          is-variable-exactly b (s .left) (r .a) .0 (and-both (eqb (r .kind) 1) (eqb (r .a) (r .a)) k (eq-eqb (r .a) (r .a) refl)) in
+          inr (r .a, v, by-image (r .a) (image b (s .context) (r .a)) (and-right (eqb (r .kind) 1) (itsImage (r .a)) e) v)
 
-  -- ---- what code finds
+      back : Form → (sameSettled || variableImage) ≡ true
+      back (inl (e, h)) =
+          or-left sameSettled variableImage
+          (and-both (eqb (s .left) (s .right)) (settled b (s .context) (s .left))
+          (eq-eqb (s .left) (s .right) (same b own (s .left) (s .right) left right e))
+          (settled-exactly b (well .tables) (s .context) (s .left) .1 h))
+      back (inr (x, v, e)) =
+          let r : TermRecord = termOf b (s .left) in
+          let is : (eqb (r .kind) 1 && eqb (r .a) x) ≡ true = is-variable-exactly b (s .left) x .1 v in
+          let x-is : r .a ≡ x = eqb-true (r .a) x (and-right (eqb (r .kind) 1) (eqb (r .a) x) is) in
+          or-right sameSettled variableImage
+          (and-both (eqb (r .kind) 1) (itsImage (r .a)) (and-left (eqb (r .kind) 1) (eqb (r .a) x) is)
+          (ap itsImage x-is ∙ image-by x (image b (s .context) x) (image-term b well (s .context) x) v e))
 
-  abbrev w : PairWalk
-  w = reflWalk b s
-
-  pub refl-fault : reflFault b s ≡ firstFailing (reflTests b s)
-  unfolding reflFault firstFailing notSpent reflMatches faultOf
-  refl-fault = rw (pair-walk-limited (freeAt b) (image b (s .context)) b (s .left) [] (s .right) pairLimit) (go (reflHolds b s) (decLe (w .pairs) pairLimit))
+  pub refl-matches-exactly : (reflMatches b s ≡ true) ↔ Replacement b (imageTree b (s .context)) (tree b (s .left)) (tree b (s .right))
+  unfolding reflMatches
+  refl-matches-exactly = (
+    λ e. there (or-cases (reflHolds b s) (reflWalk b s .same) e),
+    λ h. or-right (reflHolds b s) (reflWalk b s .same) (pair-walk-exactly b well (s .context) (s .left) (s .right) left right .1 h),
+  )
     where
-      fits : (p : Bool) → faultOf (ended p (pairLimit - w .pairs)) ≡ cond p 0 13
-      fits true = refl
-      fits false = refl
+      there : (reflHolds b s ≡ true) ⊎ (reflWalk b s .same ≡ true) → Replacement b (imageTree b (s .context)) (tree b (s .left)) (tree b (s .right))
+      there (inl f) = refl-forms b (s .context) (tree b (s .left)) (tree b (s .right)) (form-exactly .0 f)
+      there (inr w) = pair-walk-exactly b well (s .context) (s .left) (s .right) left right .0 w
 
-      go : (p : Bool) → Dec (w .pairs ≤ pairLimit)
-          → cond p 0 (faultOf (limit pairLimit w)) ≡ cond (p || leb (w .pairs) pairLimit) (cond (p || w .same) 0 13) 21
-      go true d = refl
-      go false (yes h) = rw (le-leb (w .pairs) pairLimit h, limit-fits pairLimit w h) (fits (w .same))
-      go false (no h) = rw (lt-leb (w .pairs) pairLimit (omega arith), limit-over pairLimit w (omega arith))
+  pub refl-suffices-exactly : (reflSuffices b s ≡ true) ↔ (Form ⊎ (reflWalk b s .pairs ≤ pairLimit))
+  unfolding reflSuffices
+  refl-suffices-exactly = (λ e. there (or-cases (reflHolds b s) (leb (reflWalk b s .pairs) pairLimit) e), back)
+    where
+      there : (reflHolds b s ≡ true) ⊎ (leb (reflWalk b s .pairs) pairLimit ≡ true) → Form ⊎ (reflWalk b s .pairs ≤ pairLimit)
+      there (inl f) = inl (form-exactly .0 f)
+      there (inr w) = inr (leb-true (reflWalk b s .pairs) pairLimit w)
 
--- THE THEOREM
-pub refl-step-exactly : ReflStepExactly
-unfolding notSpent reflMatches
-refl-step-exactly b well s left right = (there, back)
-  where
-    v : PairWalk
-    v = reflWalk b s
-
-    there : firstFailing (reflTests b s) ≡ 0 → ReplacementAt b (s .context) (s .left) (s .right) × ((reflHolds b s ≡ true) ⊎ (v .pairs ≤ pairLimit))
-    there e = go (or-cases (reflHolds b s) (leb (v .pairs) pairLimit) (h .0)) (or-cases (reflHolds b s) (v .same) (h .1 .0))
-      where
-        h : (notSpent b s ≡ true) × ((reflMatches b s ≡ true) × Unit {0})
-        h = failing-none (reflTests b s) refl e
-
-        go : (reflHolds b s ≡ true) ⊎ (leb (v .pairs) pairLimit ≡ true) → (reflHolds b s ≡ true) ⊎ (v .same ≡ true)
-            → ReplacementAt b (s .context) (s .left) (s .right) × ((reflHolds b s ≡ true) ⊎ (v .pairs ≤ pairLimit))
-        go (inl f) m = (holds-replacement b s well f, inl f)
-        go (inr l) (inl f) = (holds-replacement b s well f, inl f)
-        go (inr l) (inr m) = (pair-walk-exactly b well (s .context) (s .left) (s .right) left right .0 m, inr (leb-true (v .pairs) pairLimit l))
-
-    back : ReplacementAt b (s .context) (s .left) (s .right) × ((reflHolds b s ≡ true) ⊎ (v .pairs ≤ pairLimit)) → firstFailing (reflTests b s) ≡ 0
-    back (h, inl f) =
-        none-failing (reflTests b s) (or-left (reflHolds b s) (leb (v .pairs) pairLimit) f, (or-left (reflHolds b s) (v .same) f, tt))
-    back (h, inr l) =
-        none-failing (reflTests b s) (
-          or-right (reflHolds b s) (leb (v .pairs) pairLimit) (le-leb (v .pairs) pairLimit l),
-          (or-right (reflHolds b s) (v .same) (pair-walk-exactly b well (s .context) (s .left) (s .right) left right .1 h), tt),
-        )
-
-pub refl-step-sound : ReflStepSound
-refl-step-sound b well s left right e w ρ =
-    replacement-sound b (s .context) (s .left) (s .right) (refl-step-exactly b well s left right .0 e .0) w ρ
-
--- where all REFL steps pass, the last REFL walked visited at most 4,096 pairs
-pub last-pairs : (b : Bundle) (n : ℕ) → ((k : ℕ) → 1 ≤ k → k ≤ n → stepOf b k .rule ≡ 1 → firstFailing (reflTests b (stepOf b k)) ≡ 0)
-    → lastPairs b n ≤ pairLimit
-unfolding lastPairs walked notSpent
-last-pairs b zero h = omega arith
-last-pairs b (suc k) h = go (eqb (s .rule) 1) refl (reflHolds b s) refl (last-pairs b k (λ i lo hi. h i lo (omega arith)))
-  where
-    s : Step
-    s = stepOf b (suc k)
-
-    go : (p : Bool) → eqb (s .rule) 1 ≡ p → (q : Bool) → reflHolds b s ≡ q → lastPairs b k ≤ pairLimit
-        → cond (p && not q) (reflWalk b s .pairs) (lastPairs b k) ≤ pairLimit
-    go false e q f ih = ih
-    go true e true f ih = ih
-    go true e false f ih =
-        let passes : notSpent b s ≡ true = failing-none (reflTests b s) refl (h (suc k) (omega arith) (omega arith) (eqb-true (s .rule) 1 e)) .0 in
-        leb-true (reflWalk b s .pairs) pairLimit (subst (λ (q : Bool). (q || leb (reflWalk b s .pairs) pairLimit) ≡ true) f passes)
+      back : Form ⊎ (reflWalk b s .pairs ≤ pairLimit) → (reflHolds b s || leb (reflWalk b s .pairs) pairLimit) ≡ true
+      back (inl f) = or-left (reflHolds b s) (leb (reflWalk b s .pairs) pairLimit) (form-exactly .1 f)
+      back (inr w) = or-right (reflHolds b s) (leb (reflWalk b s .pairs) pairLimit) (le-leb (reflWalk b s .pairs) pairLimit w)

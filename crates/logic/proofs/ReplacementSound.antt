@@ -90,7 +90,7 @@ module _ {b : Bundle} (w : World b) (σ : ℕ → Term) (ρ₀ : ℕ → Value) 
 
 pub replacement-sound : ReplacementSound
 unfolding seen value meets lefts rights
-replacement-sound b c l r h w ρ =
-    meets-value w (imageTree b c) ρ (tree b l) [] (tree b r) (seen b w c ρ) ρ
+replacement-sound b Γ left right h w ρ =
+    meets-value w (imageTree b Γ) ρ left [] right (seen b w Γ ρ) ρ
     (record { matching = λ x z e. absurd (false≢true e); free-left = λ x e. refl; others = λ y out. refl })
-    (meets-exactly b (imageTree b c) (tree b l) (tree b r) .1 h)
+    (meets-exactly b (imageTree b Γ) left right .1 h)
