@@ -1,7 +1,9 @@
 -- The pairs that walks of REFL visit.
 --     spent-exactly           THE THEOREM: 21 is a step's fault exactly where it is a REFL of neither form whose walk visits more than 4,096 pairs
+--     refl-rule               only 1 is REFL
 --     walked-exactly          a step is walked exactly where it is a REFL of neither form
 --     last-pairs              the number that the answer gives is that of the last REFL walked
+--     last-more, last-same    step by step, by the number of the step's pairs
 --     last-pairs-at-most      where no step fails it is at most 4,096
 use mathlib.Core.Path.{_≡_, refl, sym, ap, _∙_, subst}
 use Prim.Native.Nat.{ℕ, zero, suc, _≤_, _<_}
@@ -16,6 +18,8 @@ use borrow.Author.Tests.{eqb-true, eq-eqb, leb-true, le-leb, lt-leb}
 use Rattle.bundle.specs.Bundle.{Bundle, Step, stepOf}
 use Rattle.logic.specs.Lists.{Number}
 use Rattle.logic.specs.Terms.{tree}
+use Rattle.logic.specs.Free.{freeAt}
+use Rattle.logic.specs.Contexts.{image}
 use Rattle.logic.specs.Rules.{Rule, REFL, CONG, TRANS, BIND, LET, noRule, ruleOf, reflHolds, reflSuffices, sufficesAs, suffices, matches, sides}
 use Rattle.logic.specs.Rules.{stepRefers, stepTests, stepFault, stepsFault, walked, walkedPairs, lastPairs}
 use Rattle.logic.specs.WellFormed.{WellFormed}
@@ -26,6 +30,7 @@ use Rattle.logic.proofs.Tests.{or-left, or-right, and-left, and-right, 
 use Rattle.logic.proofs.Firsts.{none-bad}
 use Rattle.logic.proofs.Exactly.{eq-exactly, not-exactly, and-exactly}
 use Rattle.logic.proofs.TermNumbers.{IsTerm}
+use Rattle.logic.proofs.ReflWalk.{walk-some}
 use Rattle.logic.proofs.ReflStep.{form-exactly}
 use Rattle.logic.proofs.Instances.{refers-exactly}
 
@@ -34,6 +39,19 @@ use Rattle.logic.proofs.Instances.{refers-exactly}
 rule-refl : (r : ℕ) → r ≡ 1 → ruleOf r ≡ REFL
 unfolding ruleOf
 rule-refl r e = rw e
+
+pub refl-rule : (r : ℕ) → ruleOf r ≡ REFL → r ≡ 1
+unfolding ruleOf
+refl-rule r e = go (eqb r 1) refl (eqb r 2) (eqb r 3) (eqb r 4) (eqb r 5) e
+  where
+    go : (p : Bool) → eqb r 1 ≡ p → (q t u v : Bool)
+        → cond p REFL (cond q CONG (cond t TRANS (cond u BIND (cond v LET noRule)))) ≡ REFL → r ≡ 1
+    go true is q t u v h = eqb-true r 1 is
+    go false is true t u v h = cc
+    go false is false true u v h = cc
+    go false is false false true v h = cc
+    go false is false false false true h = cc
+    go false is false false false false h = cc
 
 -- only a REFL is spent, and only where no form takes it and the walk visits more
 suffices-false : (b : Bundle) (s : Step) (r : ℕ) → sufficesAs b (ruleOf r) s ≡ false → (r ≡ 1) × (reflHolds b s ≡ false) × (pairLimit < reflWalk b s .pairs)
@@ -125,6 +143,26 @@ last-pairs b (suc n) = go (walked b (suc n)) refl (last-pairs b n)
     go true e h = last-walk (suc n) (omega arith, omega arith) e (λ j lo hi. absurd (omega arith)) (pairs-walked b (suc n) e)
     go false e (no-walk h is) = no-walk (λ k m. none k (m .1) (λ le. h k (m .0, le)) e) is
     go false e (last-walk k m w after is) = last-walk k (m .0, omega (arith, m .1)) w (λ j lo hi. none j hi (λ le. after j lo le) e) is
+
+-- so a step was walked where the number of its pairs is not 0
+pub last-more : (b : Bundle) (k p : ℕ) → p ≡ walkedPairs b (suc k) → (p ≡ 0 → ⊥) → lastPairs b (suc k) ≡ p
+unfolding lastPairs walkedPairs walked
+last-more b k p e some = go (walked b (suc k)) refl
+  where
+    go : (w : Bool) → walked b (suc k) ≡ w → cond w (walkedPairs b (suc k)) (lastPairs b k) ≡ p
+    go true h = sym e
+    go false h = absurd (some (e ∙ ap (λ (w : Bool). cond w (reflWalk b (stepOf b (suc k)) .pairs) 0) h))
+
+pub last-same : (b : Bundle) (k p : ℕ) → p ≡ walkedPairs b (suc k) → p ≡ 0 → lastPairs b (suc k) ≡ lastPairs b k
+unfolding lastPairs walkedPairs walked
+last-same b k p e none = go (walked b (suc k)) refl
+  where
+    go : (w : Bool) → walked b (suc k) ≡ w → cond w (walkedPairs b (suc k)) (lastPairs b k) ≡ lastPairs b k
+    go true h =
+        let s : Step = stepOf b (suc k) in
+        let zero-pairs : reflWalk b s .pairs ≡ 0 = sym (pairs-walked b (suc k) h) ∙ sym e ∙ none in
+        absurd (omega (arith, zero-pairs, walk-some (freeAt b) (image b (s .context)) b (s .left) [] (s .right)))
+    go false h = refl
 
 pub last-pairs-at-most : LastPairsAtMost
 unfolding stepsFault stepFault suffices walked reflHolds

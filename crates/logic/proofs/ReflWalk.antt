@@ -5,6 +5,7 @@
 --     pair-walk-limited                   THE LAW: the walk with n pairs left is spent exactly where the walk visits more than n
 --     within-below                        what the walk with pairs left does at a number, from those at lower numbers: for code
 --     walk-here                           the same of the walk, for a record that refers to lower terms
+--     walk-some                           a walk visits a pair at least
 use mathlib.Core.Path.{_≡_, refl, sym, ap, ap₂, _∙_, fun-ext}
 use Prim.Native.Nat.{ℕ, zero, suc, _+_, _-_, _≤_, _<_}
 use mathlib.Core.Bool.{Bool, true, false}
@@ -24,7 +25,7 @@ use Rattle.logic.specs.declared.Limited.the-variants.{Same, Different, S
 use Rattle.logic.specs.ReflWalk.{Crossed, PairWalk, noPair, onePair, pairThen, andThen, variableMeets, applicationMeets, binderMeets, letMeets, binderCrossed, letCrossed, listsWalk, pairWalkAs, pairWalkOf, noPairWalk, pairWalkBy, ended, pairWithin, onePairWithin, goOn, listsWithin, withinAs, withinOf, noneWithin, withinBy, limit}
 use Rattle.logic.specs.Statements.{PairWalkLimited}
 use Rattle.logic.proofs.Tests.{and-left}
-use Rattle.logic.proofs.Tables.{table-below, table-step, table-both}
+use Rattle.logic.proofs.Tables.{table-below, table-step, table-both, table-all}
 use Rattle.logic.proofs.Trees.{refsAs, refs, Before}
 
 -- ---- pairs left
@@ -200,3 +201,27 @@ module _ (free : ℕ → ℕ → Bool) (image : ℕ → Image) (b : Bundle) wher
   walk-here l low =
       table-step (pairWalkOf free image b) noPairWalk noTerm (λ f. refl) (b .terms) l
       (λ f g h. fun-ext (λ crossed. fun-ext (λ r. walk-reads (kindOf (termOf b l .kind)) (termOf b l) l low f g h crossed r)))
+
+-- ---- a walk visits a pair at least
+
+pair-some : (p : Bool) (w : PairWalk) → 1 ≤ pairThen p w .pairs
+unfolding pairThen
+pair-some true w = omega arith
+pair-some false w = omega arith
+
+some-as : (free : ℕ → ℕ → Bool) (image : ℕ → Image) (b : Bundle) (k : Kind) (f : ℕ → Crossed → ℕ → PairWalk) (s : TermRecord) (crossed : Crossed) (r : ℕ)
+    → 1 ≤ pairWalkAs free image b k f s crossed r .pairs
+unfolding pairWalkAs
+some-as free image b variable f s crossed r = omega arith
+some-as free image b application f s crossed r = pair-some (applicationMeets b s r) (listsWalk f crossed (items b (s .b)) (items b (termOf b r .b)))
+some-as free image b (binder q) f s crossed r = pair-some (binderMeets b s r) (f (s .b) (binderCrossed b s r crossed) (termOf b r .b))
+some-as free image b letting f s crossed r =
+    pair-some (letMeets b s r)
+    (andThen (listsWalk f crossed (items b (s .b)) (items b (termOf b r .b))) (f (s .c) (letCrossed b s r crossed) (termOf b r .c)))
+some-as free image b other f s crossed r = omega arith
+
+pub walk-some : (free : ℕ → ℕ → Bool) (image : ℕ → Image) (b : Bundle) (l : ℕ) (crossed : Crossed) (r : ℕ) → 1 ≤ pairWalkBy free image b l crossed r .pairs
+unfolding pairWalkBy pairWalkOf
+walk-some free image b =
+    table-all (pairWalkOf free image b) noPairWalk (λ (f : Crossed → ℕ → PairWalk). (crossed : Crossed) (r : ℕ) → 1 ≤ f crossed r .pairs)
+    (λ crossed r. omega arith) noTerm (b .terms) (λ t f h. some-as free image b (kindOf (termOf b t .kind)) f (termOf b t))

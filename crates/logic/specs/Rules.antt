@@ -18,7 +18,7 @@ use Rattle.logic.specs.Free.{freeAt}
 use Rattle.logic.specs.Checks.{startsList}
 use Rattle.logic.specs.Contexts.{image, isVariable, settled}
 use Rattle.logic.specs.Readings.{Reading, readingOf}
-use Rattle.logic.specs.ReflWalk.{reflWalkBy, pairLimit}
+use Rattle.logic.specs.ReflWalk.{pairWalkBy, reflWalkBy, pairLimit}
 
 -- Rules: 1 REFL, 2 CONG, 3 TRANS, 4 BIND, 5 LET.
 pub data Rule : Type 0 where
@@ -79,7 +79,7 @@ reflHolds b = reflHoldsBy (settled b) (image b) b
 
 -- the rest is walked: a walk that fails is refused 13
 unfoldable pub reflMatchesBy : Reading → Bundle → Step → Bool
-unfolding reflHoldsBy
+unfolding reflHoldsBy pairWalkBy
 reflMatchesBy g b s = reflHoldsBy (g .settled) (g .image) b s || reflWalkBy (g .free) (g .image) b s .same
 
 unfoldable pub reflMatches : Bundle → Step → Bool
@@ -88,7 +88,7 @@ reflMatches b = reflMatchesBy (readingOf b) b
 
 -- 21 exactly where the definition would visit more than 4,096 pairs
 unfoldable pub reflSufficesBy : Reading → Bundle → Step → Bool
-unfolding reflHoldsBy
+unfolding reflHoldsBy pairWalkBy
 reflSufficesBy g b s = reflHoldsBy (g .settled) (g .image) b s || leb (reflWalkBy (g .free) (g .image) b s .pairs) pairLimit
 
 unfoldable pub reflSuffices : Bundle → Step → Bool
@@ -389,7 +389,7 @@ walkedBy g b s = eqb (s .rule) 1 && not (reflHoldsBy (g .settled) (g .image) b s
 
 -- the number of pairs that a step's walk visits, 0 where it is not walked
 unfoldable pub pairsBy : Reading → Bundle → Step → ℕ
-unfolding walkedBy
+unfolding walkedBy pairWalkBy
 pairsBy g b s = cond (walkedBy g b s) (reflWalkBy (g .free) (g .image) b s .pairs) 0
 
 -- step k is walked, over so many pairs
