@@ -2,7 +2,6 @@
 use logic::Fault;
 
 pub mod steps; // steps.rt: the checks of a step
-pub mod stub; // placeholder
 
 // What a step's test answers: the number of the check that fails, 0 where none does; then the number of pairs that its walk visited, 0 where it was not
 // walked.
