@@ -148,6 +148,9 @@ faults! {
         // REFL for whole terms.
         WholeTermsRefused: "REFL takes no whole terms",
         WholeCaptureTaken: "a binder on the right may take a variable of an image",
+        WholeCaptureFirstWord: "a binder on the right may take variables 65 and above of an image",
+        WholeBindersKept: "a binder stays crossed behind its body",
+        WholeHiddenForgotten: "what a binder hides stays hidden behind its body",
         WholeLeftNotHidden: "a nearer binder on the left hides none",
         WholeRightNotHidden: "a nearer binder on the right hides none",
         WholeSortsUnread: "the sorts of two binders are not compared",

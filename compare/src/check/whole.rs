@@ -62,6 +62,7 @@ impl Binders {
         while self.crossed.len() > kept
             && let Some(Crossing { variables: [x, y], hidden }) = self.crossed.pop()
         {
+            let hidden = if rules.has(Fault::WholeHiddenForgotten) { [0; 2] } else { hidden };
             self.nearest[x as usize][LEFT] = hidden[LEFT];
             self.nearest[y as usize][RIGHT] = hidden[RIGHT];
             if hidden[RIGHT] == 0 {
@@ -181,7 +182,9 @@ impl<R: Rules> Walk<'_, R> {
                 _ => return Err(Stop::Differs),
             }
         }
-        self.binders.leave(self.rules, crossed);
+        if !self.rules.has(Fault::WholeBindersKept) {
+            self.binders.leave(self.rules, crossed);
+        }
         Ok(())
     }
 
@@ -230,10 +233,20 @@ impl<R: Rules> Walk<'_, R> {
         } else {
             (self.image(x, left) == right
                 || self.rules.has(Fault::WholeImagesRenamed) && self.renamed(x, left, right))
-                && (self.tables.terms.free(self.rules, right).disjoint(self.binders.taken)
-                    || self.rules.has(Fault::WholeCaptureTaken))
+                && (self.untaken(right) || self.rules.has(Fault::WholeCaptureTaken))
         };
         if same { Ok(()) } else { Err(Stop::Differs) }
+    }
+
+    /// Whether no binder crossed on the right takes a free variable of a term.
+    #[inline(always)]
+    fn untaken(&self, term: u32) -> bool {
+        let free = self.tables.terms.free(self.rules, term);
+        let taken = self.binders.taken;
+        if self.rules.has(Fault::WholeCaptureFirstWord) {
+            return free.words()[0] & taken.words()[0] == 0;
+        }
+        free.disjoint(taken)
     }
 
     /// The term of a variable's image.
@@ -252,8 +265,10 @@ impl<R: Rules> Walk<'_, R> {
     fn renamed(&self, x: u32, left: u32, right: u32) -> bool {
         let sides = [self.image(x, left), right];
         let mut binders = Binders::default();
-        let walk = walk(self.rules, self.tables, self.contexts, &mut binders, 0, sides);
-        walk.ending == Ending::Same
+        // In context 0 a variable is its own image, so that this calls itself once at most.
+        self.context != 0
+            && walk(self.rules, self.tables, self.contexts, &mut binders, 0, sides).ending
+                == Ending::Same
     }
 
     #[inline(always)]

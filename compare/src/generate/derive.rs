@@ -162,10 +162,12 @@ impl<'a> Derivation<'a> {
 
     /// One REFL for the whole term.
     fn whole(&mut self, context: u32, term: u32) -> Option<u32> {
-        let miss =
-            if self.slips(Slip::Whole) { Some(self.builder.rng.one_of(MISSES)) } else { None };
-        let right = replaced(self.builder, context, term, miss)?;
-        Some(self.step(REFL, context, term, right, &[]))
+        let slipped = self.slipped;
+        let miss = self.slips(Slip::Whole).then(|| self.builder.rng.one_of(MISSES));
+        let found = replaced(self.builder, context, term, miss);
+        // A miss that did not offer itself is none.
+        self.slipped = slipped || found.is_some_and(|(_, missed)| missed);
+        Some(self.step(REFL, context, term, found?.0, &[]))
     }
 
     /// A step by the rule for the term's kind, or REFL for all of it; REFL where that fails.

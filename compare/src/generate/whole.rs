@@ -35,12 +35,16 @@ pub enum Miss {
     Same,
 }
 
-pub const MISSES: [Miss; 13] = [
+/// Those that seldom offer themselves are there more than once.
+pub const MISSES: [Miss; 16] = [
+    Miss::Taken,
+    Miss::Taken,
     Miss::Taken,
     Miss::Outer,
     Miss::BoundReplaced,
     Miss::Image,
     Miss::ImageAgain,
+    Miss::ImageName,
     Miss::ImageName,
     Miss::Symbol,
     Miss::Kind,
@@ -65,13 +69,20 @@ struct Replacing<'a> {
 }
 
 /// A term with its free variables replaced by their images and its binders renamed at random,
-/// with a miss in it if one offers itself; `None` where it is too large.
-pub fn replaced(builder: &mut Builder, context: u32, term: u32, miss: Option<Miss>) -> Option<u32> {
+/// with a miss in it if one offers itself, and whether one did; `None` where it is too large.
+pub fn replaced(
+    builder: &mut Builder,
+    context: u32,
+    term: u32,
+    miss: Option<Miss>,
+) -> Option<(u32, bool)> {
     let renames = builder.rng.one_of([0, 30, 60, 100]);
     if miss == Some(Miss::Same) {
-        return Some(term);
+        return Some((term, !builder.settled(context, term)));
     }
-    Replacing { builder, context, scope: Vec::new(), renames, miss, fuel: 400 }.copy(term)
+    let mut replacing = Replacing { builder, context, scope: Vec::new(), renames, miss, fuel: 400 };
+    let right = replacing.copy(term)?;
+    Some((right, miss.is_some() && replacing.miss.is_none()))
 }
 
 impl Replacing<'_> {
@@ -205,7 +216,11 @@ impl Replacing<'_> {
             }
             if !forbidden.is_empty() && self.misses(Miss::Taken) {
                 self.made();
-                names.extend(self.builder.rng.pick(&forbidden));
+                // Those that no binder around stands for are seldom there: they come first.
+                let outer = |y: &u32| self.scope.iter().any(|(_, right)| right == y);
+                let images: Vec<u32> = forbidden.iter().copied().filter(|y| !outer(y)).collect();
+                let some = if images.is_empty() { &forbidden } else { &images };
+                names.extend(self.builder.rng.pick(some));
                 continue;
             }
             let keeps = allowed.contains(&x) && !self.builder.rng.chance(self.renames);
@@ -504,6 +519,27 @@ fn deep(rng: Rng) -> Vec<u32> {
     b.claim_last()
 }
 
+/// A context that replaces a variable by a term with a free one, or with a binder, and a binder
+/// over a formula with that variable.
+fn prepare(b: &mut Builder, miss: Option<Miss>) -> Option<(u32, u32)> {
+    let (z, w) = (b.draw_variable(), b.draw_variable());
+    let sort = b.variable_sort(z);
+    let image = match miss {
+        Some(Miss::ImageName) if sort == TRUTH => b.random_quantifier(2),
+        Some(Miss::ImageName) => b.random_let(ITEM, 2),
+        _ => b.random_term(sort, 1),
+    };
+    if z == w {
+        return None;
+    }
+    let context = b.replace(&[z], &[image], 0);
+    let (z_term, other) = (b.variable_term(z), b.random_leaf(sort));
+    let symbol = if sort == TRUTH { b.rng.one_of([4, 5, 6, 7]) } else { 8 };
+    let body = b.apply(symbol, &[z_term, other]);
+    let kind = b.rng.one_of([FOR_ALL, EXISTS]);
+    Some((context, b.quantify(kind, w, body)))
+}
+
 /// Walks of random terms in contexts of all kinds, each right or nearly so, and a claim that
 /// may be one.
 fn walks(mut rng: Rng) -> Vec<u32> {
@@ -517,17 +553,29 @@ fn walks(mut rng: Rng) -> Vec<u32> {
         for _ in 0..b.rng.below(4) {
             context = Derivation::new(&mut b, Care::Full).random_context(context);
         }
-        let sort = b.rng.one_of([TRUTH, TRUTH, ITEM]);
-        let depth = b.rng.between(1, 5);
-        let term = b.random_compound(sort, depth);
         let miss = if near && place + 1 == count { Some(b.rng.one_of(MISSES)) } else { None };
-        if let Some(right) = replaced(&mut b, context, term, miss) {
-            b.add_step(REFL, context, term, right, &[]);
+        // Other terms where the miss does not offer itself.
+        for _ in 0..8 {
+            let prepared = match miss {
+                Some(Miss::Taken | Miss::ImageName) if b.rng.chance(60) => prepare(&mut b, miss),
+                _ => None,
+            };
+            let (context, term) = prepared.unwrap_or_else(|| {
+                let sort = b.rng.one_of([TRUTH, TRUTH, ITEM]);
+                let depth = b.rng.between(1, 5);
+                (context, b.random_compound(sort, depth))
+            });
+            if let Some((right, missed)) = replaced(&mut b, context, term, miss)
+                && missed == miss.is_some()
+            {
+                b.add_step(REFL, context, term, right, &[]);
+                break;
+            }
         }
     }
     let depth = b.rng.between(1, 4);
     let term = b.random_compound(TRUTH, depth);
-    let right = replaced(&mut b, 0, term, None).unwrap_or(term);
+    let right = replaced(&mut b, 0, term, None).map_or(term, |(right, _)| right);
     b.add_step(REFL, 0, term, right, &[]);
     if b.rng.chance(30) {
         b.add_step(REFL, 0, right, right, &[]);
@@ -595,4 +643,53 @@ pub fn one_for_many(rng: Rng, rules: u32) -> Vec<u32> {
         b.add_step(LET, 0, whole, right, &[constant, carried]);
     }
     b.claim_last()
+}
+
+#[cfg(test)]
+mod tests {
+    use super::*;
+    use crate::answer::Ending;
+    use crate::bundle::to_bytes;
+    use crate::check::walk;
+
+    /// A random term in a random context, and its copy.
+    fn copied(seed: u64, miss: Option<Miss>) -> Option<(Vec<u8>, u32, [u32; 2])> {
+        let mut b = Builder::new(Rng::new(seed), 50);
+        b.random_signature();
+        let mut context = 0;
+        for _ in 0..b.rng.below(4) {
+            context = Derivation::new(&mut b, Care::Full).random_context(context);
+        }
+        let depth = b.rng.between(1, 5);
+        let term = b.random_compound(TRUTH, depth);
+        let (right, missed) = replaced(&mut b, context, term, miss)?;
+        assert!(miss.is_some() || !missed);
+        Some((to_bytes(&b.words(0, 0)), context, [term, right]))
+    }
+
+    /// How many of some copies the walk takes, and how many it does not.
+    fn endings(miss: Option<Miss>) -> [u32; 2] {
+        let mut endings = [0; 2];
+        for seed in 0..3_000 {
+            let Some((file, context, sides)) = copied(seed, miss) else { continue };
+            let Some(walk) = walk(&file, context, sides) else { panic!("seed {seed}") };
+            endings[usize::from(walk.ending == Ending::Differs)] += 1;
+        }
+        endings
+    }
+
+    #[test]
+    fn copies_are_taken() {
+        let [taken, not] = endings(None);
+        assert!(taken > 2_500 && not == 0, "{taken}, {not}");
+    }
+
+    /// Each way to miss is found, and refused, often enough.
+    #[test]
+    fn misses_are_not() {
+        for miss in MISSES {
+            let [_, not] = endings(Some(miss));
+            assert!(not >= 5, "{miss:?}: {not}");
+        }
+    }
 }
