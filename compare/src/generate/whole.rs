@@ -354,6 +354,16 @@ pub fn of_length(b: &mut Builder, length: Length) -> (u32, [u32; 2]) {
     (context, sides)
 }
 
+/// A file with one walk of so many pairs.
+pub fn one_walk(rng: Rng, length: Length) -> Vec<u32> {
+    let mut b = Builder::new(rng, 100);
+    let (context, [left, right]) = of_length(&mut b, length);
+    b.add_step(REFL, context, left, right, &[]);
+    let truth = b.apply(1, &[]);
+    b.add_step(REFL, 0, truth, truth, &[]);
+    b.claim_last()
+}
+
 /// A walk near the limit, alone or with others before and after it.
 fn near_limit(rng: Rng) -> Vec<u32> {
     let mut b = Builder::new(rng, 100);
@@ -448,28 +458,26 @@ fn long_let(rng: Rng) -> Vec<u32> {
     b.claim_last()
 }
 
-/// `depth` binders in one another, for-all and exists, over eight variables, with an atom of
+/// `depth` binders in one another, for-all and exists, over four variables, with an atom of
 /// two of them every `every` levels and at the bottom. The two sides differ in the name of the
 /// outermost binder alone: the terms below it are the same records, so that nearly all
 /// records of a file are binders that one walk crosses.
 pub fn shared_binders(rng: Rng, depth: u32, every: u32) -> Vec<u32> {
     let mut b = Builder::new(rng, 100);
     let p = b.symbol(TRUTH, &[ITEM, ITEM]);
-    let names: [u32; 8] = std::array::from_fn(|_| b.variable(ITEM));
-    let terms = names.map(|name| b.variable_term(name));
+    let names: [u32; 4] = std::array::from_fn(|_| b.variable(ITEM));
     let outer: [u32; 2] = std::array::from_fn(|_| b.variable(ITEM));
-    let mut term = b.apply(p, &[terms[0], terms[1]]);
+    let [one, two, three, four] = names.map(|name| b.variable_term(name));
+    let atoms = [b.apply(p, &[one, two]), b.apply(p, &[three, four])];
+    let mut term = atoms[0];
     for level in 0..depth - 1 {
         if level % every == every - 1 {
-            let (one, other) = (level as usize / 2 % 8, level as usize % 7);
-            let atom = b.apply(p, &[terms[one], terms[other]]);
+            let atom = b.rng.one_of(atoms);
             term = b.apply(4, &[atom, term]);
         }
         let kind = if level % 3 == 2 { EXISTS } else { FOR_ALL };
-        term = b.quantify(kind, names[level as usize % 8], term);
+        term = b.quantify(kind, names[level as usize % 4], term);
     }
-    let free: Vec<u32> = b.free(term).members().collect();
-    debug_assert!(free.is_empty(), "every variable has a binder above the lowest ones");
     let sides = outer.map(|name| {
         let name_term = b.variable_term(name);
         let atom = b.apply(p, &[name_term, name_term]);
@@ -596,8 +604,8 @@ pub fn any(mut rng: Rng) -> Vec<u32> {
         84..90 => doubles(rng),
         90..94 => long_let(rng),
         94..96 => {
-            let depth = rng.between(30, 990);
-            shared_binders(rng, depth, 50)
+            let (depth, every) = (rng.between(30, 950), rng.between(20, 90));
+            shared_binders(rng, depth, every)
         }
         _ => deep(rng),
     }
@@ -630,6 +638,10 @@ pub fn one_for_many(rng: Rng, rules: u32) -> Vec<u32> {
             let all = b.apply(5, &[both, inner]);
             let five = b.apply(p(3), &[v, v]);
             let all = b.apply(6, &[all, five]);
+            let six = b.apply(p(1), &[f_x, y]);
+            let six = b.apply(3, &[six]);
+            let all = b.apply(4, &[all, six]);
+            let all = b.apply(3, &[all]);
             let all = b.apply(4, &[all, inner]);
             let exists = b.quantify(EXISTS, names[1], all);
             b.quantify(FOR_ALL, names[0], exists)
