@@ -125,16 +125,23 @@ struct Walk<'a, R> {
 }
 
 impl<R: Rules> Walk<'_, R> {
+    /// A pair more, if the limit allows it.
+    #[inline(always)]
+    fn count(&mut self) -> Result<(), Stop> {
+        if self.pairs == self.limit {
+            return Err(Stop::Spent);
+        }
+        self.pairs += 1;
+        Ok(())
+    }
+
     /// Visits a pair and what is below it. The last part of a term is taken in the same
     /// turn, so that a chain of binders is a loop.
     fn pair(&mut self, mut left: u32, mut right: u32) -> Result<(), Stop> {
         let Tables { lists, terms, .. } = self.tables;
         let crossed = self.binders.crossed.len();
         'pairs: loop {
-            if self.pairs == self.limit {
-                return Err(Stop::Spent);
-            }
-            self.pairs += 1;
+            self.count()?;
             if self.rules.has(Fault::WholeSharedTermSkipped) && self.skips(left, right) {
                 break;
             }
@@ -155,7 +162,14 @@ impl<R: Rules> Walk<'_, R> {
                             (left, right) = (argument, other);
                             continue 'pairs;
                         }
-                        self.pair(argument, other)?;
+                        // Most arguments are variables: they take no call.
+                        match terms.get(argument).term {
+                            Term::Variable(x) => {
+                                self.count()?;
+                                self.variable(x, argument, other, terms.get(other).term)?;
+                            }
+                            _ => self.pair(argument, other)?,
+                        }
                         (from, to) = (next, next_other);
                     }
                     if from != to && !self.rules.has(Fault::WholeSymbolsUnread) {

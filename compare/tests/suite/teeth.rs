@@ -1,6 +1,7 @@
 //! The comparison notices every single fault, by the ordinary files alone.
 
 use crate::{EXACT, exact, exact_expand, exact_links, exact_read};
+use nezkaldo_compare::answer::number;
 use nezkaldo_compare::bundle::MAX_SETS;
 use nezkaldo_compare::compare::{self, Calls, Checkers};
 use nezkaldo_compare::eval::claim_holds;
@@ -11,6 +12,7 @@ use nezkaldo_compare::mutants::{
 };
 use nezkaldo_compare::naive;
 use nezkaldo_compare::rng::Rng;
+use nezkaldo_compare::tally::ENOUGH;
 
 const SEED: u64 = 5;
 
@@ -65,6 +67,20 @@ fn every_broken_walk_is_told_apart() {
     }
 }
 
+/// The count of a walk that differs is in no answer; the files that are made of it tell it.
+#[test]
+fn the_count_of_a_walk_that_differs_is_told_apart() {
+    for (fault, least) in [(Fault::WholeDifferenceUncounted, 100), (Fault::SpentAfterRule, 20)] {
+        let broken = broken_checker(fault);
+        let broken = Calls { check: &broken, ..EXACT };
+        let report = compare::run(Checkers::two(broken, EXACT), SEED, 3_000, None).unwrap();
+        let by_walk = |difference: &&compare::Difference| difference.text.starts_with("walk ");
+        let told = report.differences.iter().filter(by_walk).count();
+        let all = report.differences.len();
+        assert!(told >= least.min(ENOUGH) / 2, "{fault:?}: {told} of {all}");
+    }
+}
+
 /// The evaluator has teeth too: files that only an unsound checker accepts claim
 /// something false in some world.
 #[test]
@@ -74,12 +90,19 @@ fn unsound_faults_let_false_claims_through() {
         Fault::BindNameUnread,
         Fault::CongSymbolsDiffer,
         Fault::BindKindsDiffer,
+        Fault::WholeCaptureTaken,
+        Fault::WholeLeftNotHidden,
+        Fault::WholeRightNotHidden,
+        Fault::WholeKindsUnread,
+        Fault::WholeSymbolsUnread,
+        Fault::WholeBoundsInside,
     ] {
         let broken = broken_checker(fault);
         let found = (0..40_000).any(|index| {
             let file = case(SEED, index).bytes;
             let mut free = vec![0; MAX_SETS];
-            if broken(&file, &mut free) != 0 || exact(&file, &mut free) == 0 {
+            let accepts = |answer: u64| number(answer) == 0;
+            if !accepts(broken(&file, &mut free)) || accepts(exact(&file, &mut free)) {
                 return false;
             }
             let Ok(plain) = naive::tables(&file, |_| true) else { return false };
