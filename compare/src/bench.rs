@@ -408,6 +408,22 @@ mod tests {
         }
     }
 
+    /// Pairs of the files in which REFL walks; the others have none.
+    #[test]
+    fn walks_are_what_they_say() {
+        let walked: Vec<(String, u32)> = subjects()
+            .into_iter()
+            .filter(|subject| subject.pairs > 0)
+            .map(|subject| (subject.name, subject.pairs))
+            .collect();
+        let pairs = [
+            ("one REFL instead of steps", 50 * 40),
+            ("4,096 pairs", 4_096),
+            ("1,000 nested binders", 1_043),
+        ];
+        assert_eq!(walked, pairs.map(|(name, pairs)| (name.to_string(), pairs)));
+    }
+
     /// At least 200 quantifiers are renamed, and all variables bound.
     #[test]
     fn all_variables_are_renamed() {

@@ -3,7 +3,7 @@
 //! careless derivation some choices are wrong on purpose.
 
 use super::builder::{Builder, EXISTS, Entry, FOR_ALL, Shape};
-use super::whole::{MISSES, replaced};
+use super::replace::{MISSES, replaced};
 use crate::bundle::{Counts, Section};
 use crate::set::Set;
 use std::collections::HashMap;

@@ -8,6 +8,7 @@ pub mod jobs;
 pub mod large;
 pub mod limits;
 pub mod printing;
+pub mod replace;
 mod terms;
 pub mod texts;
 pub mod whole;
