@@ -214,10 +214,16 @@ impl Replacing<'_> {
             }
             if !forbidden.is_empty() && self.misses(Miss::Taken) {
                 self.made();
-                // Those that no binder around stands for are seldom there: they come first.
+                // A name that is free in an image, or one that a binder around has.
                 let outer = |y: &u32| self.scope.iter().any(|(_, right)| right == y);
                 let images: Vec<u32> = forbidden.iter().copied().filter(|y| !outer(y)).collect();
-                let some = if images.is_empty() { &forbidden } else { &images };
+                let others: Vec<u32> = forbidden.iter().copied().filter(|y| outer(y)).collect();
+                let first = self.builder.rng.chance(50);
+                let some = match (images.is_empty(), others.is_empty()) {
+                    (false, _) if first => &images,
+                    (_, false) => &others,
+                    _ => &images,
+                };
                 names.extend(self.builder.rng.pick(some));
                 continue;
             }
