@@ -12,6 +12,9 @@ use crate::padding::Question;
 use crate::rng::Rng;
 use std::fmt;
 
+/// The kind of a term that is a variable.
+const VARIABLE: u32 = 1;
+
 /// Of so many files in a hundred, walks are compared.
 const SHARE: u32 = 30;
 
@@ -33,7 +36,13 @@ pub fn walks(file: &[u8], answer: u64, index: u64) -> Vec<(u32, [u32; 2])> {
     let steps: Vec<[u32; 4]> = (1..=counts[Section::Steps])
         .map(|step| [0, 1, 2, 3].map(|field| words[counts.place(Section::Steps, step, field)]))
         .collect();
-    let is_walked = |&&[rule, _, left, right]: &&[u32; 4]| rule == REFL && left != right;
+    // Not those from a variable to its image, which are in every file.
+    let is_compound = |term: u32| {
+        (1..=counts[Section::Terms]).contains(&term)
+            && words[counts.place(Section::Terms, term, 0)] != VARIABLE
+    };
+    let is_walked =
+        |&&[rule, _, left, right]: &&[u32; 4]| rule == REFL && left != right && is_compound(left);
     let walked: Vec<[u32; 4]> = steps.iter().filter(is_walked).copied().collect();
     let refused = (answer as u32 as usize).checked_sub(1).filter(|_| number(answer) != 0);
     let refused = refused.and_then(|place| steps.get(place)).filter(|step| step[0] == REFL);
@@ -90,8 +99,12 @@ impl Pairs {
         let question = Question { file, context, sides };
         let expected = question.expected(question.under()?, walk);
         self.files += expected.len() as u64;
-        let whole = if walk.ending == Ending::Spent { 1 } else { 2 };
-        self.no_room += u64::from(expected.len() < whole);
+        let all = match walk.ending {
+            Ending::Same => 3,
+            Ending::Differs => 2,
+            Ending::Spent => 1,
+        };
+        self.no_room += u64::from(expected.len() < all);
         let mut free = [0; MAX_SETS];
         for (file, answer) in expected {
             for (name, check) in checkers {
@@ -122,9 +135,9 @@ impl fmt::Display for Pairs {
         let [same_pairs, differ_pairs, _] = self.pairs;
         writeln!(
             out,
-            "{} walks of REFL compared by {} files at the limit and past it: {same} with no \
+            "{} walks of REFL compared by {} files, at the limit and past it: {same} with no \
              difference, {same_pairs} pairs, {differ} with one, {differ_pairs} pairs, and {spent} \
-             spent; {} without room for both files; {} of all also with the plain reading",
+             spent; {} without room for all their files; {} of all also with the plain reading",
             same + differ + spent,
             self.files,
             self.no_room,

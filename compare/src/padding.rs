@@ -4,12 +4,14 @@
 //! refused by 13 as long as all pairs together are within the limit, else by 21.
 
 use crate::answer::{Ending, Reason, Refusal, Whole, number};
-use crate::bundle::{BUILT_IN, Counts, MAX_SETS, Section, to_bytes, to_words};
+use crate::bundle::{BUILT_IN, MAX_SETS, Section, counts_of, to_bytes, to_words};
 use crate::check::{MOST_PAIRS, Tables};
 use crate::compare::Checker;
 use crate::fault::Exact;
 
 const TRUTH: u32 = 0;
+/// Kinds of terms.
+const VARIABLE: u32 = 1;
 const EXISTS: u32 = 4;
 
 /// The walk of a REFL: a file whose tables and contexts are sound, a context and two terms.
@@ -37,6 +39,15 @@ impl Question<'_> {
         let sort = |term: u32| terms.is_term(term).then(|| terms.get(term).sort);
         let (left, right) = (sort(self.sides[0])?, sort(self.sides[1])?);
         Some(if left == right { Under::Symbol(left.word()) } else { Under::Let })
+    }
+
+    /// Whether one of REFL's first forms takes it, given that the walk finds no difference:
+    /// one term, or a variable and what is then its image.
+    fn stays(&self) -> bool {
+        let [left, right] = self.sides;
+        let counts = counts_of(self.file).unwrap_or_default();
+        let kind = |term| to_words(self.file)[counts.place(Section::Terms, term, 0)];
+        left == right || kind(left) == VARIABLE
     }
 
     /// A file whose first step is the REFL that is asked about, and whose claim is another
@@ -105,8 +116,8 @@ impl Question<'_> {
         found(ending, MOST_PAIRS + 1 - high)
     }
 
-    /// The files that a walk of which this is known has to answer, and their answers: at the
-    /// limit, and one pair past it.
+    /// The files that are made of a walk of which this is known, and their answers: the walk
+    /// alone where it finds no difference, or is spent; at the limit; and one pair past it.
     pub fn expected(&self, under: Under, walk: Whole) -> Vec<(Vec<u8>, u64)> {
         let refused = |reason| Refusal::at(reason, 1).packed();
         let mut files = Vec::new();
@@ -120,6 +131,9 @@ impl Question<'_> {
                     Ending::Same => MOST_PAIRS.into(),
                     _ => refused(Reason::Rule),
                 };
+                if walk.ending == Ending::Same {
+                    add(self.bare(), if self.stays() { 0 } else { walk.pairs.into() });
+                }
                 let more = MOST_PAIRS - walk.pairs;
                 if more == 0 {
                     add(self.bare(), within);
@@ -146,9 +160,8 @@ struct Sheet {
 impl Sheet {
     /// `None` where the file's length is not what its counts give.
     fn new(file: &[u8]) -> Option<Self> {
+        let counts = counts_of(file)?;
         let words = to_words(file);
-        let counts: [u32; 6] = words.get(1..7)?.try_into().ok()?;
-        let counts = Counts::new(counts);
         if !counts.within_limits() || counts.bytes() != file.len() as u64 {
             return None;
         }

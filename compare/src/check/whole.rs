@@ -82,7 +82,11 @@ pub fn walk<R: Rules>(
     context: u32,
     [left, right]: [u32; 2],
 ) -> Whole {
-    binders.nearest.resize(tables.signature.variable_count() as usize + 1, [0; 2]);
+    if binders.nearest.is_empty() {
+        binders.nearest.resize(tables.signature.variable_count() as usize + 1, [0; 2]);
+        // Only lets can make a walk cross more.
+        binders.crossed.reserve(tables.terms.count() as usize);
+    }
     let limit = if rules.has(Fault::WholeLimitShort) {
         MOST_PAIRS - 1
     } else if rules.has(Fault::WholeLimitLong) || rules.has(Fault::WholeDifferenceUncounted) {
