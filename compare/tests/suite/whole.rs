@@ -12,7 +12,7 @@ use nezkaldo_compare::generate::builder::{Builder, EXISTS, FOR_ALL, ITEM, TRUTH}
 use nezkaldo_compare::generate::derive::{CONG, REFL};
 use nezkaldo_compare::generate::whole::{self, Length};
 use nezkaldo_compare::generate::{Family, case};
-use nezkaldo_compare::naive;
+use nezkaldo_compare::naive::{self, Plain, Tree};
 use nezkaldo_compare::padding::Question;
 use nezkaldo_compare::rng::Rng;
 
@@ -488,4 +488,86 @@ fn generated_walks_are_measured() {
         }
     }
     assert!(seen.iter().all(|&seen| seen >= 4), "{seen:?}");
+}
+
+/// The term that a term becomes where its binders get the names that they have in `like`, and
+/// each other variable its image: by its record. `None` where the two have other shapes, a
+/// name takes a variable, or the file has no such term.
+fn rebuilt(
+    plain: &Plain,
+    context: u32,
+    names: &mut Vec<(u32, u32)>,
+    term: u32,
+    like: u32,
+) -> Option<u32> {
+    let record = |tree: &Tree| plain.terms.iter().position(|other| other == tree);
+    let sort = |variable: &u32| plain.variables[*variable as usize - 1];
+    // Those of the body, with these names; each has to have its sort.
+    let mut within = |from: &[u32], to: &[u32], parts: [u32; 2]| {
+        let outside = names.len();
+        let same = from.iter().map(sort).eq(to.iter().map(sort));
+        names.extend(from.iter().copied().zip(to.iter().copied()));
+        let body = if same { rebuilt(plain, context, names, parts[0], parts[1]) } else { None };
+        names.truncate(outside);
+        body
+    };
+    let tree = match (plain.tree(term), plain.tree(like)) {
+        (Tree::Variable(x), _) => {
+            let bound = names.iter().rposition(|(from, _)| from == x);
+            let (becomes, inner) = match bound {
+                Some(place) => (record(&Tree::Variable(names[place].1))?, place + 1),
+                None => (plain.image(context, *x).unwrap_or(term) as usize - 1, 0),
+            };
+            let free = &plain.free[becomes];
+            let taken = names[inner..].iter().any(|(_, to)| free.contains(to));
+            return (!taken).then_some(becomes as u32 + 1);
+        }
+        (Tree::Application(f, from), Tree::Application(_, to)) if from.len() == to.len() => {
+            let parts = from.iter().zip(to).map(|(&a, &b)| rebuilt(plain, context, names, a, b));
+            Tree::Application(*f, parts.collect::<Option<_>>()?)
+        }
+        (Tree::ForAll(x, body), Tree::ForAll(y, other)) => {
+            Tree::ForAll(*y, within(&[*x], &[*y], [*body, *other])?)
+        }
+        (Tree::Exists(x, body), Tree::Exists(y, other)) => {
+            Tree::Exists(*y, within(&[*x], &[*y], [*body, *other])?)
+        }
+        (Tree::Let(from, bounds, body), Tree::Let(to, results, other))
+            if bounds.len() == results.len() =>
+        {
+            let body = within(from, to, [*body, *other])?;
+            let parts =
+                bounds.iter().zip(results).map(|(&a, &b)| rebuilt(plain, context, names, a, b));
+            Tree::Let(to.clone(), parts.collect::<Option<_>>()?, body)
+        }
+        _ => return None,
+    };
+    record(&tree).map(|place| place as u32 + 1)
+}
+
+/// What the walk takes is what replacing makes, by its record, and nothing else.
+#[test]
+fn walks_are_replacements() {
+    let mut seen = [0; 2];
+    for index in 0..6_000 {
+        let case = case(32, index);
+        if case.family != Family::Whole || case.bytes.len() > 4_000 {
+            continue;
+        }
+        let Ok(plain) = naive::load(&case.bytes, usize::MAX) else { continue };
+        for step in plain.steps.iter().filter(|step| step.rule == REFL) {
+            // A right side of another step too.
+            for right in plain.steps.iter().map(|other| other.right).take(12).chain([step.right]) {
+                let walk = check::walk(&case.bytes, step.context, [step.left, right]).unwrap();
+                if walk.ending == Ending::Spent {
+                    continue;
+                }
+                let made = rebuilt(&plain, step.context, &mut Vec::new(), step.left, right);
+                let same = walk.ending == Ending::Same;
+                assert_eq!(made == Some(right), same, "file {index}: {step:?} to {right}");
+                seen[usize::from(same)] += 1;
+            }
+        }
+    }
+    assert!(seen.iter().all(|&seen| seen >= 300), "{seen:?}");
 }
