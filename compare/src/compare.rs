@@ -163,9 +163,10 @@ impl Report {
                 return text;
             }
         }
-        let subjects = [("the subject", checkers.subject.check)];
-        let readings = [("the Rust checker", checkers.reference.check)];
-        let mut parties = [subjects, readings].concat();
+        let mut parties = vec![
+            ("the subject", checkers.subject.check),
+            ("the Rust checker", checkers.reference.check),
+        ];
         parties.extend(plain.map(|plain| ("the plain reading", plain.check)));
         for walk in compare_pairs::walks(file, answer, index) {
             let text = self.pairs.problem(&parties, plain.is_some(), file, walk);

@@ -100,9 +100,19 @@ impl Question<'_> {
         if ending == Ending::Same && bare != 0 {
             return found(ending, bare as u32);
         }
-        // It is spent with `high` pairs before it and not with `low`; 4,096 are always enough.
-        let named = self.sides[0] == self.sides[1];
-        let (mut low, mut high) = (if named { 2 } else { 0 }, MOST_PAIRS);
+        // It is spent with `high` pairs before it, since 4,096 are more than enough, and not
+        // with `low`: no pairs at all, or the two names and their holder alone.
+        let least = if self.sides[0] == self.sides[1] { 3 } else { 0 };
+        let (mut low, mut high) = (least, MOST_PAIRS);
+        for asked in [least, high] {
+            let answer = match asked {
+                0 => bare,
+                _ => Self::ask(check, self.padded(under, asked))?,
+            };
+            if (answer == spent) != (asked == high) {
+                return Some(Err(answer));
+            }
+        }
         while low + 1 < high {
             let middle = low.midpoint(high);
             match Self::ask(check, self.padded(under, middle))? {

@@ -30,7 +30,7 @@ pub struct Length {
     pub pairs: u32,
     /// Whether the last pair differs.
     pub differs: bool,
-    /// Binders around, each a pair.
+    /// Binders around; every fourth is a let, whose bound term is a pair more.
     pub binders: u32,
 }
 
@@ -49,7 +49,8 @@ pub fn of_length(b: &mut Builder, length: Length) -> (u32, [u32; 2]) {
     if binders > 0 {
         leaves.push([b.variable_term(names[0]), b.variable_term(names[1])]);
     }
-    let mut levels = levels(pairs - binders - 1 - u32::from(differs));
+    let lets = binders / 4;
+    let mut levels = levels(pairs - binders - lets - 1 - u32::from(differs));
     b.rng.shuffle(&mut levels);
     let mut arguments = [Vec::new(), Vec::new()];
     for level in levels {
@@ -70,7 +71,11 @@ pub fn of_length(b: &mut Builder, length: Length) -> (u32, [u32; 2]) {
         // The innermost binders are those of the leaves.
         let (x, y) = if place == 0 { (names[0], names[1]) } else { (names[2], names[3]) };
         let kind = if place % 3 == 1 { EXISTS } else { FOR_ALL };
-        sides = [b.quantify(kind, x, sides[0]), b.quantify(kind, y, sides[1])];
+        sides = if place % 4 == 3 {
+            [b.bind_let(&[x], &[free_term], sides[0]), b.bind_let(&[y], &[a_term], sides[1])]
+        } else {
+            [b.quantify(kind, x, sides[0]), b.quantify(kind, y, sides[1])]
+        };
     }
     (context, sides)
 }

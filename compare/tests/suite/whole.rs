@@ -353,7 +353,7 @@ fn answer_to(pairs: u32, differs: bool, binders: u32) -> (u32, u32) {
 
 #[test]
 fn the_limit() {
-    for binders in [0, 1, 5] {
+    for binders in [0, 1, 5, 9] {
         for pairs in [20, 4_095, 4_096] {
             assert_eq!(answer_to(pairs, false, binders), (0, pairs));
             assert_eq!(answer_to(pairs, true, binders), (13, 1));
