@@ -259,6 +259,9 @@ impl<R: Rules> Walk<'_, R> {
     /// Whether no binder crossed on the right takes a free variable of a term.
     #[inline(always)]
     fn untaken(&self, term: u32) -> bool {
+        if self.tables.terms.plainly_closed(term) {
+            return true;
+        }
         let free = self.tables.terms.free(self.rules, term);
         let taken = self.binders.taken;
         if self.rules.has(Fault::WholeCaptureFirstWord) {
