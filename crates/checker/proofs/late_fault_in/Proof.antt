@@ -49,10 +49,10 @@ returns-2 : tie.Need-returns-2
 unfolding lateFault
 returns-2 c = record {
   fault = rw (
-    ← c .before .before .before .before .before .before .before .before .before .before .before .contexts-fault .ensures .0,
+    ← c .before .before .before .before .before .before .before .before .before .before .before .before .contexts-fault .ensures .0,
     orElse-on _ _ _
-        (c .before .before .before .before .before .if1 .left),
-    ← c .before .before .steps-fault .ensures .fault,
+        (c .before .before .before .before .before .before .if1 .left),
+    ← c .before .before .before .steps-fault .ensures .fault,
     orElse-here _ _ _ (c .if2 .taken),
   );
   pairs = λ z. absurd (c .if2 .taken z);
@@ -71,14 +71,14 @@ returns-3 : tie.Need-returns-3
 unfolding lateFault
 returns-3 c = record {
   fault = rw (
-    ← c .before .before .before .before .before .before .before .before .before .before .before .before .contexts-fault .ensures .0,
+    ← c .before .before .before .before .before .before .before .before .before .before .before .before .before .contexts-fault .ensures .0,
     orElse-on _ _ _
-        (c .before .before .before .before .before .before .if1 .left),
-    ← c .before .before .before .steps-fault .ensures .fault,
+        (c .before .before .before .before .before .before .before .if1 .left),
+    ← c .before .before .before .before .steps-fault .ensures .fault,
     orElse-on _ _ _ (c .before .if2 .left),
     ← c .claim-fault .ensures,
   ) (sym (orElse-last _));
-  pairs = λ z. c .before .before .before .steps-fault .ensures .pairs (c .before .if2 .left);
+  pairs = λ z. c .before .before .before .before .steps-fault .ensures .pairs (c .before .if2 .left);
 }
 
 pub late-fault-in-spec : {M : Type 1} → statement M
