@@ -1,5 +1,6 @@
 -- What is done with a pair by its kind, from the code's tests of the kind.
 --     opened-variable, opened-binder, opened-rest     what is put onto the agenda
+--     closes-not, opened-none, opened-some            an application with no arguments, and others
 --     body-test, body-flag                              a kind that has a body
 --     body-binder, body-let                           the body
 --     bound-binder, bound-let                         the variables
@@ -19,7 +20,7 @@ use Rattle.logic.specs.Terms.{Binder, forAll, exists, Kind, kindOf, binds, isBi
 use Rattle.logic.specs.ReflWalk.{sortsMeet, allSortsMeet, binderMeets, letMeets}
 use Rattle.logic.proofs.Tests.{and-left, and-right}
 use Rattle.logic.proofs.TermKinds.{kind-number}
-use Rattle.pair_walk.specs.Agenda.{Frame, pending, hasBody, boundAs, bodyAs, startAs, openedAs, MetAs}
+use Rattle.pair_walk.specs.Agenda.{Frame, pending, hasBody, boundAs, bodyAs, startAs, openedAs, closes, opened, MetAs}
 
 not-other {ℓ} : {A : Type ℓ} → _≡_ {A = ℕ} 0 1 → A
 not-other e = absurd (omega arith)
@@ -60,6 +61,20 @@ module _ (c : Counts) (b : Bundle) (k : ℕ) (l r : ℕ) (fs : List Frame) where
       go (binder q) d h = absurd (false≢true (sym h))
       go letting d h = refl
       go other d h = refl
+
+pub closes-not : (k i j : ℕ) → (k ≡ 2 → ⊥) → closes k i j ≡ false
+closes-not k i j ne = rw (ne-eqb k 2 ne)
+
+-- an application with no arguments has no frame
+module _ (c : Counts) (b : Bundle) (l r : ℕ) (fs : List Frame) where
+  pub opened-none : closes (termOf b l .kind) (startsAt (c .links) (termOf b l .b)) (startsAt (c .links) (termOf b r .b)) ≡ true → opened c b l r fs ≡ fs
+  unfolding opened
+  opened-none e = rw e
+
+  pub opened-some : closes (termOf b l .kind) (startsAt (c .links) (termOf b l .b)) (startsAt (c .links) (termOf b r .b)) ≡ false
+      → opened c b l r fs ≡ openedAs c b (kindOf (termOf b l .kind)) l r fs
+  unfolding opened
+  opened-some e = rw e
 
 -- ---- bodies
 

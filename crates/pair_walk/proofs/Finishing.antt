@@ -2,18 +2,19 @@
 --     go-on-on                       a walk, a second and a third
 --     within-spent, under-spent      with no pair left a walk is spent
 --     differs-here                   a pair that does not meet
---     opened-is                      a pair that meets, and what is left of it
+--     opened-is, opened-on           a pair that meets, and what is left of it
 --     lists-on, lists-short          the lists of a pair go on, or one is shorter
---     closed-is, bodies-are          both lists have ended: nothing more, or the bodies
+--     closed-is, closed-off, bodies-are     both lists have ended: nothing more, or the bodies
 --     leaves-crossed, leaves-finish  variables crossed
 --     finish-none                    nothing is left
 use mathlib.Core.Path.{_≡_, refl, sym, ap, ap₂, _∙_, fun-ext}
-use mathlib.Core.Bool.{Bool, true, false, cond, false≢true}
+use mathlib.Core.Bool.{Bool, true, false, cond, _&&_, false≢true}
 use mathlib.Core.List.{List, [], _∷_}
 use Prim.Native.Nat.{ℕ, zero, suc, _+_, _≤_, _<_}
 use native.Mathlib.Omega.{arith}
 use lib.ListN.{length}
 use lib.Dec.{eqb, ltb}
+use borrow.Author.Tests.{eqb-true}
 use Rattle.bundle.specs.declared.Bundle.{Bundle as Counts}
 use Rattle.bundle.specs.Bundle.{Bundle, TermRecord, linkOf, termOf}
 use Rattle.bundle.specs.Links.{items, startsAt, nextOf}
@@ -25,8 +26,9 @@ use Rattle.logic.specs.declared.Limited.the-variants.{Same, Different, Spent}
 use Rattle.logic.specs.Terms.{Kind, kindOf, variable, application, binder, letting, other}
 use Rattle.logic.specs.ReflWalk.{Crossed, crossAll, letCrossed, goOn, listsWithin, withinAs, withinOf, noneWithin, withinBy}
 use Rattle.logic.proofs.ReflWalk.{within-below}
+use Rattle.logic.proofs.Tests.{and-left, and-right}
 use Rattle.crossings.specs.Pairs.{meetsAs, meetsBy}
-use Rattle.pair_walk.specs.Agenda.{Frame, pending, leave, frames, crossedBy, hasBody, boundAs, bodyAs, startAs, openedAs, leaves, under, closing, finish}
+use Rattle.pair_walk.specs.Agenda.{Frame, pending, leave, frames, crossedBy, hasBody, boundAs, bodyAs, startAs, openedAs, closes, opened, leaves, under, closing, finish}
 
 pub go-on-on : (a : Limited) (f g : ℕ → Limited) → goOn (goOn a f) g ≡ goOn a (λ n. goOn (f n) g)
 unfolding goOn
@@ -132,6 +134,41 @@ module _ (free : ℕ → ℕ → Bool) (image : ℕ → Image) (b : Bundle) wher
         → finish free image b (pending l r i j ∷ fs) n ≡ finish free image b fs n
     unfolding finish listsWithin goOn closing
     closed-is l r i j n fs ei ej e = rw (walk-nil z i ei, walk-nil z j ej, e)
+
+    -- an application of which nothing is left
+    pub closed-off : (l r u v : ℕ) (fs : List Frame) → closes (termOf b l .kind) u v ≡ true
+        → finish free image b (pending l r u v ∷ fs) ≡ finish free image b fs
+    unfolding kindOf
+    closed-off l r u v fs e =
+        let k : ℕ = termOf b l .kind in
+        let both = and-left (eqb k 2 && eqb u 0) (eqb v 0) e in
+        let two : k ≡ 2 = eqb-true k 2 (and-left (eqb k 2) (eqb u 0) both) in
+        let none : hasBody (kindOf k) ≡ false = rw two in
+        fun-ext (λ m. closed-is l r u v m fs (eqb-true u 0 (and-right (eqb k 2) (eqb u 0) both)) (eqb-true v 0 (and-right (eqb k 2 && eqb u 0) (eqb v 0) e)) none)
+
+    opened-off : (l r : ℕ) (fs : List Frame) → closes (termOf b l .kind) (startsAt (c .links) (termOf b l .b)) (startsAt (c .links) (termOf b r .b)) ≡ true
+        → finish free image b (openedAs c b (kindOf (termOf b l .kind)) l r fs) ≡ finish free image b fs
+    unfolding kindOf openedAs
+    opened-off l r fs e =
+        let k : ℕ = termOf b l .kind in
+        let u : ℕ = startsAt (c .links) (termOf b l .b) in
+        let v : ℕ = startsAt (c .links) (termOf b r .b) in
+        let two : k ≡ 2 = eqb-true k 2 (and-left (eqb k 2) (eqb u 0) (and-left (eqb k 2 && eqb u 0) (eqb v 0) e)) in
+        let is : openedAs c b (kindOf k) l r fs ≡ pending l r u v ∷ fs = ap (λ (m : ℕ). openedAs c b (kindOf m) l r fs) two in
+        ap (finish free image b) is ∙ closed-off l r u v fs e
+
+    -- a pair that meets, and what is put onto the agenda for it
+    pub opened-on : (l r : ℕ) (fs : List Frame) (n : ℕ) → meetsBy free image b (termOf b l) (crossedBy fs) r ≡ true
+        → goOn (withinBy free image b l (crossedBy fs) r (suc n)) (finish free image b fs) ≡ finish free image b (opened c b l r fs) n
+    unfolding opened
+    opened-on l r fs n e =
+        go (closes (termOf b l .kind) (startsAt (c .links) (termOf b l .b)) (startsAt (c .links) (termOf b r .b))) refl
+      where
+        go : (p : Bool) → closes (termOf b l .kind) (startsAt (c .links) (termOf b l .b)) (startsAt (c .links) (termOf b r .b)) ≡ p
+            → goOn (withinBy free image b l (crossedBy fs) r (suc n)) (finish free image b fs)
+            ≡ finish free image b (cond p fs (openedAs c b (kindOf (termOf b l .kind)) l r fs)) n
+        go true d = opened-is l r fs n e ∙ ap (λ (g : ℕ → Limited). g n) (opened-off l r fs d)
+        go false d = opened-is l r fs n e
 
     pub bodies-are : (l r i j n : ℕ) (fs : List Frame) → i ≡ 0 → j ≡ 0 → hasBody (kindOf (termOf b l .kind)) ≡ true
         → finish free image b (pending l r i j ∷ fs) n

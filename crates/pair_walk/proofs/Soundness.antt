@@ -294,9 +294,9 @@ module _ {b : Bundle} {c : Counts} (z : Sized b c) where
           }
 
   -- the same frames in another agenda, with fewer pairs left
-  pub held-same : (n most : ℕ) (w w′ p s : List ℕ) (h depth left less : ℕ) → Held c b n most w p s h depth left → frames w′ h ≡ frames w h
-      → length w′ ≡ length w → less ≤ left → Held c b n most w′ p s h depth less
-  held-same n most w w′ p s h depth left less held e len few =
+  pub held-same : (n most : ℕ) (w w′ p s : List ℕ) (h h′ depth left less : ℕ) → Held c b n most w p s h depth left → frames w′ h′ ≡ frames w h
+      → length w′ ≡ length w → less ≤ left → Held c b n most w′ p s h′ depth less
+  held-same n most w w′ p s h h′ depth left less held e len few =
       record {
         long = omega (arith, held .long, len);
         crossing = record { placed = rw e (held .crossing .placed); deep = rw e (held .crossing .deep) };

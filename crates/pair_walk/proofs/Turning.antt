@@ -4,7 +4,7 @@
 --     pending-known, take-turn, short-turn     the lists of a pair go on, or one is shorter
 --     closed-after, closed-on             both have ended, and there are no bodies
 --     bodies-known, bodies-turn           both have ended, and the bodies are next
-use mathlib.Core.Path.{_≡_, refl, sym, ap, subst, _∙_, fun-ext}
+use mathlib.Core.Path.{_≡_, refl, sym, ap, subst, _∙_}
 use mathlib.Core.Bool.{Bool, true, false, not, _&&_, _||_, cond, false≢true}
 use mathlib.Core.Logic.{_⊎_, inl, inr, ⊎-elim}
 use mathlib.Core.List.{List, [], _∷_}
@@ -23,13 +23,12 @@ use Rattle.logic.specs.declared.Limited.{Limited}
 use Rattle.logic.specs.declared.Limited.the-variants.{Different}
 use Rattle.logic.specs.Terms.{Kind, kindOf}
 use Rattle.logic.specs.ReflWalk.{Crossed, lefts, rights, crossAll, goOn}
-use Rattle.logic.proofs.Tests.{and-left, and-right}
 use Rattle.crossings.specs.Places.{stamp, Places}
 use Rattle.pair_walk.specs.declared.Turn.{Turn}
 use Rattle.pair_walk.specs.Agenda.{Frame, pending, leave, frameOf, frames, crossedBy, hasBody, boundAs, bodyAs, leaves, under, finish, MetAs, PendingHeld, LeaveHeld}
 use Rattle.pair_walk.specs.Agenda.{Crossing, Held, closes, turnTo, TurnHeld}
 use Rattle.pair_walk.proofs.FrameWords.{frame-pending, frame-leave, frames-length, frames-top, crossed-few, place-fits, other-fits}
-use Rattle.pair_walk.proofs.Finishing.{lists-on, left-short, right-short, closed-is, bodies-are, leaves-crossed, leaves-finish}
+use Rattle.pair_walk.proofs.Finishing.{lists-on, left-short, right-short, closed-is, closed-off, bodies-are, leaves-crossed, leaves-finish}
 use Rattle.pair_walk.proofs.Soundness.{left-held, left-placed, held-left, pending-held, pending-crossing, held-closed, held-taken, bodies-room, held-bodies, held-same, turn-held}
 
 -- ---- tests of two links
@@ -123,18 +122,6 @@ module _ (f : List ℕ) (b : Counts) (n most : ℕ) (w p s : List ℕ) (height d
     whole-is free image =
         ap (λ (t : ℕ). finish free image (bundleAt f b) (frames w t) left) up ∙ ap (λ (fs : List Frame). finish free image (bundleAt f b) fs left) pending-top
 
-    -- an application of which nothing is left
-    taken-off : (free : ℕ → ℕ → Bool) (image : ℕ → Image) (u v : ℕ) → closes (termOf (bundleAt f b) l .kind) u v ≡ true
-        → finish free image (bundleAt f b) (pending l r u v ∷ frames w (height - 1)) ≡ finish free image (bundleAt f b) (frames w (height - 1))
-    unfolding kindOf
-    taken-off free image u v e =
-        let k : ℕ = termOf (bundleAt f b) l .kind in
-        let both = and-left (eqb k 2 && eqb u 0) (eqb v 0) e in
-        let two : k ≡ 2 = eqb-true k 2 (and-left (eqb k 2) (eqb u 0) both) in
-        let none : hasBody (kindOf k) ≡ false = rw two in
-        fun-ext (λ m. closed-is free image (bundleAt f b) (sized-at f b) l r u v m (frames w (height - 1)) (eqb-true u 0 (and-right (eqb k 2) (eqb u 0) both))
-        (eqb-true v 0 (and-right (eqb k 2 && eqb u 0) (eqb v 0) e)) none)
-
     pub take-turn : (w′ : List ℕ) (t : Turn) → (i ≡ 0 → ⊥) × (j ≡ 0 → ⊥) → length w′ ≡ length w
         → t ≡ turnTo l (linkOf (bundleAt f b) i .value) (linkOf (bundleAt f b) j .value)
         (cond (closes (termOf (bundleAt f b) l .kind) (nextOf (bundleAt f b .links) i) (nextOf (bundleAt f b .links) j)) (height - 1) (suc (height - 1))) deep left
@@ -167,11 +154,11 @@ module _ (f : List ℕ) (b : Counts) (n most : ℕ) (w p s : List ℕ) (height d
             ∷ frames w (height - 1))
             → TurnHeld free image b (bundleAt f b) n most (finish free image (bundleAt f b) (frames w height) left) w′ p s left t
         go true closed dt e =
-            let off = taken-off free image (nextOf (bundleAt f b .links) i) (nextOf (bundleAt f b .links) j) closed in
+            let off = closed-off free image (bundleAt f b) (sized-at f b) l r (nextOf (bundleAt f b .links) i) (nextOf (bundleAt f b .links) j) (frames w (height - 1)) closed in
             rw dt
             (turn-held free image b (bundleAt f b) n most (finish free image (bundleAt f b) (frames w height) left) w′ p s l (linkOf (bundleAt f b) i .value)
             (linkOf (bundleAt f b) j .value) (height - 1) deep left (rw (e, ← off) on)
-            (λ m more. held-same (sized-at f b) n most w w′ p s (height - 1) deep left m
+            (λ m more. held-same (sized-at f b) n most w w′ p s (height - 1) (height - 1) deep left m
             (held-closed (sized-at f b) n most w p s (height - 1) deep left here l r i j pending-top) e len (omega arith)) (omega arith))
         go false some-left dt e =
             let positive : 1 ≤ l = omega arith in

@@ -5,13 +5,14 @@
 --     open-known, opened-held, opened-whole    a pair that meets
 --     turned-end, turned-pair    what follows
 use mathlib.Core.Path.{_≡_, refl, sym, ap, subst, _∙_}
-use mathlib.Core.Bool.{Bool, true, false}
+use mathlib.Core.Bool.{Bool, true, false, cond}
 use mathlib.Core.List.{List, []}
 use Prim.Native.Nat.{ℕ, zero, suc, _+_, _*_, _-_, _≤_, _<_}
 use native.Mathlib.Omega.{arith}
 use lib.ListN.{length}
 use Rattle.bundle.specs.declared.Bundle.{Bundle as Counts}
 use Rattle.bundle.specs.Bundle.{termOf}
+use Rattle.bundle.specs.Links.{startsAt}
 use Rattle.bundle.specs.File.{bundleAt}
 use Rattle.bundle.proofs.Fields.{sized-at}
 use Rattle.logic.specs.declared.Image.{Image}
@@ -23,9 +24,9 @@ use Rattle.logic.specs.ReflWalk.{goOn, withinBy}
 use Rattle.crossings.specs.Places.{Places}
 use Rattle.crossings.specs.Pairs.{meetsBy}
 use Rattle.pair_walk.specs.declared.Turn.{Turn}
-use Rattle.pair_walk.specs.Agenda.{Frame, frames, crossedBy, openedAs, finish, Sound, Crossing, Held, TurnHeld}
-use Rattle.pair_walk.proofs.Finishing.{differs-here, opened-is}
-use Rattle.pair_walk.proofs.Soundness.{met-known, held-opened}
+use Rattle.pair_walk.specs.Agenda.{Frame, frames, crossedBy, openedAs, closes, opened, finish, Sound, Crossing, Held, TurnHeld}
+use Rattle.pair_walk.proofs.Finishing.{differs-here, opened-on}
+use Rattle.pair_walk.proofs.Soundness.{met-known, held-opened, held-same}
 
 pub record Visiting (free : ℕ → ℕ → Bool) (image : ℕ → Image) (f : List ℕ) (b : Counts) (n most : ℕ) (whole : Limited) (w p s : List ℕ) (l r h depth left : ℕ) : Type 0 where
   pub is : whole ≡ goOn (withinBy free image (bundleAt f b) l (crossedBy (frames w h)) r (suc left)) (finish free image (bundleAt f b) (frames w h))
@@ -63,14 +64,20 @@ module _ (free : ℕ → ℕ → Bool) (image : ℕ → Image) (f : List ℕ) (b
         λ ne. met-known (sized-at f b) free image l r (crossedBy (frames w h)) (sym met ∙ e) ne,
       )
 
-      module _ (w′ : List ℕ) (t : ℕ) (len : length w′ ≡ length w)
-          (is : frames w′ t ≡ openedAs b (bundleAt f b) (kindOf (termOf (bundleAt f b) l .kind)) l r (frames w h)) where
+      module _ (w′ : List ℕ) (t : ℕ) (len : length w′ ≡ length w) (is : frames w′ t ≡ opened b (bundleAt f b) l r (frames w h)) where
         pub opened-held : Held b (bundleAt f b) n most w′ p s t depth left
-        opened-held = held-opened (sized-at f b) free image n most w p s h depth left (visit .held) w′ t l r len is (sym met ∙ e) (visit .room)
+        unfolding opened
+        opened-held =
+            go (closes (termOf (bundleAt f b) l .kind) (startsAt (b .links) (termOf (bundleAt f b) l .b)) (startsAt (b .links) (termOf (bundleAt f b) r .b))) is
+          where
+            go : (o : Bool) → frames w′ t ≡ cond o (frames w h) (openedAs b (bundleAt f b) (kindOf (termOf (bundleAt f b) l .kind)) l r (frames w h))
+                → Held b (bundleAt f b) n most w′ p s t depth left
+            go true d = held-same (sized-at f b) n most w w′ p s h t depth left left (visit .held) d len (omega arith)
+            go false d = held-opened (sized-at f b) free image n most w p s h depth left (visit .held) w′ t l r len d (sym met ∙ e) (visit .room)
 
         pub opened-whole : whole ≡ finish free image (bundleAt f b) (frames w′ t) left
         opened-whole =
-            visit .is ∙ opened-is free image (bundleAt f b) (sized-at f b) l r (frames w h) left (sym met ∙ e)
+            visit .is ∙ opened-on free image (bundleAt f b) (sized-at f b) l r (frames w h) left (sym met ∙ e)
             ∙ ap (λ (fs : List Frame). finish free image (bundleAt f b) fs left) (sym is)
 
   pub turned-end : {whole rest : Limited} (w p s : List ℕ) (left : ℕ) {t : Turn} {a : Limited} → TurnHeld free image b (bundleAt f b) n most rest w p s left t

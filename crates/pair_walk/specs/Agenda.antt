@@ -82,7 +82,7 @@ startAs c b (binder q) t = 0
 startAs c b letting t = startsAt (c .links) (termOf b t .b)
 startAs c b other t = startsAt (c .links) (termOf b t .b)
 
--- the frames once a pair has met: a variable has nothing more to walk
+-- the frames once a pair has met, by its kind: a variable has nothing more to walk
 unfoldable pub openedAs : Counts → Bundle → Kind → ℕ → ℕ → List Frame → List Frame
 unfolding startAs
 openedAs c b variable l r fs = fs
@@ -90,6 +90,16 @@ openedAs c b application l r fs = pending l r (startAs c b application l) (start
 openedAs c b (binder q) l r fs = pending l r 0 0 ∷ fs
 openedAs c b letting l r fs = pending l r (startAs c b letting l) (startAs c b letting r) ∷ fs
 openedAs c b other l r fs = pending l r (startAs c b other l) (startAs c b other r) ∷ fs
+
+-- An application, of kind 2, of which nothing is left from the links i and j on has no frame.
+abbrev pub closes : ℕ → ℕ → ℕ → Bool
+closes k i j = (eqb k 2 && eqb i 0) && eqb j 0
+
+unfoldable pub opened : Counts → Bundle → ℕ → ℕ → List Frame → List Frame
+unfolding openedAs startsAt kindOf
+opened c b l r fs =
+    cond (closes (termOf b l .kind) (startsAt (c .links) (termOf b l .b)) (startsAt (c .links) (termOf b r .b))) fs
+    (openedAs c b (kindOf (termOf b l .kind)) l r fs)
 
 -- the frames once variables are crossed, in pairs, where those of ps were before
 unfoldable pub leaves : List ℕ → List ℕ → Crossed → List Frame → List Frame
@@ -159,10 +169,6 @@ pub record Held (c : Counts) (b : Bundle) (n most : ℕ) (agenda places bound : 
   pub sound : Sound c b most left (frames agenda h)
 
 -- ---- turns
-
--- an application, of kind 2, of which nothing is left from the links i and j on: its frame is taken off at once
-abbrev pub closes : ℕ → ℕ → ℕ → Bool
-closes k i j = (eqb k 2 && eqb i 0) && eqb j 0
 
 -- the terms x and y below l are taken up as the next pair, where so many are left
 unfoldable pub turnTo : ℕ → ℕ → ℕ → ℕ → ℕ → ℕ → Turn

@@ -6,11 +6,11 @@ ghost use lib.ListN.{length, getD};
 ghost use Rattle.bundle.specs.Bundle.{termOf};
 ghost use Rattle.bundle.specs.File.{Whole, bundleAt};
 ghost use Rattle.logic.specs.Lists.{Number};
-ghost use Rattle.logic.specs.Terms.{kindOf};
-ghost use Rattle.pair_walk.specs.Agenda.{frameOf, frames, openedAs};
+ghost use Rattle.pair_walk.specs.Agenda.{frameOf, frames, opened};
 use bundle::Bundle;
 use bundle::lists::first_link;
 use bundle::records::term_field;
+use logic::kinds::APPLICATION;
 use logic::kinds::VARIABLE;
 use logic::kinds::is_binder;
 
@@ -47,7 +47,7 @@ pub fn open(file: &[u8], b: Bundle, agenda: &mut [u16], h: usize, l: usize, r: u
         × ((termOf bundle l .kind ≡ 1 → ⊥) → Number (b .terms) l × Number (b .terms) r)) ⌝ }
     ensures { λ t. ⌜ (let bundle = bundleAt (now (file .entry)) b in
         (length (now (agenda .exit)) ≡ length (now (agenda .entry))) × (t ≤ h + 1)
-        × (frames (now (agenda .exit)) t ≡ openedAs b bundle (kindOf (termOf bundle l .kind)) l r (frames (now (agenda .entry)) h))) ⌝ }
+        × (frames (now (agenda .exit)) t ≡ opened b bundle l r (frames (now (agenda .entry)) h))) ⌝ }
 {
     let kind = term_field(file, b, l, 0);
     if kind == VARIABLE {
@@ -59,6 +59,9 @@ pub fn open(file: &[u8], b: Bundle, agenda: &mut [u16], h: usize, l: usize, r: u
     }
     let i = first_link(b, term_field(file, b, l, 2));
     let j = first_link(b, term_field(file, b, r, 2));
+    if (kind == APPLICATION) & (i == 0) & (j == 0) {
+        return h;
+    }
     push(agenda, h, l, r, i, j, 0);
     h + 1
 }
