@@ -153,14 +153,14 @@ fn walk(
     let mut levels = 0;
     let mut l = left;
     let mut r = right;
-    let mut pairs = 0;
+    let mut visited = 0;
     let mut turn = 0;
     while turn < TURNS {
         if l != 0 {
-            if pairs >= PAIRS {
+            if visited >= PAIRS {
                 return ends(l, r, pairs::SPENT, 0);
             }
-            pairs += 1;
+            visited += 1;
             let reason = pair_reason(file, b, area, &path, levels, context, l, r);
             if reason.number != pairs::SAME {
                 return ends(l, r, reason.number, reason.about);
