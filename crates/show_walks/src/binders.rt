@@ -1,6 +1,7 @@
 // What the binders crossed on the path say of a variable.
 ghost use Prim.Native.Nat.{_*_, _≤_};
 ghost use lib.ListN.{length};
+ghost use Rattle.bundle.specs.Limits.{setWords};
 ghost use Rattle.bundle.specs.File.{Whole};
 use super::contexts::beside;
 use super::path;
@@ -87,7 +88,7 @@ pub fn partner(file: &[u8], b: Bundle, path: &[usize; ROOM], level: usize, x: us
 
 // The first variable of a list that is free in term t; 0 where none is.
 fn free_item(file: &[u8], b: Bundle, area: &[u64], list: usize, t: usize) -> usize
-    requires { ⌜ Whole (now file) b × (4 * b .terms ≤ length (now area)) ⌝ }
+    requires { ⌜ Whole (now file) b × (setWords * b .terms ≤ length (now area)) ⌝ }
 {
     let mut i = first_link(b, list);
     while i != 0 {
@@ -109,7 +110,7 @@ fn captured_at(
     level: usize,
     t: usize,
 ) -> usize
-    requires { ⌜ Whole (now file) b × (4 * b .terms ≤ length (now area)) ⌝ }
+    requires { ⌜ Whole (now file) b × (setWords * b .terms ≤ length (now area)) ⌝ }
 {
     if path::get(path, level, path::IN_BODY) == 0 {
         return 0;
@@ -134,7 +135,7 @@ pub fn captured(
     levels: usize,
     t: usize,
 ) -> usize
-    requires { ⌜ Whole (now file) b × (4 * b .terms ≤ length (now area)) ⌝ }
+    requires { ⌜ Whole (now file) b × (setWords * b .terms ≤ length (now area)) ⌝ }
 {
     let mut level = levels;
     while level != 0 {

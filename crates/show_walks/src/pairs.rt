@@ -1,6 +1,7 @@
 // What differs at one pair of terms, by the definition of the walk (crates/logic/specs/ReflWalk.antt).
 ghost use Prim.Native.Nat.{_*_, _≤_};
 ghost use lib.ListN.{length};
+ghost use Rattle.bundle.specs.Limits.{setWords};
 ghost use Rattle.bundle.specs.File.{Whole};
 use super::binders::captured;
 use super::binders::nearest;
@@ -105,7 +106,7 @@ fn free_reason(
     x: usize,
     r: usize,
 ) -> Reason
-    requires { ⌜ Whole (now file) b × (4 * b .terms ≤ length (now area)) ⌝ }
+    requires { ⌜ Whole (now file) b × (setWords * b .terms ≤ length (now area)) ⌝ }
 {
     let t = image(file, b, context, x);
     if !is_image(file, b, t, x, r) {
@@ -196,7 +197,7 @@ pub fn pair_reason(
     l: usize,
     r: usize,
 ) -> Reason
-    requires { ⌜ Whole (now file) b × (4 * b .terms ≤ length (now area)) ⌝ }
+    requires { ⌜ Whole (now file) b × (setWords * b .terms ≤ length (now area)) ⌝ }
 {
     if term_field(file, b, l, 0) != VARIABLE {
         return Reason {

@@ -2,6 +2,7 @@
 // its result, and the checker's own walk is another.
 ghost use Prim.Native.Nat.{_*_, _≤_};
 ghost use lib.ListN.{length};
+ghost use Rattle.bundle.specs.Limits.{setWords};
 ghost use Rattle.bundle.specs.File.{Whole};
 use super::pairs;
 use super::pairs::pair_reason;
@@ -147,7 +148,7 @@ fn walk(
     left: usize,
     right: usize,
 ) -> Difference
-    requires { ⌜ Whole (now file) b × (4 * b .terms ≤ length (now area)) ⌝ }
+    requires { ⌜ Whole (now file) b × (setWords * b .terms ≤ length (now area)) ⌝ }
 {
     let mut path = [0usize; ROOM];
     let mut levels = 0;

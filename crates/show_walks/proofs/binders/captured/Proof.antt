@@ -1,4 +1,4 @@
--- `binders::captured` is safe and ends.
+-- `binders::captured` is safe and ends: it counts the levels down.
 use borrow.Author.Needs.{needs}
 use Rattle.show_walks.proofs.binders.captured.Statement.{statement}
 use Rattle.show_walks.proofs.binders.captured.Tie as tie

@@ -1,4 +1,4 @@
--- `binders::free_item` is safe and ends.
+-- `binders::free_item` is safe and ends: the list that is left gets shorter.
 use borrow.Author.Needs.{needs}
 use native.Mathlib.Omega.{arith}
 use Prim.Native.Nat.{_≤_}

@@ -1,4 +1,4 @@
--- `binders::nearest` is safe and ends.
+-- `binders::nearest` is safe and ends: it counts the levels down.
 use borrow.Author.Needs.{needs}
 use Rattle.show_walks.proofs.binders.nearest.Statement.{statement}
 use Rattle.show_walks.proofs.binders.nearest.Tie as tie

@@ -1,4 +1,4 @@
--- `contexts::beside` is safe and ends.
+-- `contexts::beside` is safe and ends: the list that is left of the variables gets shorter.
 use borrow.Author.Needs.{needs}
 use native.Mathlib.Omega.{arith}
 use Prim.Native.Nat.{_≤_}

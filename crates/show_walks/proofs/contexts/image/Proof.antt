@@ -1,4 +1,4 @@
--- `contexts::image` is safe and ends.
+-- `contexts::image` is safe and ends: a parent is lower, or the walk up ends.
 use borrow.Author.Needs.{needs}
 use Rattle.show_walks.proofs.contexts.image.Statement.{statement}
 use Rattle.show_walks.proofs.contexts.image.Tie as tie

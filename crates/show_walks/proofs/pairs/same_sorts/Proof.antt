@@ -1,4 +1,4 @@
--- `pairs::same_sorts` is safe and ends.
+-- `pairs::same_sorts` is safe and ends: the list that is left on the left gets shorter.
 use borrow.Author.Needs.{needs}
 use native.Mathlib.Omega.{arith}
 use Prim.Native.Nat.{_≤_}

@@ -1,6 +1,7 @@
--- `walk::walk` is safe and ends.
+-- `walk::walk` is safe and ends: the turns are counted.
 use borrow.Author.Needs.{needs}
-use Prim.Native.Nat.{_-_}
+use Prim.Native.Nat.{_+_, _*_, _-_}
+use Rattle.logic.specs.ReflWalk.{pairLimit}
 use Rattle.show_walks.proofs.walk.walk.Statement.{statement}
 use Rattle.show_walks.proofs.walk.walk.Tie as tie
 
@@ -8,7 +9,7 @@ abbrev Inv-loop : tie.InvT-loop
 Inv-loop file b area context left right path₀ levels₀ l₀ r₀ visited₀ turn₀ path levels l r visited turn = Unit {0}
 
 abbrev μ-loop : tie.MeasureT-loop
-μ-loop file b area context left right path₀ levels₀ l₀ r₀ visited₀ turn₀ path levels l r visited turn = 12291 - turn
+μ-loop file b area context left right path₀ levels₀ l₀ r₀ visited₀ turn₀ path levels l r visited turn = 3 * pairLimit + 3 - turn
 
 loop-holds : tie.Need-loop-holds Inv-loop μ-loop
 loop-holds c = search needs
