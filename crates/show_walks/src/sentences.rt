@@ -8,7 +8,6 @@ use super::pairs::KIND;
 use super::pairs::SORTS;
 use super::pairs::SYMBOL;
 use super::pairs::UNMATCHED;
-use super::walk::PAIRS;
 use super::walk::first_difference;
 use bundle::Bundle;
 use bundle::records::term_field;
@@ -77,6 +76,5 @@ pub fn failed_walk(file: &[u8], b: Bundle, context: usize, left: usize, right: u
 pub fn spent_walk(left: usize, right: usize) {
     out::name(b" is REFL, and its walk from t", left);
     out::name(b" and t", right);
-    out::name(b" would visit more than ", PAIRS);
-    out::text(b" pairs: hand over smaller steps");
+    out::text(b" would visit more than 4,096 pairs: hand over smaller steps");
 }

@@ -168,6 +168,9 @@ fn walk(
             }
             levels = open(file, b, &mut path, levels, l, r);
         }
+        if levels == 0 {
+            return ends(left, right, pairs::SAME, 0);
+        }
         let next = next_turn(file, b, &mut path, levels);
         if next.number != pairs::SAME {
             return ends(next.left, next.right, next.number, 0);

@@ -35,14 +35,20 @@ returns-2 c = search needs
 open-requires : tie.Need-open-requires Inv-loop μ-loop
 open-requires c κs = search needs
 
-next-turn-requires : tie.Need-next-turn-requires Inv-loop μ-loop
-next-turn-requires c κs = search needs
-
 ends-requires-3 : tie.Need-ends-requires-3 Inv-loop μ-loop
 ends-requires-3 c κs = search needs
 
 returns-3 : tie.Need-returns-3 Inv-loop μ-loop
 returns-3 c = search needs
+
+next-turn-requires : tie.Need-next-turn-requires Inv-loop μ-loop
+next-turn-requires c κs = search needs
+
+ends-requires-4 : tie.Need-ends-requires-4 Inv-loop μ-loop
+ends-requires-4 c κs = search needs
+
+returns-4 : tie.Need-returns-4 Inv-loop μ-loop
+returns-4 c = search needs
 
 add-turn : tie.Need-add-turn Inv-loop μ-loop
 add-turn c = search needs
@@ -53,11 +59,11 @@ loop-less c = search needs
 loop-again : tie.Need-loop-again Inv-loop μ-loop
 loop-again c = search needs
 
-ends-requires-4 : tie.Need-ends-requires-4 Inv-loop μ-loop
-ends-requires-4 c κs = search needs
+ends-requires-5 : tie.Need-ends-requires-5 Inv-loop μ-loop
+ends-requires-5 c κs = search needs
 
-returns-4 : tie.Need-returns-4 Inv-loop μ-loop
-returns-4 c = search needs
+returns-5 : tie.Need-returns-5 Inv-loop μ-loop
+returns-5 c = search needs
 
 pub walk-spec : {M : Type 1} → statement M
 walk-spec =
@@ -73,11 +79,13 @@ walk-spec =
     ends-requires-2
     returns-2
     open-requires
-    next-turn-requires
     ends-requires-3
     returns-3
+    next-turn-requires
+    ends-requires-4
+    returns-4
     add-turn
     loop-less
     loop-again
-    ends-requires-4
-    returns-4)
+    ends-requires-5
+    returns-5)
