@@ -6,8 +6,6 @@ ghost use Rattle.bundle.specs.Limits.{setWords};
 ghost use Rattle.bundle.specs.File.{Whole};
 use super::pairs;
 use super::pairs::pair_reason;
-use super::path;
-use super::path::ROOM;
 use bundle::Bundle;
 use bundle::lists::first_link;
 use bundle::lists::next_link;
@@ -17,6 +15,8 @@ use logic::kinds::APPLICATION;
 use logic::kinds::LET;
 use logic::kinds::VARIABLE;
 use logic::kinds::is_binder;
+use show_binders::path;
+use show_binders::path::ROOM;
 
 pub const PAIRS: usize = 4096;
 
