@@ -1,4 +1,3 @@
 // For the program show: where the walk of a REFL ends, and why.
-pub mod pairs; // pairs.rt: what differs at one pair
 pub mod sentences; // sentences.rt: what is said of a walk
 pub mod walk; // walk.rt: the walk, to the first difference

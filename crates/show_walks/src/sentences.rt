@@ -1,16 +1,16 @@
 // What is said of a REFL that fails: the pair where its walk ends, and why; or that its walk is too long.
 ghost use Rattle.bundle.specs.File.{Whole};
-use super::pairs::CAPTURE;
-use super::pairs::COUNT;
-use super::pairs::HIDDEN;
-use super::pairs::IMAGE;
-use super::pairs::KIND;
-use super::pairs::SORTS;
-use super::pairs::SYMBOL;
-use super::pairs::UNMATCHED;
 use super::walk::first_difference;
 use bundle::Bundle;
 use bundle::records::term_field;
+use show_pairs::pairs::CAPTURE;
+use show_pairs::pairs::COUNT;
+use show_pairs::pairs::HIDDEN;
+use show_pairs::pairs::IMAGE;
+use show_pairs::pairs::KIND;
+use show_pairs::pairs::SORTS;
+use show_pairs::pairs::SYMBOL;
+use show_pairs::pairs::UNMATCHED;
 use show_text::out;
 
 // The image of the variable is another term, or the variable itself where the term is 0.

@@ -4,8 +4,6 @@ ghost use Prim.Native.Nat.{_*_, _≤_};
 ghost use lib.ListN.{length};
 ghost use Rattle.bundle.specs.Limits.{setWords};
 ghost use Rattle.bundle.specs.File.{Whole};
-use super::pairs;
-use super::pairs::pair_reason;
 use bundle::Bundle;
 use bundle::lists::first_link;
 use bundle::lists::next_link;
@@ -15,8 +13,10 @@ use logic::kinds::APPLICATION;
 use logic::kinds::LET;
 use logic::kinds::VARIABLE;
 use logic::kinds::is_binder;
-use show_binders::path;
-use show_binders::path::ROOM;
+use show_pairs::pairs;
+use show_pairs::pairs::pair_reason;
+use show_pairs::path;
+use show_pairs::path::ROOM;
 
 pub const PAIRS: usize = 4096;
 

@@ -1,7 +1,7 @@
 -- `binders::captured` is safe and ends: it counts the levels down.
 use borrow.Author.Needs.{needs}
-use Rattle.show_binders.proofs.binders.captured.Statement.{statement}
-use Rattle.show_binders.proofs.binders.captured.Tie as tie
+use Rattle.show_pairs.proofs.binders.captured.Statement.{statement}
+use Rattle.show_pairs.proofs.binders.captured.Tie as tie
 
 abbrev Inv-loop : tie.InvT-loop
 Inv-loop file b area path levels t level₀ level = Unit {0}

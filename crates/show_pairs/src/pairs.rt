@@ -3,6 +3,12 @@ ghost use Prim.Native.Nat.{_*_, _≤_};
 ghost use lib.ListN.{length};
 ghost use Rattle.bundle.specs.Limits.{setWords};
 ghost use Rattle.bundle.specs.File.{Whole};
+use super::binders::captured;
+use super::binders::nearest;
+use super::binders::partner;
+use super::contexts::image;
+use super::path;
+use super::path::ROOM;
 use bundle::Bundle;
 use bundle::lists::first_link;
 use bundle::lists::next_link;
@@ -14,12 +20,6 @@ use logic::kinds::APPLICATION;
 use logic::kinds::LET;
 use logic::kinds::VARIABLE;
 use logic::kinds::is_binder;
-use show_binders::binders::captured;
-use show_binders::binders::nearest;
-use show_binders::binders::partner;
-use show_binders::contexts::image;
-use show_binders::path;
-use show_binders::path::ROOM;
 
 // No difference.
 pub const SAME: usize = 0;

@@ -1,7 +1,7 @@
 -- `contexts::image` is safe and ends: a parent is lower, or the walk up ends.
 use borrow.Author.Needs.{needs}
-use Rattle.show_binders.proofs.contexts.image.Statement.{statement}
-use Rattle.show_binders.proofs.contexts.image.Tie as tie
+use Rattle.show_pairs.proofs.contexts.image.Statement.{statement}
+use Rattle.show_pairs.proofs.contexts.image.Tie as tie
 
 abbrev Inv-loop : tie.InvT-loop
 Inv-loop file b context x c₀ c = Unit {0}

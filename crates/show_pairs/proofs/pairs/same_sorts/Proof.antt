@@ -6,8 +6,8 @@ use lib.ListN.{length}
 use Rattle.bundle.specs.Links.{items}
 use Rattle.bundle.specs.File.{bundleAt}
 use Rattle.bundle.proofs.Walks.{walk-start-le, walk-le, walk-length}
-use Rattle.show_walks.proofs.pairs.same_sorts.Statement.{statement}
-use Rattle.show_walks.proofs.pairs.same_sorts.Tie as tie
+use Rattle.show_pairs.proofs.pairs.same_sorts.Statement.{statement}
+use Rattle.show_pairs.proofs.pairs.same_sorts.Tie as tie
 
 abbrev Inv-loop : tie.InvT-loop
 Inv-loop file b first second i₀ j₀ i j = i ≤ b .links

@@ -1,7 +1,7 @@
 -- `binders::nearest` is safe and ends: it counts the levels down.
 use borrow.Author.Needs.{needs}
-use Rattle.show_binders.proofs.binders.nearest.Statement.{statement}
-use Rattle.show_binders.proofs.binders.nearest.Tie as tie
+use Rattle.show_pairs.proofs.binders.nearest.Statement.{statement}
+use Rattle.show_pairs.proofs.binders.nearest.Tie as tie
 
 abbrev Inv-loop : tie.InvT-loop
 Inv-loop file b path outer levels side x level₀ level = Unit {0}
