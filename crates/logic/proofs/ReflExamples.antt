@@ -10,7 +10,7 @@ use Rattle.logic.specs.Checks.{sectionsFault}
 use Rattle.logic.specs.Contexts.{image, contextsFault}
 use Rattle.logic.specs.declared.Limited.the-variants.{Same, Spent}
 use Rattle.logic.specs.Free.{freeAt}
-use Rattle.logic.specs.ReflWalk.{PairWalk, pairWalkBy, pairWalk, withinBy}
+use Rattle.logic.specs.ReflWalk.{PairWalk, pairWalkBy, pairWalk, withinBy, pairLimit}
 
 abbrev symbol : ℕ → ℕ → Symbol
 symbol r ss = record { result = r; sorts = ss }
@@ -120,8 +120,8 @@ unfolding sectionsFault contextsFault
 doubled-formed = (refl, refl)
 
 pub doubling :
-    (withinBy (freeAt doubled) (image doubled 1) doubled 2 [] 15 4096 ≡ Same 4093)
-    × (withinBy (freeAt doubled) (image doubled 1) doubled 12 [] 25 4096 ≡ Same 1)
-    × (withinBy (freeAt doubled) (image doubled 1) doubled 13 [] 26 4096 ≡ Spent)
+    (withinBy (freeAt doubled) (image doubled 1) doubled 2 [] 15 pairLimit ≡ Same 4093)
+    × (withinBy (freeAt doubled) (image doubled 1) doubled 12 [] 25 pairLimit ≡ Same 1)
+    × (withinBy (freeAt doubled) (image doubled 1) doubled 13 [] 26 pairLimit ≡ Spent)
 unfolding withinBy image freeAt
 doubling = (refl, refl, refl)

@@ -20,17 +20,17 @@ returns c =
     let w = c .before .before in
     let t = w .before .before in
     let f = t .before .before .before .before in (
-      answer-refused _ _ _ (f .fault-of .ensures .0) (t .if1 .taken),
-      area-zeros _ _ _ (f .fault-of .ensures .0) _ _ (t .if1 .taken) (search needs) (w .clear .ensures),
+      answer-refused _ _ _ (f .fault-of .ensures .0 .fault) (t .if1 .taken),
+      area-zeros _ _ _ (f .fault-of .ensures .0 .fault) _ _ (t .if1 .taken) (search needs) (w .clear .ensures),
     )
 
 claim-left-requires : tie.Need-claim-left-requires
-claim-left-requires c κs = omega (arith, header-there _ _ _ (c .before .before .before .before .fault-of .ensures .0) (c .if1 .left))
+claim-left-requires c κs = omega (arith, header-there _ _ _ (c .before .before .before .before .fault-of .ensures .0 .fault) (c .if1 .left))
 
 claim-right-requires : tie.Need-claim-right-requires
 claim-right-requires c κs =
     let e = c .before in
-    header-there _ _ _ (e .before .before .before .before .fault-of .ensures .0) (e .if1 .left)
+    header-there _ _ _ (e .before .before .before .before .fault-of .ensures .0 .fault) (e .if1 .left)
 
 same-length-2 : tie.Need-same-length-2
 same-length-2 c = search needs
@@ -40,8 +40,8 @@ unfolding bundleOf
 returns-2 c =
     let e = c .before .before in
     let f = e .before .before .before .before in (
-      answer-accepted _ _ _ (f .fault-of .ensures .0) (e .if1 .left) _ _ (c .before .claim-left .ensures .0) (c .claim-right .ensures .0),
-      area-free _ _ _ (f .fault-of .ensures .0) (e .if1 .left) _ (f .fault-of .ensures .1 (e .if1 .left)),
+      answer-accepted _ _ _ (f .fault-of .ensures .0 .fault) (e .if1 .left) _ _ _ (c .before .claim-left .ensures .0) (c .claim-right .ensures .0) (f .fault-of .ensures .0 .pairs (e .if1 .left)),
+      area-free _ _ _ (f .fault-of .ensures .0 .fault) (e .if1 .left) _ (f .fault-of .ensures .1 (e .if1 .left)),
     )
 
 pub check-spec : {M : Type 1} → statement M
