@@ -9,6 +9,7 @@ use bundle::lists::first_link;
 use bundle::lists::next_link;
 use bundle::records::link_field;
 use bundle::records::term_field;
+use logic::PAIR_LIMIT;
 use logic::kinds::APPLICATION;
 use logic::kinds::LET;
 use logic::kinds::VARIABLE;
@@ -18,10 +19,8 @@ use show_pairs::pairs::pair_reason;
 use show_pairs::path;
 use show_pairs::path::ROOM;
 
-pub const PAIRS: usize = 4096;
-
 // A pair is opened, its parts are taken and it is left: three turns of the loop for each pair that may be visited are enough.
-const TURNS: usize = 3 * PAIRS + 3;
+const TURNS: usize = 3 * PAIR_LIMIT + 3;
 
 // Where a walk ends: a pair, and why.
 pub struct Difference {
@@ -158,7 +157,7 @@ fn walk(
     let mut turn = 0;
     while turn < TURNS {
         if l != 0 {
-            if visited >= PAIRS {
+            if visited >= PAIR_LIMIT {
                 return ends(l, r, pairs::SPENT, 0);
             }
             visited += 1;

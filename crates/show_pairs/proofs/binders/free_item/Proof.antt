@@ -19,7 +19,8 @@ first-link-requires : tie.Need-first-link-requires Inv-loop μ-loop
 first-link-requires c κs = search needs
 
 loop-holds : tie.Need-loop-holds Inv-loop μ-loop
-loop-holds c = walk-start-le (c .before .before .before .args .file .now) (c .before .before .before .args .b) (c .before .before .before .args .list) (c .first-link .result)
+loop-holds c = walk-start-le (c .before .before .before .args .file .now) (c .before .before .before .args .b)
+    (c .before .before .before .args .list) (c .first-link .result)
     (c .first-link .ensures)
 
 link-field-requires : tie.Need-link-field-requires Inv-loop μ-loop

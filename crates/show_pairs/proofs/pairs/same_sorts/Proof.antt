@@ -22,7 +22,8 @@ first-link-requires-2 : tie.Need-first-link-requires-2 Inv-loop μ-loop
 first-link-requires-2 c κs = search needs
 
 loop-holds : tie.Need-loop-holds Inv-loop μ-loop
-loop-holds c = walk-start-le (c .before .before .before .args .file .now) (c .before .before .before .args .b) (c .before .before .before .args .first) (c .before .first-link .result)
+loop-holds c = walk-start-le (c .before .before .before .args .file .now) (c .before .before .before .args .b)
+    (c .before .before .before .args .first) (c .before .first-link .result)
     (c .before .first-link .ensures)
 
 returns : tie.Need-returns Inv-loop μ-loop
