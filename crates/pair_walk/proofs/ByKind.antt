@@ -16,11 +16,11 @@ use borrow.Author.Tests.{ne-eqb}
 use Rattle.bundle.specs.declared.Bundle.{Bundle as Counts}
 use Rattle.bundle.specs.Bundle.{Bundle, termOf}
 use Rattle.bundle.specs.Links.{items, startsAt}
-use Rattle.logic.specs.Terms.{Binder, forAll, exists, Kind, kindOf, binds, isBinder, variable, application, binder, letting, other, numberOf}
+use Rattle.logic.specs.Terms.{Kind, kindOf, binds, isBinder, variable, application, binder, letting, other}
 use Rattle.logic.specs.ReflWalk.{sortsMeet, allSortsMeet, binderMeets, letMeets}
 use Rattle.logic.proofs.Tests.{and-left, and-right}
 use Rattle.logic.proofs.TermKinds.{kind-number}
-use Rattle.pair_walk.specs.Agenda.{Frame, pending, hasBody, boundAs, bodyAs, startAs, openedAs, closes, opened, MetAs}
+use Rattle.pair_walk.specs.Agenda.{Frame, pending, hasBody, boundAs, bodyAs, openedAs, closes, opened, MetAs}
 
 not-other {ℓ} : {A : Type ℓ} → _≡_ {A = ℕ} 0 1 → A
 not-other e = absurd (omega arith)

@@ -7,12 +7,10 @@
 --     closed-is, closed-off, bodies-are     both lists have ended: nothing more, or the bodies
 --     leaves-crossed, leaves-finish  variables crossed
 --     finish-none                    nothing is left
-use mathlib.Core.Path.{_≡_, refl, sym, ap, ap₂, _∙_, fun-ext}
+use mathlib.Core.Path.{_≡_, refl, sym, ap, _∙_, fun-ext}
 use mathlib.Core.Bool.{Bool, true, false, cond, _&&_, false≢true}
 use mathlib.Core.List.{List, [], _∷_}
-use Prim.Native.Nat.{ℕ, zero, suc, _+_, _≤_, _<_}
-use native.Mathlib.Omega.{arith}
-use lib.ListN.{length}
+use Prim.Native.Nat.{ℕ, suc, _≤_}
 use lib.Dec.{eqb, ltb}
 use borrow.Author.Tests.{eqb-true}
 use Rattle.bundle.specs.declared.Bundle.{Bundle as Counts}
@@ -28,7 +26,8 @@ use Rattle.logic.specs.ReflWalk.{Crossed, crossAll, letCrossed, goOn, listsWith
 use Rattle.logic.proofs.ReflWalk.{within-below}
 use Rattle.logic.proofs.Tests.{and-left, and-right}
 use Rattle.crossings.specs.Pairs.{meetsAs, meetsBy}
-use Rattle.pair_walk.specs.Agenda.{Frame, pending, leave, frames, crossedBy, hasBody, boundAs, bodyAs, startAs, openedAs, closes, opened, leaves, under, closing, finish}
+use Rattle.pair_walk.specs.Agenda.{Frame, pending, frames, crossedBy, hasBody, boundAs, bodyAs, openedAs, closes, opened, leaves}
+use Rattle.pair_walk.specs.Agenda.{under, closing, finish}
 
 pub go-on-on : (a : Limited) (f g : ℕ → Limited) → goOn (goOn a f) g ≡ goOn a (λ n. goOn (f n) g)
 unfolding goOn
@@ -144,7 +143,8 @@ module _ (free : ℕ → ℕ → Bool) (image : ℕ → Image) (b : Bundle) wher
         let both = and-left (eqb k 2 && eqb u 0) (eqb v 0) e in
         let two : k ≡ 2 = eqb-true k 2 (and-left (eqb k 2) (eqb u 0) both) in
         let none : hasBody (kindOf k) ≡ false = rw two in
-        fun-ext (λ m. closed-is l r u v m fs (eqb-true u 0 (and-right (eqb k 2) (eqb u 0) both)) (eqb-true v 0 (and-right (eqb k 2 && eqb u 0) (eqb v 0) e)) none)
+        fun-ext (λ m. closed-is l r u v m fs (eqb-true u 0 (and-right (eqb k 2) (eqb u 0) both)) (eqb-true v 0 (and-right (eqb k 2 && eqb u 0) (eqb v 0) e))
+        none)
 
     opened-off : (l r : ℕ) (fs : List Frame) → closes (termOf b l .kind) (startsAt (c .links) (termOf b l .b)) (startsAt (c .links) (termOf b r .b)) ≡ true
         → finish free image b (openedAs c b (kindOf (termOf b l .kind)) l r fs) ≡ finish free image b fs
@@ -173,7 +173,8 @@ module _ (free : ℕ → ℕ → Bool) (image : ℕ → Image) (b : Bundle) wher
     pub bodies-are : (l r i j n : ℕ) (fs : List Frame) → i ≡ 0 → j ≡ 0 → hasBody (kindOf (termOf b l .kind)) ≡ true
         → finish free image b (pending l r i j ∷ fs) n
         ≡ goOn (under free image b l (bodyAs b (kindOf (termOf b l .kind)) l)
-        (crossAll (boundAs b (kindOf (termOf b l .kind)) l) (boundAs b (kindOf (termOf b l .kind)) r) (crossedBy fs)) (bodyAs b (kindOf (termOf b l .kind)) r) n)
+        (crossAll (boundAs b (kindOf (termOf b l .kind)) l) (boundAs b (kindOf (termOf b l .kind)) r) (crossedBy fs)) (bodyAs b (kindOf (termOf b l .kind))
+        r) n)
         (finish free image b fs)
     unfolding finish listsWithin goOn closing
     bodies-are l r i j n fs ei ej e = rw (walk-nil z i ei, walk-nil z j ej, e)

@@ -7,8 +7,8 @@
 --     frame-pending, frame-leave      a frame whose first word is not 0, and one whose first word is
 --     place-fits, other-fits, crossing-more     a pair of variables crossed
 --     turn-none, turn-lower, turn-other, turn-at     the next pair, by the code's tests
-use mathlib.Core.Path.{_≡_, refl, sym, ap, ap₂, _∙_}
-use mathlib.Core.Bool.{Bool, true, false, cond}
+use mathlib.Core.Path.{_≡_, refl, ap, ap₂, _∙_}
+use mathlib.Core.Bool.{Bool, cond}
 use mathlib.Core.List.{List, [], _∷_}
 use Prim.Native.Nat.{ℕ, zero, suc, _+_, _*_, _-_, _≤_, _<_}
 use native.Mathlib.Omega.{arith}
@@ -20,7 +20,7 @@ use Rattle.logic.specs.ReflWalk.{Crossed, lefts, rights}
 use Rattle.crossings.specs.Places.{stamp, Places}
 use Rattle.crossings.proofs.Stamps.{stamp-le, lefts-length, rights-length}
 use Rattle.pair_walk.specs.declared.Turn.{Turn}
-use Rattle.pair_walk.specs.Agenda.{Frame, pending, leave, frameOf, frameAt, frames, crossedBy, closes, turnTo, Crossing}
+use Rattle.pair_walk.specs.Agenda.{Frame, pending, leave, frameOf, frames, crossedBy, closes, turnTo, Crossing}
 
 pub frame-pending : (l r i j e : ℕ) → 1 ≤ l → frameOf l r i j e ≡ pending l r i j
 unfolding frameOf

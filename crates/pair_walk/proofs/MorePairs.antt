@@ -7,7 +7,6 @@ use Prim.Native.Nat.{ℕ, _+_, _-_, _≤_}
 use native.Mathlib.Omega.{arith}
 use Rattle.bundle.specs.Bundle.{Bundle}
 use Rattle.logic.specs.declared.Image.{Image}
-use Rattle.logic.specs.declared.Limited.{Limited}
 use Rattle.logic.specs.declared.Limited.the-variants.{Same, Different}
 use Rattle.logic.specs.ReflWalk.{Crossed, PairWalk, pairWalkBy, ended, withinBy, limit}
 use Rattle.logic.proofs.ReflWalk.{limit-fits, limit-same, limit-different, pair-walk-limited}

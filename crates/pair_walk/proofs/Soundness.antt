@@ -6,13 +6,13 @@
 --     opened-sound, leaves-sound     a pair that has met, and variables crossed
 --     held-opened, held-left, held-closed, held-taken, held-bodies, held-same     the same of the arrays
 --     turn-held                  what the next pair is to a walk
-use mathlib.Core.Path.{_≡_, refl, sym, ap, ap₂, subst, _∙_}
+use mathlib.Core.Path.{_≡_, refl, sym, ap, _∙_}
 use mathlib.Core.Bool.{Bool, true, false, cond, _&&_, false≢true}
 use mathlib.Core.List.{List, [], _∷_}
-use Prim.Native.Nat.{ℕ, zero, suc, _+_, _*_, _-_, _≤_, _<_}
+use Prim.Native.Nat.{ℕ, zero, suc, _+_, _-_, _≤_, _<_}
 use native.Mathlib.Omega.{arith}
 use native.Mathlib.Decide.{decLe}
-use lib.ListN.{length, getD, List·getD-eq-default}
+use lib.ListN.{length, List·getD-eq-default}
 use lib.Dec.{eqb, ltb}
 use borrow.Author.Tests.{eqb-true}
 use Rattle.bundle.specs.declared.Bundle.{Bundle as Counts}
@@ -23,19 +23,20 @@ use Rattle.bundle.proofs.Fields.{Sized}
 use Rattle.bundle.proofs.BundleWalks.{walk-start, walk-start-le, walk-le, walk-length, walk-nil}
 use Rattle.logic.specs.declared.Image.{Image}
 use Rattle.logic.specs.declared.Limited.{Limited}
-use Rattle.logic.specs.declared.Limited.the-variants.{Same, Different, Spent}
+use Rattle.logic.specs.declared.Limited.the-variants.{Different}
 use Rattle.logic.specs.Lists.{All, Number}
 use Rattle.logic.specs.Terms.{Kind, kindOf, variable, application, binder, letting, other}
-use Rattle.logic.specs.ReflWalk.{Crossed, lefts, rights, crossAll, sortsMeet, allSortsMeet, applicationMeets, binderMeets, letMeets, goOn, noneWithin, withinBy}
+use Rattle.logic.specs.ReflWalk.{Crossed, lefts, rights, sortsMeet, allSortsMeet, applicationMeets, binderMeets, letMeets, goOn, noneWithin, withinBy}
 use Rattle.logic.proofs.Tests.{and-left, and-right, numbers-of}
 use Rattle.logic.proofs.TermKinds.{kind-number}
 use Rattle.crossings.specs.Places.{stamp, Places}
 use Rattle.crossings.specs.Pairs.{meetsAs, meetsBy}
 use Rattle.pair_walk.specs.declared.Turn.{Turn}
-use Rattle.pair_walk.specs.Agenda.{Frame, pending, leave, frames, crossedBy, hasBody, boundAs, startAs, openedAs, leaves, under, finish, MetAs, PendingHeld, LeaveHeld}
+use Rattle.pair_walk.specs.Agenda.{Frame, pending, leave, frames, crossedBy, boundAs, openedAs, leaves, under, finish, MetAs}
+use Rattle.pair_walk.specs.Agenda.{PendingHeld, LeaveHeld}
 use Rattle.pair_walk.specs.Agenda.{Sound, Crossing, Held, turnTo, TurnHeld}
 use Rattle.pair_walk.proofs.FrameWords.{frames-length}
-use Rattle.pair_walk.proofs.Finishing.{under-spent, leaves-crossed}
+use Rattle.pair_walk.proofs.Finishing.{under-spent}
 
 pub opened-crossed : (c : Counts) (b : Bundle) (k : Kind) (l r : ℕ) (fs : List Frame) → crossedBy (openedAs c b k l r fs) ≡ crossedBy fs
 unfolding openedAs crossedBy
@@ -146,7 +147,8 @@ module _ {b : Bundle} {c : Counts} (z : Sized b c) where
   leaves-sound most left [] ys ps fs e u v s = s
   leaves-sound most left (x ∷ xs) [] ps fs e u v s = s
   leaves-sound most left (x ∷ xs) (y ∷ ys) ps fs e u v s =
-      leaves-sound most left xs ys ((x, y) ∷ ps) (leave x y (stamp (lefts ps) x) (stamp (rights ps) y) ∷ fs) (ap (λ (l : Crossed). (x, y) ∷ l) e) (u .1) (v .1) (
+      leaves-sound most left xs ys ((x, y) ∷ ps) (leave x y (stamp (lefts ps) x) (stamp (rights ps) y) ∷ fs) (ap (λ (l : Crossed). (x, y) ∷ l) e) (u .1) (v
+      .1) (
         record {
           left-known = u .0;
           right-known = v .0;
@@ -281,7 +283,8 @@ module _ {b : Bundle} {c : Counts} (z : Sized b c) where
       bodies-room z′ = let none : length (items b i) ≡ 0 = ap length (walk-nil z i z′) in omega (arith, pending-held .0 .room, frames-length w top)
 
       pub held-bodies : (w′ p′ s′ : List ℕ) (height deep m : ℕ) → length w′ ≡ length w → Crossing (c .variables) n w′ p′ s′ height deep
-          → frames w′ height ≡ leaves (boundAs b (kindOf (termOf b l .kind)) l) (boundAs b (kindOf (termOf b l .kind)) r) (crossedBy (frames w top)) (frames w top)
+          → frames w′ height ≡ leaves (boundAs b (kindOf (termOf b l .kind)) l) (boundAs b (kindOf (termOf b l .kind)) r) (crossedBy (frames w top)) (frames
+          w top)
           → left ≡ suc m → Held c b n most w′ p′ s′ height deep m
       held-bodies w′ p′ s′ height deep m len crossing e′ more =
           let known = bound-known (kindOf (termOf b l .kind)) l r (pending-held .0 .met) in
@@ -289,7 +292,8 @@ module _ {b : Bundle} {c : Counts} (z : Sized b c) where
             long = omega (arith, held .long, len);
             crossing = crossing;
             sound = rw e′
-                (leaves-sound most m (boundAs b (kindOf (termOf b l .kind)) l) (boundAs b (kindOf (termOf b l .kind)) r) (crossedBy (frames w top)) (frames w top) refl
+                (leaves-sound most m (boundAs b (kindOf (termOf b l .kind)) l) (boundAs b (kindOf (termOf b l .kind)) r) (crossedBy (frames w top)) (frames w
+                top) refl
                 (known .0) (known .1) (sound-less most left m (frames w top) (omega arith) (pending-held .1)));
           }
 

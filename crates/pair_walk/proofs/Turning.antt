@@ -6,30 +6,31 @@
 --     bodies-known, bodies-turn           both have ended, and the bodies are next
 use mathlib.Core.Path.{_≡_, refl, sym, ap, subst, _∙_}
 use mathlib.Core.Bool.{Bool, true, false, not, _&&_, _||_, cond, false≢true}
-use mathlib.Core.Logic.{_⊎_, inl, inr, ⊎-elim}
-use mathlib.Core.List.{List, [], _∷_}
-use Prim.Native.Nat.{ℕ, zero, suc, _+_, _*_, _-_, _≤_, _<_}
+use mathlib.Core.Logic.{_⊎_, inl, inr}
+use mathlib.Core.List.{List, _∷_}
+use Prim.Native.Nat.{ℕ, suc, _+_, _*_, _-_, _≤_}
 use native.Mathlib.Omega.{arith}
 use lib.ListN.{length, getD}
 use lib.Dec.{eqb}
 use borrow.Author.Tests.{eqb-true, eqb-false}
 use Rattle.bundle.specs.declared.Bundle.{Bundle as Counts}
-use Rattle.bundle.specs.Bundle.{Bundle, linkOf, termOf}
-use Rattle.bundle.specs.Links.{items, nextOf}
+use Rattle.bundle.specs.Bundle.{linkOf, termOf}
+use Rattle.bundle.specs.Links.{nextOf}
 use Rattle.bundle.specs.File.{bundleAt}
 use Rattle.bundle.proofs.Fields.{sized-at}
 use Rattle.logic.specs.declared.Image.{Image}
-use Rattle.logic.specs.declared.Limited.{Limited}
 use Rattle.logic.specs.declared.Limited.the-variants.{Different}
-use Rattle.logic.specs.Terms.{Kind, kindOf}
-use Rattle.logic.specs.ReflWalk.{Crossed, lefts, rights, crossAll, goOn}
-use Rattle.crossings.specs.Places.{stamp, Places}
+use Rattle.logic.specs.Terms.{kindOf}
+use Rattle.logic.specs.ReflWalk.{crossAll, goOn}
+use Rattle.crossings.specs.Places.{Places}
 use Rattle.pair_walk.specs.declared.Turn.{Turn}
-use Rattle.pair_walk.specs.Agenda.{Frame, pending, leave, frameOf, frames, crossedBy, hasBody, boundAs, bodyAs, leaves, under, finish, MetAs, PendingHeld, LeaveHeld}
+use Rattle.pair_walk.specs.Agenda.{Frame, pending, leave, frameOf, frames, crossedBy, hasBody, boundAs, bodyAs, leaves, under, finish, MetAs}
+use Rattle.pair_walk.specs.Agenda.{PendingHeld, LeaveHeld}
 use Rattle.pair_walk.specs.Agenda.{Crossing, Held, closes, turnTo, TurnHeld}
 use Rattle.pair_walk.proofs.FrameWords.{frame-pending, frame-leave, frames-length, frames-top, crossed-few, place-fits, other-fits}
 use Rattle.pair_walk.proofs.Finishing.{lists-on, left-short, right-short, closed-is, closed-off, bodies-are, leaves-crossed, leaves-finish}
-use Rattle.pair_walk.proofs.Soundness.{left-held, left-placed, held-left, pending-held, pending-crossing, held-closed, held-taken, bodies-room, held-bodies, held-same, turn-held}
+use Rattle.pair_walk.proofs.Soundness.{left-held, left-placed, held-left, pending-held, pending-crossing, held-closed, held-taken, bodies-room}
+use Rattle.pair_walk.proofs.Soundness.{held-bodies, held-same, turn-held}
 
 -- ---- tests of two links
 
@@ -103,7 +104,8 @@ module _ (f : List ℕ) (b : Counts) (n most : ℕ) (w p s : List ℕ) (height d
     pub leave-on : (free : ℕ → ℕ → Bool) (image : ℕ → Image)
         → finish free image (bundleAt f b) (frames w (height - 1)) left ≡ finish free image (bundleAt f b) (frames w height) left
     unfolding finish
-    leave-on free image = sym (ap (λ (t : ℕ). finish free image (bundleAt f b) (frames w t) left) up ∙ ap (λ (fs : List Frame). finish free image (bundleAt f b) fs left) leave-top)
+    leave-on free image = sym (ap (λ (t : ℕ). finish free image (bundleAt f b) (frames w t) left) up ∙ ap (λ (fs : List Frame). finish free image (bundleAt f
+        b) fs left) leave-top)
 
   -- ---- the lists of a pair
 
@@ -124,8 +126,10 @@ module _ (f : List ℕ) (b : Counts) (n most : ℕ) (w p s : List ℕ) (height d
 
     pub take-turn : (w′ : List ℕ) (t : Turn) → (i ≡ 0 → ⊥) × (j ≡ 0 → ⊥) → length w′ ≡ length w
         → t ≡ turnTo l (linkOf (bundleAt f b) i .value) (linkOf (bundleAt f b) j .value)
-        (cond (closes (termOf (bundleAt f b) l .kind) (nextOf (bundleAt f b .links) i) (nextOf (bundleAt f b .links) j)) (height - 1) (suc (height - 1))) deep left
-        → frames w′ (cond (closes (termOf (bundleAt f b) l .kind) (nextOf (bundleAt f b .links) i) (nextOf (bundleAt f b .links) j)) (height - 1) (suc (height - 1)))
+        (cond (closes (termOf (bundleAt f b) l .kind) (nextOf (bundleAt f b .links) i) (nextOf (bundleAt f b .links) j)) (height - 1) (suc (height - 1)))
+        deep left
+        → frames w′ (cond (closes (termOf (bundleAt f b) l .kind) (nextOf (bundleAt f b .links) i) (nextOf (bundleAt f b .links) j)) (height - 1) (suc
+        (height - 1)))
         ≡ cond (closes (termOf (bundleAt f b) l .kind) (nextOf (bundleAt f b .links) i) (nextOf (bundleAt f b .links) j)) (frames w (height - 1))
         (frameOf (getD w (5 * (height - 1)) 0) (getD w (5 * (height - 1) + 1) 0) (nextOf (bundleAt f b .links) i) (nextOf (bundleAt f b .links) j)
         (getD w (5 * (height - 1) + 4) 0)
@@ -138,7 +142,8 @@ module _ (f : List ℕ) (b : Counts) (n most : ℕ) (w p s : List ℕ) (height d
         go (closes (termOf (bundleAt f b) l .kind) (nextOf (bundleAt f b .links) i) (nextOf (bundleAt f b .links) j)) refl dt e
       where
         on : finish free image (bundleAt f b) (frames w height) left
-            ≡ goOn (under free image (bundleAt f b) l (linkOf (bundleAt f b) i .value) (crossedBy (frames w (height - 1))) (linkOf (bundleAt f b) j .value) left)
+            ≡ goOn (under free image (bundleAt f b) l (linkOf (bundleAt f b) i .value) (crossedBy (frames w (height - 1))) (linkOf (bundleAt f b) j .value)
+            left)
             (finish free image (bundleAt f b) (pending l r (nextOf (bundleAt f b .links) i) (nextOf (bundleAt f b .links) j) ∷ frames w (height - 1)))
         on =
             whole-is free image
@@ -154,7 +159,8 @@ module _ (f : List ℕ) (b : Counts) (n most : ℕ) (w p s : List ℕ) (height d
             ∷ frames w (height - 1))
             → TurnHeld free image b (bundleAt f b) n most (finish free image (bundleAt f b) (frames w height) left) w′ p s left t
         go true closed dt e =
-            let off = closed-off free image (bundleAt f b) (sized-at f b) l r (nextOf (bundleAt f b .links) i) (nextOf (bundleAt f b .links) j) (frames w (height - 1)) closed in
+            let off = closed-off free image (bundleAt f b) (sized-at f b) l r (nextOf (bundleAt f b .links) i) (nextOf (bundleAt f b .links) j) (frames w
+            (height - 1)) closed in
             rw dt
             (turn-held free image b (bundleAt f b) n most (finish free image (bundleAt f b) (frames w height) left) w′ p s l (linkOf (bundleAt f b) i .value)
             (linkOf (bundleAt f b) j .value) (height - 1) deep left (rw (e, ← off) on)

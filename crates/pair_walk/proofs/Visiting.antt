@@ -7,7 +7,7 @@
 use mathlib.Core.Path.{_≡_, refl, sym, ap, subst, _∙_}
 use mathlib.Core.Bool.{Bool, true, false, cond}
 use mathlib.Core.List.{List, []}
-use Prim.Native.Nat.{ℕ, zero, suc, _+_, _*_, _-_, _≤_, _<_}
+use Prim.Native.Nat.{ℕ, suc, _+_, _*_, _-_, _≤_, _<_}
 use native.Mathlib.Omega.{arith}
 use lib.ListN.{length}
 use Rattle.bundle.specs.declared.Bundle.{Bundle as Counts}
@@ -24,11 +24,12 @@ use Rattle.logic.specs.ReflWalk.{goOn, withinBy}
 use Rattle.crossings.specs.Places.{Places}
 use Rattle.crossings.specs.Pairs.{meetsBy}
 use Rattle.pair_walk.specs.declared.Turn.{Turn}
-use Rattle.pair_walk.specs.Agenda.{Frame, frames, crossedBy, openedAs, closes, opened, finish, Sound, Crossing, Held, TurnHeld}
+use Rattle.pair_walk.specs.Agenda.{Frame, frames, crossedBy, openedAs, closes, opened, finish, Sound, Held, TurnHeld}
 use Rattle.pair_walk.proofs.Finishing.{differs-here, opened-on}
 use Rattle.pair_walk.proofs.Soundness.{met-known, held-opened, held-same}
 
-pub record Visiting (free : ℕ → ℕ → Bool) (image : ℕ → Image) (f : List ℕ) (b : Counts) (n most : ℕ) (whole : Limited) (w p s : List ℕ) (l r h depth left : ℕ) : Type 0 where
+pub record Visiting (free : ℕ → ℕ → Bool) (image : ℕ → Image) (f : List ℕ) (b : Counts) (n most : ℕ) (whole : Limited) (w p s : List ℕ) (l r h depth left :
+    ℕ) : Type 0 where
   pub is : whole ≡ goOn (withinBy free image (bundleAt f b) l (crossedBy (frames w h)) r (suc left)) (finish free image (bundleAt f b) (frames w h))
   pub held : Held b (bundleAt f b) n most w p s h depth left
   pub room : h + left < most
@@ -46,7 +47,8 @@ module _ (free : ℕ → ℕ → Bool) (image : ℕ → Image) (f : List ℕ) (b
   visit-start w p s l r placed long some =
       let one : suc (most - 1) ≡ most = omega arith in
       record {
-        is = sym (ap (λ (m : ℕ). goOn (withinBy free image (bundleAt f b) l [] r m) (λ k. Same k)) one ∙ go-on-same (withinBy free image (bundleAt f b) l [] r most));
+        is = sym (ap (λ (m : ℕ). goOn (withinBy free image (bundleAt f b) l [] r m) (λ k. Same k)) one ∙ go-on-same (withinBy free image (bundleAt f b) l []
+            r most));
         held = record { long = long; crossing = record { placed = placed; deep = refl }; sound = tt };
         room = omega arith;
       }

@@ -1,7 +1,7 @@
 // The walk of whole-term REFL: pairs of terms, left to right, parent before child, to the first difference, as one loop with an agenda of its own.
 ghost use mathlib.Core.Path.{_≡_};
 ghost use mathlib.Core.List.{[]};
-ghost use Prim.Native.Nat.{ℕ, _+_, _*_, _≤_, _<_};
+ghost use Prim.Native.Nat.{_+_, _*_, _≤_};
 ghost use lib.ListN.{length};
 ghost use Rattle.bundle.specs.Limits.{setWords};
 ghost use Rattle.bundle.specs.File.{Whole, bundleAt};

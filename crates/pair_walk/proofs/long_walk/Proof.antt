@@ -18,8 +18,20 @@ slice-aggregate-walk-3 c = search needs
 
 walk-requires : tie.Need-walk-requires
 walk-requires c κs = let a = c .before .before .before .before .before .before .args in
-    let h = c .before .before .before .before .before .before .pre in
-    (h .0, h .1, h .2, h .3, places-none (a .b .variables) (a .n) 512 4 (omega (arith, h .0 .within .variables)) (h .4), omega (arith, length-replicate {A = ℕ} 20480 0), omega arith, omega arith)
+    let h = c .before .before .before .before .before .before .pre in (
+      h .0,
+      h .1,
+      h .2,
+      h .3,
+      places-none (a .b .variables) (a .n) 512 4 (omega (arith, h .0 .within .variables)) (h .4),
+      omega (
+        arith,
+        length-replicate {A =
+            ℕ} 20480 0,
+      ),
+      omega arith,
+      omega arith,
+    )
 
 returns : tie.Need-returns
 returns c = search needs

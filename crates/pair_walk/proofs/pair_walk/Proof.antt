@@ -1,6 +1,6 @@
 -- `pair_walk` meets its contract: a walk that ends within few pairs ends the same within more.
 use native.Mathlib.Omega.{arith}
-use mathlib.Core.Path.{_≡_, sym, _∙_}
+use mathlib.Core.Path.{sym, _∙_}
 use mathlib.Core.List.{[]}
 use Rattle.bundle.specs.File.{bundleAt}
 use Rattle.images.specs.ContextRows.{imageAt}
@@ -24,7 +24,8 @@ add-t14 : tie.Need-add-t14
 add-t14 c = let a = c .before .before .before .before .before .before .before .args in
     omega (
       arith,
-      same-few (freeIn (a .b .terms) (a .area .now) (a .n)) (imageAt (a .b .variables) (a .images .now) (a .context)) (bundleAt (a .file .now) (a .b)) (a .left) [] (a .right)
+      same-few (freeIn (a .b .terms) (a .area .now) (a .n)) (imageAt (a .b .variables) (a .images .now) (a .context)) (bundleAt (a .file .now) (a .b)) (a
+          .left) [] (a .right)
           fewPairs (c .before .walked .given .0 .0) (sym (c .before .walked .given .1) ∙ c .before .before .before .short-walk .ensures),
     )
 
@@ -38,7 +39,8 @@ add-t16 : tie.Need-add-t16
 add-t16 c = let a = c .before .before .before .before .before .before .before .args in
     omega (
       arith,
-      different-few (freeIn (a .b .terms) (a .area .now) (a .n)) (imageAt (a .b .variables) (a .images .now) (a .context)) (bundleAt (a .file .now) (a .b)) (a .left) [] (a .right)
+      different-few (freeIn (a .b .terms) (a .area .now) (a .n)) (imageAt (a .b .variables) (a .images .now) (a .context)) (bundleAt (a .file .now) (a .b))
+          (a .left) [] (a .right)
           fewPairs (c .before .walked2 .given .0 .0) (sym (c .before .walked2 .given .1) ∙ c .before .before .before .short-walk .ensures),
     )
 
@@ -50,12 +52,14 @@ long-walk-requires c κs = search needs
 
 returns : tie.Need-returns
 returns c = let a = c .before .before .before .before .before .before .before .args in
-    more-same (freeIn (a .b .terms) (a .area .now) (a .n)) (imageAt (a .b .variables) (a .images .now) (a .context)) (bundleAt (a .file .now) (a .b)) (a .left) [] (a .right)
+    more-same (freeIn (a .b .terms) (a .area .now) (a .n)) (imageAt (a .b .variables) (a .images .now) (a .context)) (bundleAt (a .file .now) (a .b)) (a
+    .left) [] (a .right)
     fewPairs (c .before .walked .given .0 .0) (sym (c .before .walked .given .1) ∙ c .before .before .before .short-walk .ensures) 3968
 
 returns-2 : tie.Need-returns-2
 returns-2 c = let a = c .before .before .before .before .before .before .before .args in
-    more-different (freeIn (a .b .terms) (a .area .now) (a .n)) (imageAt (a .b .variables) (a .images .now) (a .context)) (bundleAt (a .file .now) (a .b)) (a .left) [] (a .right)
+    more-different (freeIn (a .b .terms) (a .area .now) (a .n)) (imageAt (a .b .variables) (a .images .now) (a .context)) (bundleAt (a .file .now) (a .b)) (a
+    .left) [] (a .right)
     fewPairs (c .before .walked2 .given .0 .0) (sym (c .before .walked2 .given .1) ∙ c .before .before .before .short-walk .ensures) 3968
 
 returns-3 : tie.Need-returns-3

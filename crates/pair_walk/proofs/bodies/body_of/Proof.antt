@@ -14,14 +14,16 @@ term-field-requires c κs = search needs
 
 returns : tie.Need-returns
 returns c = let a = c .before .before .before .before .args in
-    c .term-field .ensures ∙ sym (body-binder (bundleAt (a .file .now) (a .b)) (a .kind) (sym (c .before .before .is-binder .ensures) ∙ c .before .if1 .taken) (a .t))
+    c .term-field .ensures ∙ sym (body-binder (bundleAt (a .file .now) (a .b)) (a .kind) (sym (c .before .before .is-binder .ensures) ∙ c .before .if1
+    .taken) (a .t))
 
 term-field-requires-2 : tie.Need-term-field-requires-2
 term-field-requires-2 c κs = search needs
 
 returns-2 : tie.Need-returns-2
 returns-2 c = let a = c .before .before .before .before .args in
-    c .term-field2 .ensures ∙ sym (body-let (bundleAt (a .file .now) (a .b)) (a .kind) (c .before .before .before .before .pre .1) (sym (c .before .before .is-binder .ensures) ∙ c .before .if1 .left) (a .t))
+    c .term-field2 .ensures ∙ sym (body-let (bundleAt (a .file .now) (a .b)) (a .kind) (c .before .before .before .before .pre .1) (sym (c .before .before
+    .is-binder .ensures) ∙ c .before .if1 .left) (a .t))
 
 pub body-of-spec : {M : Type 1} → statement M
 body-of-spec =

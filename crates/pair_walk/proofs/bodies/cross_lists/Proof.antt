@@ -2,7 +2,6 @@
 -- is left of the first list.
 use native.Mathlib.Omega.{arith}
 use borrow.Author.Needs.{needs}
-use Prim.Native.Nat.{_+_, _<_}
 use lib.ListN.{length}
 use Rattle.bundle.specs.Links.{items}
 use Rattle.bundle.specs.File.{bundleAt}
@@ -57,7 +56,8 @@ cross-pair-requires c κs = let a = c .before .before .before .before .before .b
     let l = c .before .before .before .before .before .before .before .loop in
     let h = c .before .before .before .before .before .before .before .before .before .before .before .before .before .before .pre in
     let here = along-here (a .file .now) (a .b) (a .n) (a .places .now) (a .bound .now) (a .agenda .now) (a .h) (a .depth) (a .first) (a .second) (l .inv)
-    (c .before .before .before .before .before .before .loop-test .taken) (c .before .before .before .before .before .if1 .left) (c .before .before .before .before .link-field .ensures) (c .before .before .before .link-field2 .ensures) in (
+    (c .before .before .before .before .before .before .loop-test .taken) (c .before .before .before .before .before .if1 .left) (c .before .before .before
+    .before .link-field .ensures) (c .before .before .before .link-field2 .ensures) in (
       l .inv .crossing,
       omega (arith, here .1, h .2, l .inv .same-agenda),
       here .0 .0,
@@ -68,36 +68,67 @@ cross-pair-requires c κs = let a = c .before .before .before .before .before .b
     )
 
 add-height : tie.Need-add-height Inv-loop μ-loop
-add-height c = let a = c .before .before .before .before .before .before .before .before .before .before .before .before .before .before .before .before .before .before .before .before .before .args in
+add-height c = let a = c .before .before .before .before .before .before .before .before .before .before .before .before .before .before .before .before
+    .before .before .before .before .before .args in
     let l = c .before .before .before .before .before .before .before .before .before .before .before .before .before .before .loop in
     let here = along-here (a .file .now) (a .b) (a .n) (a .places .now) (a .bound .now) (a .agenda .now) (a .h) (a .depth) (a .first) (a .second) (l .inv)
-    (c .before .before .before .before .before .before .before .before .before .before .before .before .before .loop-test .taken) (c .before .before .before .before .before .before .before .before .before .before .before .before .if1 .left) (c .before .before .before .before .before .before .before .before .before .before .before .link-field .ensures) (c .before .before .before .before .before .before .before .before .before .before .link-field2 .ensures) in
-    omega (arith, here .1, c .before .before .before .before .before .before .before .before .before .before .before .before .before .before .before .before .before .before .before .before .before .pre .2, c .before .before .before .before .before .before .before .before .before .before .before .before .before .before .before .before .before .before .before .before .before .good .1 .1 .1 .1 .1 .0)
+    (c .before .before .before .before .before .before .before .before .before .before .before .before .before .loop-test .taken) (c .before .before .before
+    .before .before .before .before .before .before .before .before .before .if1 .left) (c .before .before .before .before .before .before .before
+    .before .before .before .before .link-field .ensures) (c .before .before .before .before .before .before .before .before .before .before .link-field2
+    .ensures) in
+    omega (
+      arith,
+      here .1,
+      c .before .before .before .before .before .before .before .before .before .before .before .before .before .before .before .before
+          .before .before .before .before .before .pre .2,
+      c .before .before .before .before .before .before .before .before .before .before .before .before
+          .before .before .before .before .before .before .before .before .before .good .1 .1 .1 .1 .1 .0,
+    )
 
 add-deep : tie.Need-add-deep Inv-loop μ-loop
-add-deep c = let a = c .before .before .before .before .before .before .before .before .before .before .before .before .before .before .before .before .before .before .before .before .before .args in
+add-deep c = let a = c .before .before .before .before .before .before .before .before .before .before .before .before .before .before .before .before
+    .before .before .before .before .before .args in
     let l = c .before .before .before .before .before .before .before .before .before .before .before .before .before .before .loop in
     let here = along-here (a .file .now) (a .b) (a .n) (a .places .now) (a .bound .now) (a .agenda .now) (a .h) (a .depth) (a .first) (a .second) (l .inv)
-    (c .before .before .before .before .before .before .before .before .before .before .before .before .before .loop-test .taken) (c .before .before .before .before .before .before .before .before .before .before .before .before .if1 .left) (c .before .before .before .before .before .before .before .before .before .before .before .link-field .ensures) (c .before .before .before .before .before .before .before .before .before .before .link-field2 .ensures) in
-    omega (arith, here .2, c .before .before .before .before .before .before .before .before .before .before .before .before .before .before .before .before .before .before .before .before .before .pre .4)
+    (c .before .before .before .before .before .before .before .before .before .before .before .before .before .loop-test .taken) (c .before .before .before
+    .before .before .before .before .before .before .before .before .before .if1 .left) (c .before .before .before .before .before .before .before
+    .before .before .before .before .link-field .ensures) (c .before .before .before .before .before .before .before .before .before .before .link-field2
+    .ensures) in
+    omega (
+      arith,
+      here .2,
+      c .before .before .before .before .before .before .before .before .before .before .before .before .before .before .before .before
+          .before .before .before .before .before .pre .4,
+    )
 
 next-link-requires : tie.Need-next-link-requires Inv-loop μ-loop
-next-link-requires c κs = c .before .before .before .before .before .before .before .before .before .before .before .before .before .before .before .before .before .before .before .before .before .pre .0
+next-link-requires c κs = c .before .before .before .before .before .before .before .before .before .before .before .before .before .before .before .before
+    .before .before .before .before .before .pre .0
 
 next-link-requires-2 : tie.Need-next-link-requires-2 Inv-loop μ-loop
-next-link-requires-2 c κs = c .before .before .before .before .before .before .before .before .before .before .before .before .before .before .before .before .before .before .before .before .before .before .pre .0
+next-link-requires-2 c κs = c .before .before .before .before .before .before .before .before .before .before .before .before .before .before .before .before
+    .before .before .before .before .before .before .pre .0
 
 loop-less : tie.Need-loop-less Inv-loop μ-loop
-loop-less c = let a = c .before .before .before .before .before .before .before .before .before .before .before .before .before .before .before .before .before .before .before .before .before .before .before .args in
+loop-less c = let a = c .before .before .before .before .before .before .before .before .before .before .before .before .before .before .before .before
+    .before .before .before .before .before .before .before .args in
     let l = c .before .before .before .before .before .before .before .before .before .before .before .before .before .before .before .before .loop in
-    omega (arith, walk-length (a .file .now) (a .b) (l .i) (c .before .next-link .result) (c .before .before .before .before .before .before .before .before .before .before .before .before .before .before .before .loop-test .taken) (l .inv .left-link) (c .before .next-link .ensures))
+    omega (
+      arith,
+      walk-length (a .file .now) (a .b) (l .i) (c .before .next-link .result) (c .before .before .before .before .before .before .before .before
+          .before .before .before .before .before .before .before .loop-test .taken) (l .inv .left-link) (c .before .next-link .ensures),
+    )
 
 loop-again : tie.Need-loop-again Inv-loop μ-loop
-loop-again c = let a = c .before .before .before .before .before .before .before .before .before .before .before .before .before .before .before .before .before .before .before .before .before .before .before .args in
+loop-again c = let a = c .before .before .before .before .before .before .before .before .before .before .before .before .before .before .before .before
+    .before .before .before .before .before .before .before .args in
     let l = c .before .before .before .before .before .before .before .before .before .before .before .before .before .before .before .before .loop in
     let r = c .before .before .before .before .before .before .before .before .cross-pair in
     along-on (a .file .now) (a .b) (a .n) (a .places .now) (a .bound .now) (a .agenda .now) (a .h) (a .depth) (a .first) (a .second) (l .inv)
-    (c .before .before .before .before .before .before .before .before .before .before .before .before .before .before .before .loop-test .taken) (c .before .before .before .before .before .before .before .before .before .before .before .before .before .before .if1 .left) (c .before .before .before .before .before .before .before .before .before .before .before .before .before .link-field .ensures) (c .before .before .before .before .before .before .before .before .before .before .before .before .link-field2 .ensures) (c .before .next-link .ensures) (c .next-link2 .ensures)
+    (c .before .before .before .before .before .before .before .before .before .before .before .before .before .before .before .loop-test .taken) (c .before
+    .before .before .before .before .before .before .before .before .before .before .before .before .before .if1 .left) (c .before .before .before
+    .before .before .before .before .before .before .before .before .before .before .link-field .ensures) (c .before .before .before .before .before
+    .before .before .before .before .before .before .before .link-field2 .ensures) (c .before .next-link .ensures) (c .next-link2 .ensures)
     (r .kept .1 .1 .0) (r .kept .1 .1 .1 .0) (r .ensures .0) (r .ensures .1) (r .ensures .2)
 
 same-length-4 : tie.Need-same-length-4 Inv-loop μ-loop

@@ -1,7 +1,6 @@
 -- `bodies::enter` meets its contract, by the kind.
 use native.Mathlib.Omega.{arith}
 use mathlib.Core.Path.{_≡_, sym, ap, _∙_}
-use mathlib.Core.List.{[], _∷_}
 use lib.ListN.{length}
 use Rattle.bundle.specs.Bundle.{termOf}
 use Rattle.bundle.specs.Links.{items}
@@ -31,7 +30,8 @@ cross-pair-requires c κs = let a = c .before .before .before .before .before .b
     let bundle = bundleAt (a .file .now) (a .b) in
     let binds = sym (c .before .before .before .before .is-binder .ensures) ∙ c .before .before .before .if1 .taken in
     let one = ap length (bound-binder bundle (a .kind) binds (a .l)) in
-    let known = sorts-known (sized-at (a .file .now) (a .b)) (termOf bundle (a .l) .a) (termOf bundle (a .r) .a) (met-binder bundle (a .kind) binds (a .l) (a .r) (h .3)) in (
+    let known = sorts-known (sized-at (a .file .now) (a .b)) (termOf bundle (a .l) .a) (termOf bundle (a .r) .a) (met-binder bundle (a .kind) binds (a .l) (a
+    .r) (h .3)) in (
       h .1,
       omega (arith, h .4, one),
       rw (c .before .before .before .before .before .before .term-field .ensures) (known .0),
@@ -42,10 +42,19 @@ cross-pair-requires c κs = let a = c .before .before .before .before .before .b
     )
 
 add-result : tie.Need-add-result
-add-result c = let a = c .before .before .before .before .before .before .before .before .before .before .before .before .before .before .before .before .before .before .args in
-    let h = c .before .before .before .before .before .before .before .before .before .before .before .before .before .before .before .before .before .before .pre in
-    let one = ap length (bound-binder (bundleAt (a .file .now) (a .b)) (a .kind) (sym (c .before .before .before .before .before .before .before .before .before .before .before .is-binder .ensures) ∙ c .before .before .before .before .before .before .before .before .before .before .if1 .taken) (a .l)) in
-    omega (arith, h .4, one, c .before .before .before .before .before .before .before .before .before .before .before .before .before .before .before .before .before .before .good .1 .1 .1 .1 .1 .0)
+add-result c = let a = c .before .before .before .before .before .before .before .before .before .before .before .before .before .before .before .before
+    .before .before .args in
+    let h = c .before .before .before .before .before .before .before .before .before .before .before .before .before .before .before .before .before .before
+    .pre in
+    let one = ap length (bound-binder (bundleAt (a .file .now) (a .b)) (a .kind) (sym (c .before .before .before .before .before .before .before .before
+    .before .before .before .is-binder .ensures) ∙ c .before .before .before .before .before .before .before .before .before .before .if1 .taken) (a .l)) in
+    omega (
+      arith,
+      h .4,
+      one,
+      c .before .before .before .before .before .before .before .before .before .before .before .before .before .before .before
+          .before .before .before .good .1 .1 .1 .1 .1 .0,
+    )
 
 same-length : tie.Need-same-length
 same-length c = search needs
@@ -57,13 +66,16 @@ same-length-3 : tie.Need-same-length-3
 same-length-3 c = search needs
 
 returns : tie.Need-returns
-returns c = let a = c .before .before .before .before .before .before .before .before .before .before .before .before .before .before .before .before .before .before .args in
+returns c = let a = c .before .before .before .before .before .before .before .before .before .before .before .before .before .before .before .before .before
+    .before .args in
     let bundle = bundleAt (a .file .now) (a .b) in
-    let binds = sym (c .before .before .before .before .before .before .before .before .before .before .before .is-binder .ensures) ∙ c .before .before .before .before .before .before .before .before .before .before .if1 .taken in
+    let binds = sym (c .before .before .before .before .before .before .before .before .before .before .before .is-binder .ensures) ∙ c .before .before
+    .before .before .before .before .before .before .before .before .if1 .taken in
     let x = c .before .before .before .before .before .before .before .before .before .before .before .before .before .term-field in
     let y = c .before .before .before .before .before .before .before .before .before .before .before .before .term-field2 in
     let r = c .before .before .before .before .before .before .cross-pair in
-    let e = entered-one (a .b .variables) (a .n) (a .agenda .now) (r .last .1 .1 .1 .1 .0) (r .last .1 .1 .0) (r .last .1 .1 .1 .0) (a .h) (a .depth) (x .result)
+    let e = entered-one (a .b .variables) (a .n) (a .agenda .now) (r .last .1 .1 .1 .1 .0) (r .last .1 .1 .0) (r .last .1 .1 .1 .0) (a .h) (a .depth) (x
+    .result)
     (y .result) (boundAs bundle (kindOf (a .kind)) (a .l)) (boundAs bundle (kindOf (a .kind)) (a .r))
     (bound-binder bundle (a .kind) binds (a .l) ∙ rw (← x .ensures)) (bound-binder bundle (a .kind) binds (a .r) ∙ rw (← y .ensures)) (r .ensures .1)
     (r .ensures .2) in
@@ -97,10 +109,13 @@ same-length-6 : tie.Need-same-length-6
 same-length-6 c = search needs
 
 returns-2 : tie.Need-returns-2
-returns-2 c = let a = c .before .before .before .before .before .before .before .before .before .before .before .before .before .before .before .before .before .before .args in
-    let h = c .before .before .before .before .before .before .before .before .before .before .before .before .before .before .before .before .before .before .pre in
+returns-2 c = let a = c .before .before .before .before .before .before .before .before .before .before .before .before .before .before .before .before
+    .before .before .args in
+    let h = c .before .before .before .before .before .before .before .before .before .before .before .before .before .before .before .before .before .before
+    .pre in
     let bundle = bundleAt (a .file .now) (a .b) in
-    let plain = sym (c .before .before .before .before .before .before .before .before .before .before .before .is-binder .ensures) ∙ c .before .before .before .before .before .before .before .before .before .before .if1 .left in
+    let plain = sym (c .before .before .before .before .before .before .before .before .before .before .before .is-binder .ensures) ∙ c .before .before
+    .before .before .before .before .before .before .before .before .if1 .left in
     let x = c .before .before .before .before .before .before .before .before .before .before .before .before .before .term-field in
     let y = c .before .before .before .before .before .before .before .before .before .before .before .before .term-field2 in
     let is : boundAs bundle (kindOf (a .kind)) (a .l) ≡ items bundle (x .result) =

@@ -3,7 +3,6 @@ use native.Mathlib.Omega.{arith}
 use native.Mathlib.Numerals.{add-one}
 use mathlib.Core.Path.{_≡_, refl, sym, ap, _∙_}
 use mathlib.Core.List.{_∷_}
-use Prim.Native.Nat.{_≤_}
 use Rattle.bundle.specs.Bundle.{termOf}
 use Rattle.bundle.specs.Links.{startsAt}
 use Rattle.bundle.specs.File.{bundleAt}
@@ -55,8 +54,10 @@ returns-2 c = let a = c .before .before .before .before .before .before .before 
     let u = startsAt (a .b .links) (termOf bundle (a .l) .b) in
     let v = startsAt (a .b .links) (termOf bundle (a .r) .b) in
     let fs = frames (a .agenda .now) (a .h) in
-    let known = c .before .before .before .before .before .before .before .before .before .before .pre .2 (λ e. c .before .before .before .before .before .before .if1 .left (c .before .before .before .before .before .before .before .term-field .ensures ∙ e)) in
-    let binds = ap isBinder (sym (c .before .before .before .before .before .before .before .term-field .ensures)) ∙ sym (c .before .before .before .before .before .is-binder .ensures) ∙ c .before .before .before .before .if2 .taken in (
+    let known = c .before .before .before .before .before .before .before .before .before .before .pre .2 (λ e. c .before .before .before .before .before
+    .before .if1 .left (c .before .before .before .before .before .before .before .term-field .ensures ∙ e)) in
+    let binds = ap isBinder (sym (c .before .before .before .before .before .before .before .term-field .ensures)) ∙ sym (c .before .before .before .before
+    .before .is-binder .ensures) ∙ c .before .before .before .before .if2 .taken in (
       c .before .before .push .ensures .0,
       omega arith,
       ap (frames (c .before .before .push .last .0)) (add-one (a .h)) ∙ c .before .before .push .ensures .1
@@ -88,19 +89,26 @@ returns-3 c = let a = c .before .before .before .before .before .before .before 
     let j = c .before .first-link2 .ensures ∙ ap (startsAt (a .b .links)) (c .before .before .term-field3 .ensures) in (
       refl,
       omega arith,
-      sym (opened-none (a .b) bundle (a .l) (a .r) fs (sym (closes-at (c .before .before .before .before .before .before .before .before .term-field .ensures) i j) ∙ c .if3 .taken)),
+      sym (opened-none (a .b) bundle (a .l) (a .r) fs (sym (closes-at (c .before .before .before .before .before .before .before .before .term-field
+          .ensures) i j) ∙ c .if3 .taken)),
     )
 
 push-requires-2 : tie.Need-push-requires-2
 push-requires-2 c κs = let a = c .before .before .before .before .before .before .before .before .before .before .before .before .args in
     let h = c .before .before .before .before .before .before .before .before .before .before .before .before .pre in
-    let known = h .2 (λ e. c .before .before .before .before .before .before .before .before .if1 .left (c .before .before .before .before .before .before .before .before .before .term-field .ensures ∙ e)) in
+    let known = h .2 (λ e. c .before .before .before .before .before .before .before .before .if1 .left (c .before .before .before .before .before .before
+    .before .before .before .term-field .ensures ∙ e)) in
     let i = c .before .before .before .before .first-link in
     let j = c .before .before .first-link2 in (
       h .1,
       omega (arith, known .0 .1, h .0 .within .terms),
       omega (arith, known .1 .1, h .0 .within .terms),
-      omega (arith, walk-start-le (a .file .now) (a .b) (c .before .before .before .before .before .term-field2 .result) (i .result) (i .ensures), h .0 .within .links),
+      omega (
+        arith,
+        walk-start-le (a .file .now) (a .b) (c .before .before .before .before .before .term-field2 .result) (i .result) (i .ensures),
+        h .0
+            .within .links,
+      ),
       omega (arith, walk-start-le (a .file .now) (a .b) (c .before .before .before .term-field3 .result) (j .result) (j .ensures), h .0 .within .links),
       omega arith,
     )
@@ -118,10 +126,16 @@ returns-4 c = let a = c .before .before .before .before .before .before .before 
     let u = startsAt (a .b .links) (termOf bundle (a .l) .b) in
     let v = startsAt (a .b .links) (termOf bundle (a .r) .b) in
     let fs = frames (a .agenda .now) (a .h) in
-    let known = c .before .before .before .before .before .before .before .before .before .before .before .before .before .before .before .pre .2 (λ e. c .before .before .before .before .before .before .before .before .before .before .before .if1 .left (c .before .before .before .before .before .before .before .before .before .before .before .before .term-field .ensures ∙ e)) in
-    let i = c .before .before .before .before .before .before .before .first-link .ensures ∙ ap (startsAt (a .b .links)) (c .before .before .before .before .before .before .before .before .term-field2 .ensures) in
-    let j = c .before .before .before .before .before .first-link2 .ensures ∙ ap (startsAt (a .b .links)) (c .before .before .before .before .before .before .term-field3 .ensures) in
-    let binds = ap isBinder (sym (c .before .before .before .before .before .before .before .before .before .before .before .before .term-field .ensures)) ∙ sym (c .before .before .before .before .before .before .before .before .before .before .is-binder .ensures) ∙ c .before .before .before .before .before .before .before .before .before .if2 .left in
+    let known = c .before .before .before .before .before .before .before .before .before .before .before .before .before .before .before .pre .2 (λ e. c
+    .before .before .before .before .before .before .before .before .before .before .before .if1 .left (c .before .before .before .before .before .before
+    .before .before .before .before .before .before .term-field .ensures ∙ e)) in
+    let i = c .before .before .before .before .before .before .before .first-link .ensures ∙ ap (startsAt (a .b .links)) (c .before .before .before .before
+    .before .before .before .before .term-field2 .ensures) in
+    let j = c .before .before .before .before .before .first-link2 .ensures ∙ ap (startsAt (a .b .links)) (c .before .before .before .before .before .before
+    .term-field3 .ensures) in
+    let binds = ap isBinder (sym (c .before .before .before .before .before .before .before .before .before .before .before .before .term-field .ensures)) ∙
+    sym (c .before .before .before .before .before .before .before .before .before .before .is-binder .ensures) ∙ c .before .before .before .before
+    .before .before .before .before .before .if2 .left in
     let first = c .before .before .before .before .before .before .before .first-link .result in
     let second = c .before .before .before .before .before .first-link2 .result in
     let same : pending (a .l) (a .r) first second ≡ pending (a .l) (a .r) u v = rw (i, j) in (
@@ -129,8 +143,10 @@ returns-4 c = let a = c .before .before .before .before .before .before .before 
       omega arith,
       ap (frames (c .before .before .push2 .last .0)) (add-one (a .h)) ∙ c .before .before .push2 .ensures .1
           ∙ ap (λ (t : Frame). t ∷ fs) (frame-pending (a .l) (a .r) first second 0 (known .0 .0) ∙ same)
-          ∙ sym (opened-some (a .b) bundle (a .l) (a .r) fs (sym (closes-at (c .before .before .before .before .before .before .before .before .before .before .before .before .term-field .ensures) i j) ∙ c .before .before .before .before .if3 .left)
-          ∙ opened-rest (a .b) bundle k (a .l) (a .r) fs binds (λ e. c .before .before .before .before .before .before .before .before .before .before .before .if1 .left (c .before .before .before .before .before .before .before .before .before .before .before .before .term-field .ensures ∙ e))),
+          ∙ sym (opened-some (a .b) bundle (a .l) (a .r) fs (sym (closes-at (c .before .before .before .before .before .before .before .before .before
+          .before .before .before .term-field .ensures) i j) ∙ c .before .before .before .before .if3 .left)
+          ∙ opened-rest (a .b) bundle k (a .l) (a .r) fs binds (λ e. c .before .before .before .before .before .before .before .before .before .before
+          .before .if1 .left (c .before .before .before .before .before .before .before .before .before .before .before .before .term-field .ensures ∙ e))),
     )
 
 pub open-spec : {M : Type 1} → statement M

@@ -39,13 +39,16 @@ same-length-3 : tie.Need-same-length-3
 same-length-3 c = search needs
 
 returns : tie.Need-returns
-returns c = let a = c .before .before .before .before .before .before .before .before .before .before .before .before .before .before .before .before .before .args in
+returns c = let a = c .before .before .before .before .before .before .before .before .before .before .before .before .before .before .before .before .before
+    .args in
     let r = c .before .before .before .before .before .before .before .before .before .enter in
     let many = length (boundAs (bundleAt (a .file .now) (a .b)) (kindOf (a .kind)) (a .l)) in
     let deep : a .depth + (r .result - a .h) ≡ a .depth + many = omega (arith, r .ensures .1) in (
       r .ensures .0,
-      turn-at (a .l) (a .depth + (r .result - a .h)) (a .left) (c .before .before .body-of .ensures) (c .before .body-of2 .ensures) (r .ensures .1) deep (c .turn-to .ensures),
-      subst (λ (t : ℕ). Crossing (a .b .variables) (a .n) (r .last .1 .1 .1 .1 .1 .0) (r .last .1 .1 .1 .0) (r .last .1 .1 .1 .1 .0) t (a .depth + many)) (r .ensures .1)
+      turn-at (a .l) (a .depth + (r .result - a .h)) (a .left) (c .before .before .body-of .ensures) (c .before .body-of2 .ensures) (r .ensures .1) deep (c
+          .turn-to .ensures),
+      subst (λ (t : ℕ). Crossing (a .b .variables) (a .n) (r .last .1 .1 .1 .1 .1 .0) (r .last .1 .1 .1 .0) (r .last .1 .1 .1 .1 .0) t (a .depth + many)) (r
+          .ensures .1)
           (r .ensures .2),
       ap (frames (r .last .1 .1 .1 .1 .1 .0)) (sym (r .ensures .1)) ∙ r .ensures .3,
     )

@@ -1,7 +1,7 @@
 -- `turns::take` meets its contract: the items of two links, and the links that follow, by the test for an application of which nothing is left.
 use native.Mathlib.Omega.{arith}
 use native.Mathlib.Numerals.{add-one}
-use mathlib.Core.Path.{_≡_, refl, sym, _∙_}
+use mathlib.Core.Path.{refl, sym, _∙_}
 use mathlib.Core.Bool.{true, false}
 use Prim.Native.Nat.{_+_, _*_}
 use lib.ListN.{getD}
@@ -44,7 +44,8 @@ returns c = let a = c .before .before .before .before .before .before .before .b
     let test = closes-at (c .before .before .term-field .ensures) after other in
     let frame = frameOf (getD w (5 * a .h) 0) (getD w (5 * a .h + 1) 0) (nextOf (bundle .links) (a .i)) (nextOf (bundle .links) (a .j))
     (getD w (5 * a .h + 4) 0) in
-    let t = taken-at w (frames w (a .h)) frame (a .l) (linkOf bundle (a .i) .value) (linkOf bundle (a .j) .value) (a .h) (a .depth) (a .left) (c .turn-to .result)
+    let t = taken-at w (frames w (a .h)) frame (a .l) (linkOf bundle (a .i) .value) (linkOf bundle (a .j) .value) (a .h) (a .depth) (a .left) (c .turn-to
+    .result)
     true (sym (c .before .if1 .taken) ∙ test) (turn-at (a .l) (a .depth) (a .left) (i .ensures .0) (j .ensures .0) refl refl (c .turn-to .ensures)) refl in
     (refl, t .0, t .1)
 

@@ -1,9 +1,4 @@
 -- `turns::turn_to` meets its contract, by the pairs left and by the order of the terms.
-use native.Mathlib.Omega.{arith}
-use mathlib.Core.Path.{_≡_, sym, ap, _∙_}
-use Prim.Native.Nat.{ℕ, zero, suc, _-_}
-use borrow.Author.Tests.{lt-ltb, le-ltb}
-use Rattle.pair_walk.specs.Agenda.{turnTo}
 use Rattle.pair_walk.proofs.FrameWords.{turn-none, turn-lower, turn-other}
 use borrow.Author.Needs.{needs}
 use Rattle.pair_walk.proofs.turns.turn_to.Statement.{statement}
