@@ -23,7 +23,7 @@ use Rattle.judgement.specs.declared.Acceptance.{Acceptance}
 use Rattle.judgement.specs.declared.Answer.{Answer}
 use Rattle.judgement.specs.declared.Answer.the-variants.{Accepted, Refused}
 use Rattle.judgement.specs.Judge.{judge}
-use Rattle.judgement.proofs.Sizes.{refused-small}
+use Rattle.judgement.proofs.Sizes.{lastNumber, refused-small}
 use Rattle.judgement.proofs.Accepting.{refused-where}
 use Rattle.judgement.proofs.Demands.{refused-exactly, accepted-exactly, accepted-sound, accepted-pairs}
 use Rattle.expansion.specs.declared.Answer.{Answer as Reply}
@@ -187,7 +187,7 @@ read-number f text out words sets short = go (reading f text out words sets .ans
 
 -- ---- both answers fit a word of 64 bits
 
-fits-word : (a : Reply) → ((n : ℕ) → a ≡ Written n → n ≤ bytesOf limits) → ((n i : ℕ) → a ≡ Denied n i → (n ≤ 20) × (i ≤ 9223372036854775807))
+fits-word : (a : Reply) → ((n : ℕ) → a ≡ Written n → n ≤ bytesOf limits) → ((n i : ℕ) → a ≡ Denied n i → (n ≤ lastNumber) × (i ≤ 9223372036854775807))
     → packedReply a ≤ 18446744073709551615
 unfolding packedReply headerWords
 fits-word (Written n) short small = omega (arith, short n refl)
