@@ -14,8 +14,10 @@ extern "C" {
 
 /* Checks the bundle of `file_length` bytes at `file`.
  *
- * Returns 0 where it is accepted: then both sides of its claim (header words 7 and 8) have equal value in every finite world. Else
- * number * 2^32 + record of the first check of document 01 that fails (record 0 for 1 to 4 and 15).
+ * Returns less than 2^32 where it is accepted: then both sides of its claim (header words 7 and 8) have equal value in every finite world. The number is
+ * that of the pairs of terms that the last REFL walked visited, at most 4,096; 0 where no REFL was walked (document 02, Req 04). Else
+ * number * 2^32 + record of the first check of documents 01 and 02 that fails (record 0 for 1 to 4 and 15). So `answer >> 32` is 0 exactly where the file
+ * is accepted.
  *
  * `free` is lent for writing: `free_length` words of 64 bits, at least four for each of the file's terms (else check 4 fails); 4,096 are
  * always enough. It may hold anything before. Accepted: words 4*(i-1) to 4*(i-1)+3 are the free variables of term i, variables 1 to 64 in the first of

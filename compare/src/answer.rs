@@ -26,10 +26,11 @@ pub enum Reason {
     NotBare = 18,
     Unread = 19,
     UnknownName = 20,
+    Spent = 21,
 }
 
 impl Reason {
-    pub const ALL: [Reason; 20] = [
+    pub const ALL: [Reason; 21] = [
         Reason::Length,
         Reason::Version,
         Reason::Limit,
@@ -50,6 +51,7 @@ impl Reason {
         Reason::NotBare,
         Reason::Unread,
         Reason::UnknownName,
+        Reason::Spent,
     ];
 
     pub fn number(self) -> u32 {
@@ -78,6 +80,7 @@ impl Reason {
             Reason::NotBare => "writer: contexts, steps or right not 0; reader: terms or left too",
             Reason::Unread => "reader: no text of the grammar goes on so",
             Reason::UnknownName => "reader: a name that is not declared, or of another kind",
+            Reason::Spent => "a REFL that would visit more than 4,096 pairs",
         }
     }
 }
@@ -117,31 +120,68 @@ impl Refusal {
     }
 }
 
-/// The claim of an accepted file.
+/// The claim of an accepted file, and what its last walk cost.
 #[derive(Clone, Copy, Debug, PartialEq, Eq)]
-pub struct Claim {
+pub struct Accepted {
     pub left: u32,
     pub right: u32,
+    /// The pairs of the last REFL step that was walked, 0 where none was (Req 04).
+    pub pairs: u32,
 }
 
-impl fmt::Display for Claim {
+/// As the program check prints it.
+impl fmt::Display for Accepted {
     fn fmt(&self, out: &mut fmt::Formatter<'_>) -> fmt::Result {
         write!(out, "accepted {} {}", self.left, self.right)
     }
 }
 
 /// What a check answers, as the program check prints it.
-pub fn line(outcome: Result<Claim, Refusal>) -> String {
+pub fn line(outcome: Result<Accepted, Refusal>) -> String {
     match outcome {
-        Ok(claim) => format!("{claim}\n"),
+        Ok(accepted) => format!("{accepted}\n"),
         Err(refusal) => refusal.line(),
     }
 }
 
-/// What a check answers, as the proved library packs it: 0 where accepted,
-/// else number * 2^32 + record.
-pub fn packed(outcome: Result<Claim, Refusal>) -> u64 {
-    outcome.map_or_else(Refusal::packed, |_| 0)
+/// What a check answers, as the proved library packs it: the pairs of the last walk
+/// where accepted, else number * 2^32 + record.
+pub fn packed(outcome: Result<Accepted, Refusal>) -> u64 {
+    outcome.map_or_else(Refusal::packed, |accepted| accepted.pairs.into())
+}
+
+/// The number of a packed answer, 0 where there is no refusal.
+pub fn number(answer: u64) -> u32 {
+    (answer >> 32) as u32
+}
+
+/// How a whole-term REFL's walk ends.
+#[derive(Clone, Copy, Debug, PartialEq, Eq)]
+pub enum Ending {
+    Same,
+    Differs,
+    /// There is a pair past the limit.
+    Spent,
+}
+
+/// A whole-term REFL's walk: how it ends, and how many pairs it visits. A pair that
+/// differs is visited, one past the limit is not.
+#[derive(Clone, Copy, Debug, PartialEq, Eq)]
+pub struct Whole {
+    pub ending: Ending,
+    pub pairs: u32,
+}
+
+/// As the vectors spell it.
+impl fmt::Display for Whole {
+    fn fmt(&self, out: &mut fmt::Formatter<'_>) -> fmt::Result {
+        let word = match self.ending {
+            Ending::Same => "same",
+            Ending::Differs => "differ",
+            Ending::Spent => "spent",
+        };
+        write!(out, "{word} {}", self.pairs)
+    }
 }
 
 /// What CONG's test finds: whether it passes, and how many links it read.
@@ -170,9 +210,21 @@ pub struct Packed(pub u64);
 impl fmt::Display for Packed {
     fn fmt(&self, out: &mut fmt::Formatter<'_>) -> fmt::Result {
         match self.0 {
-            0 => write!(out, "accepted"),
-            answer if answer >> 32 == 0 => write!(out, "written, {answer} bytes"),
-            answer => write!(out, "refused {} {}", answer >> 32, answer & 0xffff_ffff),
+            pairs if number(pairs) == 0 => write!(out, "accepted with {pairs} pairs"),
+            answer => write!(out, "refused {} {}", number(answer), answer & 0xffff_ffff),
+        }
+    }
+}
+
+/// A packed answer of the writer or the reader, for people.
+#[derive(Clone, Copy, Debug)]
+pub struct PackedLength(pub u64);
+
+impl fmt::Display for PackedLength {
+    fn fmt(&self, out: &mut fmt::Formatter<'_>) -> fmt::Result {
+        match self.0 {
+            length if number(length) == 0 => write!(out, "written, {length} bytes"),
+            answer => Packed(answer).fmt(out),
         }
     }
 }

@@ -1,14 +1,18 @@
 //! The benchmark: the proved check and the Rust checker on the same files, in
 //! turn, with the time to copy the file as the floor.
 
+use crate::answer::number;
 use crate::bundle::{
-    MAX_BYTES, MAX_SETS, MAX_WORDS, Section, area_words, counts_of, to_bytes, to_words,
+    Counts, MAX_BYTES, MAX_SETS, MAX_WORDS, Section, area_words, counts_of, to_bytes, to_words,
 };
+use crate::check::{MOST_PAIRS, walk};
 use crate::compare::Checker;
 use crate::compare_reader::Reader;
 use crate::compare_writer::Writer;
 use crate::expand::written;
+use crate::generate::derive::REFL;
 use crate::generate::jobs::{self, OLD_BYTES};
+use crate::generate::whole::{self, Length};
 use crate::generate::{large, texts};
 use crate::read;
 use crate::rng::Rng;
@@ -22,18 +26,32 @@ pub struct Subject {
     pub file: Vec<u8>,
     pub terms: u32,
     pub steps: u32,
+    /// Pairs that the walks of REFL visit together.
+    pub pairs: u32,
 }
 
 impl Subject {
     fn new(name: &str, file: Vec<u8>) -> Self {
         let counts = counts_of(&file).unwrap_or_default();
-        Subject {
-            name: name.into(),
-            file,
-            terms: counts[Section::Terms],
-            steps: counts[Section::Steps],
-        }
+        let (terms, steps) = (counts[Section::Terms], counts[Section::Steps]);
+        let pairs = pairs(&file, &counts);
+        Subject { name: name.into(), file, terms, steps, pairs }
     }
+}
+
+/// The pairs of all REFL steps that are walked: whose sides differ and whose left is no
+/// variable.
+fn pairs(file: &[u8], counts: &Counts) -> u32 {
+    let words = to_words(file);
+    let word = |section, record, field| words[counts.place(section, record, field)];
+    (1..=counts[Section::Steps])
+        .map(|step| [0, 1, 2, 3].map(|field| word(Section::Steps, step, field)))
+        .filter(|&[rule, _, left, right]| {
+            rule == REFL && left != right && word(Section::Terms, left, 0) != 1
+        })
+        .filter_map(|[_, context, left, right]| walk(file, context, [left, right]))
+        .map(|walk| walk.pairs)
+        .sum()
 }
 
 /// Times in microseconds: the median of many calls.
@@ -43,6 +61,7 @@ pub struct Row {
     pub bytes: usize,
     pub terms: u32,
     pub steps: u32,
+    pub pairs: u32,
     pub copy: f64,
     pub proved: Option<f64>,
     pub rust: f64,
@@ -60,11 +79,12 @@ impl Row {
     }
 }
 
-/// What a time is shared out to: the terms or the steps of a file.
+/// What a time is shared out to: the terms or the steps of a file, or the pairs of its walks.
 #[derive(Clone, Copy, Debug, PartialEq, Eq)]
 pub enum Share {
     Term,
     Step,
+    Pair,
 }
 
 impl Share {
@@ -72,6 +92,7 @@ impl Share {
         match self {
             Share::Term => row.terms,
             Share::Step => row.steps,
+            Share::Pair => row.pairs,
         }
     }
 
@@ -107,6 +128,10 @@ pub fn subjects() -> Vec<Subject> {
     subjects.push(made("shared long lists", large::long_lists(rng(), 600, 1024)));
     subjects.push(made("many quantifiers", large::many_quantifiers(rng(), 32, 1024)));
     subjects.push(made(WIDE, large::wide_quantifiers(rng(), 128)));
+    subjects.push(made("one REFL instead of steps", whole::one_for_many(rng(), 50)));
+    let length = Length { pairs: MOST_PAIRS, differs: false, binders: 4 };
+    subjects.push(made("4,096 pairs", whole::one_walk(rng(), length)));
+    subjects.push(made("1,000 nested binders", whole::shared_binders(rng(), 1_000, 100)));
     subjects
 }
 
@@ -148,7 +173,7 @@ fn full() -> Vec<u8> {
 pub fn doubling(share: Share) -> Vec<Subject> {
     let file = |most: u32| match share {
         Share::Term => to_bytes(&large::many_terms(Rng::new(1), most)),
-        Share::Step => expansion(jobs::largest(|file| {
+        Share::Step | Share::Pair => expansion(jobs::largest(|file| {
             counts_of(file).is_some_and(|counts| counts[Section::Steps] <= most)
         })),
     };
@@ -174,7 +199,7 @@ pub fn time_check(
         let begun = Instant::now();
         let answer = check(black_box(file), black_box(&mut area));
         let time = begun.elapsed();
-        assert_eq!(answer, 0, "the files of the benchmark are accepted");
+        assert_eq!(number(answer), 0, "the files of the benchmark are accepted");
         time
     };
     let (mut proved_times, mut rust_times) = in_turn(once, proved, rust, budget);
@@ -193,6 +218,7 @@ pub fn time_check(
         bytes: file.len(),
         terms: subject.terms,
         steps: subject.steps,
+        pairs: subject.pairs,
         copy: copy_times.median() / 16.0,
         proved: proved.map(|_| proved_times.median()),
         rust: rust_times.median(),
@@ -227,6 +253,7 @@ pub fn time_writer(
         bytes: file.len(),
         terms: counts[Section::Terms],
         steps: counts[Section::Steps],
+        pairs: 0,
         copy: floor,
         proved: proved.map(|_| proved_times.median()),
         rust: rust_times.median(),
@@ -277,6 +304,7 @@ pub fn time_reader(typed: &Typed, proved: Option<Reader>, rust: Reader, budget: 
         bytes: text.len(),
         terms: counts_of(job).unwrap_or_default()[Section::Terms],
         steps: 0,
+        pairs: 0,
         copy: floor,
         proved: proved.map(|_| proved_times.median()),
         rust: rust_times.median(),
@@ -378,6 +406,22 @@ mod tests {
                 assert!((most * 8 / 10..=most).contains(&count), "{count} of {most}");
             }
         }
+    }
+
+    /// Pairs of the files in which REFL walks; the others have none.
+    #[test]
+    fn walks_are_what_they_say() {
+        let walked: Vec<(String, u32)> = subjects()
+            .into_iter()
+            .filter(|subject| subject.pairs > 0)
+            .map(|subject| (subject.name, subject.pairs))
+            .collect();
+        let pairs = [
+            ("one REFL instead of steps", 50 * 40),
+            ("4,096 pairs", 4_096),
+            ("1,000 nested binders", 1_043),
+        ];
+        assert_eq!(walked, pairs.map(|(name, pairs)| (name.to_string(), pairs)));
     }
 
     /// At least 200 quantifiers are renamed, and all variables bound.

@@ -1,13 +1,14 @@
 //! The comparison: the proved check and the Rust checker on the same files, for
 //! areas of several lengths filled with junk before; answers and areas have to be
-//! the same, and so have the links that CONG's test reads at chosen steps. A share of
-//! the files goes to the plain reading and to the program check too. What is accepted
-//! has to hold in finite worlds.
+//! the same, and so have the links that CONG's test reads at chosen steps and the pairs
+//! that REFL's walk visits. A share of the files goes to the plain reading and to the
+//! program check too. What is accepted has to hold in finite worlds.
 
-use crate::answer::{Packed, Reason, line};
+use crate::answer::{Packed, Reason, line, number};
 use crate::bundle::{MAX_SETS, Section, area_words, counts_of};
 use crate::check::check;
 use crate::compare_links::{self, Counter, Walks};
+use crate::compare_pairs::{self, Pairs};
 use crate::eval::{claim_holds, steps_hold};
 use crate::generate::{Case, Family, case};
 use crate::naive;
@@ -17,8 +18,8 @@ use crate::tally::{self, ENOUGH, Tally, first_difference};
 use std::path::Path;
 use std::{fmt, io};
 
-/// A check as the proved library offers it: 0 where accepted, else
-/// number * 2^32 + record; the area is written.
+/// A check as the proved library offers it: the pairs of the last walk where accepted,
+/// else number * 2^32 + record; the area is written.
 pub type Checker<'a> = &'a dyn Fn(&[u8], &mut [u64]) -> u64;
 
 /// The lengths to try: 4 T, 4 T - 1, 4 T + 5 and 0, for the T of the header (a T
@@ -76,6 +77,10 @@ pub struct Report {
     pub calls: u64,
     pub tally: Tally<Family>,
     pub walks: Walks,
+    /// Accepted files of which a REFL was walked, and the pairs of their last walks.
+    pub walked: u64,
+    pub walked_pairs: u64,
+    pub pairs: Pairs,
     /// Accepted claims that were tried in worlds.
     pub claims: u64,
     /// Those of them whose sides are different terms.
@@ -96,7 +101,7 @@ pub const WORLDS: usize = 300;
 
 /// The numbers a checker can answer.
 pub fn numbers() -> impl Iterator<Item = Reason> {
-    Reason::ALL.into_iter().take_while(|&reason| reason <= Reason::Claim)
+    Reason::ALL.into_iter().filter(|&reason| reason <= Reason::Claim || reason == Reason::Spent)
 }
 
 impl Default for Report {
@@ -107,6 +112,9 @@ impl Default for Report {
             calls: 0,
             tally: Tally::new(PLAIN, PROGRAM),
             walks: Walks::default(),
+            walked: 0,
+            walked_pairs: 0,
+            pairs: Pairs::default(),
             claims: 0,
             claims_apart: 0,
             claims_everywhere: 0,
@@ -155,7 +163,22 @@ impl Report {
                 return text;
             }
         }
-        if answer == 0
+        let mut parties = vec![
+            ("the subject", checkers.subject.check),
+            ("the Rust checker", checkers.reference.check),
+        ];
+        parties.extend(plain.map(|plain| ("the plain reading", plain.check)));
+        for walk in compare_pairs::walks(file, answer, index) {
+            let text = self.pairs.problem(&parties, plain.is_some(), file, walk);
+            if text.is_some() {
+                return text;
+            }
+        }
+        if number(answer) == 0 {
+            self.walked += u64::from(answer != 0);
+            self.walked_pairs += answer;
+        }
+        if number(answer) == 0
             && file.len() <= SMALL
             && let Some(text) = self.try_in_worlds(index, file)
         {
@@ -232,6 +255,12 @@ impl fmt::Display for Report {
         writeln!(out, "{} files, {} bytes, {} calls", self.files, self.bytes, self.calls)?;
         self.tally.write(out, "files", "accepted", numbers())?;
         write!(out, "{}", self.walks)?;
+        writeln!(
+            out,
+            "{} accepted files with a walked REFL, {} pairs in their last ones",
+            self.walked, self.walked_pairs
+        )?;
+        write!(out, "{}", self.pairs)?;
         writeln!(
             out,
             "{} accepted claims tried in worlds, {} of them with different sides; {} of these in \

@@ -4,7 +4,7 @@
 //! written has to be a job with the formula that was printed, and its expansion has to be
 //! accepted and have the formula's value.
 
-use crate::answer::{Packed, Reason, Refusal};
+use crate::answer::{PackedLength, Reason, Refusal};
 use crate::bundle::{RIGHT, to_words};
 use crate::compare::{Checker, SMALL};
 use crate::compare_writer::{Areas, difference, filled, lengths, misfit};
@@ -96,10 +96,9 @@ impl Default for Report {
 
 /// The numbers a reader can answer.
 pub fn numbers() -> impl Iterator<Item = Reason> {
-    use Reason::{Full, NotBare, Sort, Typing, Unread};
-    Reason::ALL.into_iter().filter(|&reason| {
-        reason <= Sort || [Typing, Full, NotBare].contains(&reason) || reason >= Unread
-    })
+    use Reason::{Full, NotBare, Sort, Typing, UnknownName, Unread};
+    let others = [Typing, Full, NotBare, Unread, UnknownName];
+    Reason::ALL.into_iter().filter(move |reason| *reason <= Sort || others.contains(reason))
 }
 
 /// A reader's answer in the library's form.
@@ -150,7 +149,7 @@ impl Report {
         let problem = match answer >> 32 {
             0 => self.misread(readers.checkers, &job, formula.as_deref(), index),
             _ if formula.is_some() && answer != too_large => {
-                Some(format!("the text of a formula is {}", Packed(answer)))
+                Some(format!("the text of a formula is {}", PackedLength(answer)))
             }
             _ => None,
         };
@@ -161,7 +160,7 @@ impl Report {
         if !self.tally.program.takes(*family, answer) {
             return None;
         }
-        let refusal = Packed(answer).to_string();
+        let refusal = PackedLength(answer).to_string();
         let expected = if answer >> 32 == 0 { Ok(&job[..]) } else { Err(&refusal[..]) };
         programs::text_difference(program, (declarations, text), expected)
     }

@@ -2,7 +2,7 @@
 //! answer, same bytes and words of every lent area. A share of the jobs goes to the
 //! plain reading and to the program expand too. What is written has to be accepted.
 
-use crate::answer::{Packed, Reason, Refusal};
+use crate::answer::{Packed, PackedLength, Reason, Refusal};
 use crate::bundle::{LEFT, MAX_BYTES, MAX_SETS, MAX_WORDS, RIGHT, Section, counts_of, to_words};
 use crate::compare::{Checker, SMALL, WORLDS};
 use crate::eval::claim_holds;
@@ -178,7 +178,7 @@ pub(crate) fn difference(
     expected: &(u64, Areas),
     from: &str,
 ) -> Option<String> {
-    let (answer, expected_answer) = (Packed(found.0), Packed(expected.0));
+    let (answer, expected_answer) = (PackedLength(found.0), PackedLength(expected.0));
     if found.0 != expected.0 {
         return Some(format!("{answer} against {expected_answer} from {from}"));
     }
@@ -191,8 +191,8 @@ pub(crate) fn difference(
         .or_else(|| at("the 64-bit scratch", first_difference(&areas.sets, &expected.sets)))
 }
 
-/// What is wrong with a written file: every checker has to accept it; it has to keep
-/// the job's records and left, have a right side without lets, and hold in worlds.
+/// What is wrong with a written file: every checker has to accept it, without a walk (each
+/// REFL of a written file takes a variable to its image); it has to keep the job's records and left, have a right side without lets, and hold in worlds.
 pub fn misfit(checkers: &[Checker], job: &[u8], file: &[u8]) -> Option<String> {
     let mut free = vec![0; MAX_SETS];
     for (place, check) in checkers.iter().enumerate() {

@@ -134,7 +134,8 @@ impl Draft {
     /// One fault of a random kind.
     pub fn spoil(&mut self, rng: &mut Rng) {
         match rng.below(100) {
-            0..28 => self.spoil_field(rng),
+            0..3 => self.spoil_walk(rng),
+            3..28 => self.spoil_field(rng),
             28..32 => self.spoil_symbol(rng),
             32..35 => self.empty_lists(rng),
             35..46 => self.copy_field(rng),
@@ -192,6 +193,110 @@ impl Draft {
         let Some(&record) = rng.pick(&records) else { return };
         self.set(section, record, 1, 0);
         self.set(section, record, 2, 0);
+    }
+
+    /// One fault at a REFL that is walked, or near it: in its sides, its context, or a term
+    /// below one of its sides, which often stays in order.
+    pub fn spoil_walk(&mut self, rng: &mut Rng) {
+        let field = |draft: &Self, step, field| draft.get(Section::Steps, step, field);
+        let walked: Vec<u32> = (1..=self.counts[Section::Steps])
+            .filter(|&step| {
+                let (left, right) = (field(self, step, 2), field(self, step, 3));
+                let terms = 1..=self.counts[Section::Terms];
+                field(self, step, 0) == 1
+                    && left != right
+                    && terms.contains(&left)
+                    && terms.contains(&right)
+            })
+            .collect();
+        let Some(&step) = rng.pick(&walked) else { return self.spoil_field(rng) };
+        let (left, right) = (field(self, step, 2), field(self, step, 3));
+        let terms = self.counts[Section::Terms];
+        match rng.below(10) {
+            0 => {
+                self.set(Section::Steps, step, 2, right);
+                self.set(Section::Steps, step, 3, left);
+            }
+            1 => {
+                let other = rng.below(self.counts[Section::Contexts] + 1);
+                self.set(Section::Steps, step, 1, other);
+            }
+            2 => {
+                let (side, other) = (rng.between(2, 3), rng.between(1, terms));
+                self.set(Section::Steps, step, side as usize, other);
+            }
+            3 => {
+                if let Some(context) = self.some_record(rng, Section::Contexts) {
+                    let variable = rng.between(1, self.counts[Section::Variables]);
+                    self.set(Section::Contexts, context, 0, 1);
+                    self.set(Section::Contexts, context, 1, variable);
+                    self.set(Section::Contexts, context, 2, 0);
+                }
+            }
+            _ => {
+                let side = rng.one_of([left, right, right]);
+                let below = self.below(side);
+                if let Some(&term) = rng.pick(&below) {
+                    self.spoil_term(rng, term);
+                }
+            }
+        }
+    }
+
+    /// A term and those below it.
+    fn below(&self, term: u32) -> Vec<u32> {
+        let mut found = vec![term];
+        let mut place = 0;
+        while let Some(&term) = found.get(place) {
+            place += 1;
+            let parts = match self.record(Section::Terms, term)[..] {
+                [2, _, arguments, _] => self.list(arguments),
+                [3 | 4, _, body, _] => vec![body],
+                [5, _, bounds, body] => [self.list(bounds), vec![body]].concat(),
+                _ => vec![],
+            };
+            let parts = parts.into_iter().filter(|&part| (1..term).contains(&part));
+            for part in parts {
+                if !found.contains(&part) {
+                    found.push(part);
+                }
+            }
+        }
+        found
+    }
+
+    /// Another name, quantifier, symbol, argument or part in a term.
+    fn spoil_term(&mut self, rng: &mut Rng, term: u32) {
+        let variable = rng.between(1, self.counts[Section::Variables].max(1));
+        let lower = rng.between(1, term.max(2) - 1);
+        match (self.get(Section::Terms, term, 0), rng.below(3)) {
+            (3 | 4, 0) => {
+                let kind = 7 - self.get(Section::Terms, term, 0);
+                self.set(Section::Terms, term, 0, kind);
+            }
+            (3 | 4, 1) => self.set(Section::Terms, term, 2, lower),
+            (1 | 3 | 4, _) => self.set(Section::Terms, term, 1, variable),
+            (2, 0) => {
+                let declared = self.counts[Section::Symbols];
+                let (some, other) = (rng.between(1, 8), 33 + rng.below(declared + 1));
+                self.set(Section::Terms, term, 1, rng.one_of([some, other]));
+            }
+            (kind, _) => {
+                // A list of its own, so that no other term is hit.
+                let fields = list_fields(Section::Terms, kind);
+                let Some(&field) = rng.pick(fields) else { return };
+                let mut values = self.list(self.get(Section::Terms, term, field));
+                let place = rng.below(values.len() as u32) as usize;
+                match (values.len(), rng.below(3)) {
+                    (0, _) => {}
+                    (_, 0) => values.reverse(),
+                    _ if kind == 5 && field == 1 => values[place] = variable,
+                    _ => values[place] = lower,
+                }
+                let start = self.append_list(&values);
+                self.set(Section::Terms, term, field, start);
+            }
+        }
     }
 
     fn spoil_field(&mut self, rng: &mut Rng) {

@@ -236,6 +236,7 @@ impl Run {
         print!("{report}");
         let good = self.ended(begun, &report.unseen(self.least))
             & self.seen("counts of links", &report.walks.unseen(self.least))
+            & self.seen("walks of REFL", &report.pairs.unseen(self.least))
             & report.agrees();
         let begun = Instant::now();
         let report =

@@ -2,9 +2,10 @@
 //! free variables are sets, images are found by walking the entries, equal terms
 //! by trying every pair. Slow; it is there to try the checker on the files.
 
-use crate::answer::{Claim, Reason, Refusal, Walk};
+use crate::answer::{Accepted, Ending, Reason, Refusal, Walk, Whole};
 use crate::bundle::{Counts, HEADER_BYTES, SET_WORDS, Section, counts_of, to_words};
 use std::collections::BTreeSet;
+use std::rc::Rc;
 
 /// A term by value: lists spelled out.
 #[derive(Clone, Debug, PartialEq, Eq)]
@@ -46,10 +47,12 @@ pub struct Plain {
     pub steps: Vec<Step>,
     pub left: u32,
     pub right: u32,
+    /// Of the last REFL that was walked.
+    pub pairs: u32,
 }
 
 /// Same answers and same area as [`crate::check::check`].
-pub fn check(file: &[u8], free: &mut [u64]) -> Result<Claim, Refusal> {
+pub fn check(file: &[u8], free: &mut [u64]) -> Result<Accepted, Refusal> {
     free.fill(0);
     let plain = load(file, free.len())?;
     for (place, set) in plain.free.iter().enumerate() {
@@ -57,7 +60,7 @@ pub fn check(file: &[u8], free: &mut [u64]) -> Result<Claim, Refusal> {
             free[SET_WORDS * place + variable / 64] += 1 << (variable % 64);
         }
     }
-    Ok(Claim { left: plain.left, right: plain.right })
+    Ok(Accepted { left: plain.left, right: plain.right, pairs: plain.pairs })
 }
 
 /// An accepted file spelled out, or the refusal.
@@ -71,6 +74,16 @@ pub fn load(file: &[u8], area: usize) -> Result<Plain, Refusal> {
         }
         _ => Err(Refusal::whole(Reason::Claim)),
     }
+}
+
+/// The walk of a whole-term REFL with these sides in a context of a file; `None` where one
+/// of 1 to 11 refuses it, or there is no such context or term.
+pub fn walk(file: &[u8], context: u32, [left, right]: [u32; 2]) -> Option<Whole> {
+    let mut plain = tables(file, |_| true).ok()?;
+    plain.each(file, Section::Contexts, Plain::context).ok()?;
+    let is_term = |term: u32| term >= 1 && term as usize <= plain.terms.len();
+    let there = context as usize <= plain.contexts.len() && is_term(left) && is_term(right);
+    there.then(|| plain.whole(context, left, right))
 }
 
 /// A file up to its terms, or one of the refusals 1 to 9.
@@ -447,7 +460,7 @@ impl Plain {
         verdict
     }
 
-    fn refl(&self, step: &Step) -> Option<Reason> {
+    fn refl(&mut self, step: &Step) -> Option<Reason> {
         if step.left == step.right && self.settled(step.context, step.left) {
             return None;
         }
@@ -457,7 +470,116 @@ impl Plain {
                 return None;
             }
         }
-        Some(Reason::Rule)
+        let walk = self.whole(step.context, step.left, step.right);
+        match walk.ending {
+            Ending::Same => {
+                self.pairs = walk.pairs;
+                None
+            }
+            Ending::Differs => Some(Reason::Rule),
+            Ending::Spent => Some(Reason::Spent),
+        }
+    }
+
+    /// Writes both sides out as rows of marks, one for each term met, parts after the whole
+    /// and left to right, and looks for the first place at which the rows differ.
+    fn whole(&self, context: u32, left: u32, right: u32) -> Whole {
+        let left = self.row_of_left(context, left);
+        let right = self.row_of_right(right, &left);
+        let differs = (0..left.len()).find(|&i| right.get(i) != Some(&left[i]));
+        let most = 4096;
+        match differs {
+            Some(place) if place < most => {
+                Whole { ending: Ending::Differs, pairs: place as u32 + 1 }
+            }
+            None if left.len() <= most => Whole { ending: Ending::Same, pairs: left.len() as u32 },
+            _ => Whole { ending: Ending::Spent, pairs: most as u32 },
+        }
+    }
+
+    /// The replaced left without names: a bound variable is its binder's depth and its place
+    /// there, a free one its image. One mark more than a walk may visit is enough.
+    fn row_of_left(&self, context: u32, left: u32) -> Vec<Mark> {
+        let mut row = Vec::new();
+        let mut rest = vec![(left, None)];
+        while let Some((term, scope)) = rest.pop() {
+            if row.len() > 4096 {
+                break;
+            }
+            row.push(match self.tree(term) {
+                Tree::Variable(variable) => match place_of(*variable, &scope) {
+                    Some((depth, place)) => Mark::Bound(depth, place),
+                    None => Mark::Image(self.image(context, *variable).unwrap_or(term)),
+                },
+                _ => self.mark(term),
+            });
+            self.push_parts(term, &scope, &mut rest);
+        }
+        row
+    }
+
+    /// The right side, as far as it goes along with the row of the left: where the left has
+    /// an image, the term as it stands, if no binder around it takes a free variable of it.
+    fn row_of_right(&self, right: u32, along: &[Mark]) -> Vec<Mark> {
+        let mut row = Vec::new();
+        let mut rest = vec![(right, None)];
+        for wanted in along {
+            let Some((term, scope)) = rest.pop() else { break };
+            let mark = if matches!(wanted, Mark::Image(_)) {
+                let taken = self.free(term).iter().any(|&v| place_of(v, &scope).is_some());
+                if taken { Mark::Taken } else { Mark::Image(term) }
+            } else {
+                match self.tree(term) {
+                    Tree::Variable(variable) => match place_of(*variable, &scope) {
+                        Some((depth, place)) => Mark::Bound(depth, place),
+                        None => Mark::Taken,
+                    },
+                    _ => self.mark(term),
+                }
+            };
+            let same = mark == *wanted;
+            row.push(mark);
+            if !same {
+                break;
+            }
+            if !matches!(wanted, Mark::Image(_)) {
+                self.push_parts(term, &scope, &mut rest);
+            }
+        }
+        row
+    }
+
+    /// The mark of a term that is no variable.
+    fn mark(&self, term: u32) -> Mark {
+        let sort = |variable: &u32| self.variables[*variable as usize - 1];
+        match self.tree(term) {
+            Tree::Variable(_) => Mark::Taken,
+            Tree::Application(symbol, _) => Mark::Application(*symbol),
+            Tree::ForAll(variable, _) => Mark::ForAll(sort(variable)),
+            Tree::Exists(variable, _) => Mark::Exists(sort(variable)),
+            Tree::Let(variables, _, _) => Mark::Let(variables.iter().map(sort).collect()),
+        }
+    }
+
+    /// The parts of a term, the first on top, each with the binders around it.
+    fn push_parts(&self, term: u32, scope: &Scope, rest: &mut Vec<(u32, Scope)>) {
+        let inside = |variables: &[u32]| {
+            let depth = scope.as_ref().map_or(0, |binder| binder.depth) + 1;
+            Some(Rc::new(Binder { depth, variables: variables.to_vec(), outer: scope.clone() }))
+        };
+        match self.tree(term) {
+            Tree::Variable(_) => {}
+            Tree::Application(_, arguments) => {
+                rest.extend(arguments.iter().rev().map(|&term| (term, scope.clone())));
+            }
+            Tree::ForAll(variable, body) | Tree::Exists(variable, body) => {
+                rest.push((*body, inside(&[*variable])));
+            }
+            Tree::Let(variables, bounds, body) => {
+                rest.push((*body, inside(variables)));
+                rest.extend(bounds.iter().rev().map(|&term| (term, scope.clone())));
+            }
+        }
     }
 
     fn cong(&self, step: &Step, before: &[Step]) -> Option<Reason> {
@@ -531,4 +653,38 @@ impl Plain {
         let wanted = (Entry::Replaces(variables.clone(), results), step.context);
         if self.contexts[last.context as usize - 1] == wanted { None } else { Some(Reason::Rule) }
     }
+}
+
+/// A term in a row. `Taken` equals no mark of a left side.
+#[derive(Clone, Debug, PartialEq, Eq)]
+enum Mark {
+    Bound(usize, usize),
+    Image(u32),
+    Taken,
+    Application(u32),
+    ForAll(u32),
+    Exists(u32),
+    Let(Vec<u32>),
+}
+
+/// A binder around a term, and those around it.
+#[derive(Debug)]
+struct Binder {
+    depth: usize,
+    variables: Vec<u32>,
+    outer: Scope,
+}
+
+type Scope = Option<Rc<Binder>>;
+
+/// The depth of the nearest binder of a variable, and its place there.
+fn place_of(variable: u32, scope: &Scope) -> Option<(usize, usize)> {
+    let mut at = scope;
+    while let Some(binder) = at {
+        if let Some(place) = binder.variables.iter().position(|&other| other == variable) {
+            return Some((binder.depth, place));
+        }
+        at = &binder.outer;
+    }
+    None
 }

@@ -5,7 +5,7 @@ use crate::bench::{Row, Share};
 use crate::report::{Results, number, thousands};
 use std::fmt::Write;
 
-const WIDTH: f64 = 1560.0;
+const WIDTH: f64 = 1770.0;
 const HEIGHT: f64 = 470.0;
 const TOP: f64 = 70.0;
 const BOTTOM: f64 = 350.0;
@@ -58,9 +58,9 @@ pub fn svg(results: &Results) -> String {
     );
     let proved = results.checks.iter().any(|row| row.proved.is_some());
     picture.legend(proved);
-    picture.bars("Time to check a file", &results.checks, 70.0, 780.0);
-    picture.lines(&results.doubling, 870.0, 1155.0);
-    picture.bars("Time to read a text", &results.readers, 1245.0, 1535.0);
+    picture.bars("Time to check a file", &results.checks, 70.0, 990.0);
+    picture.lines(&results.doubling, 1080.0, 1365.0);
+    picture.bars("Time to read a text", &results.readers, 1455.0, 1745.0);
     picture.svg.push_str("</svg>\n");
     picture.svg
 }

@@ -21,6 +21,11 @@ impl Results {
         self.checks.iter().any(|row| row.proved.is_some())
     }
 
+    /// The files in which REFL walks.
+    fn walked(&self) -> Vec<Row> {
+        self.checks.iter().filter(|row| row.pairs > 0).cloned().collect()
+    }
+
     /// The page for docs/.
     pub fn markdown(&self) -> String {
         let mut page = String::from("# Benchmark\n\n");
@@ -51,6 +56,10 @@ impl Results {
         );
         page.push_str(&table(&self.checks, Share::Step, "copy µs", true));
         page.push_str(
+            "\n## Time a pair\n\nFiles in which REFL walks whole terms: the pairs of all its walks, and nanoseconds of the whole check a pair.\n\n",
+        );
+        page.push_str(&share_table(&self.walked(), Share::Pair, true));
+        page.push_str(
             "\n## Time a term as terms double\n\nA term on the one before it again and again, and a CONG step for each; nanoseconds of the whole check a term.\n\n",
         );
         page.push_str(&share_table(&self.terms, Share::Term, true));
@@ -73,6 +82,8 @@ impl Results {
             let _ = writeln!(text, "{MISSING}");
         }
         text.push_str(&table(&self.checks, Share::Step, "copy µs", false));
+        text.push('\n');
+        text.push_str(&share_table(&self.walked(), Share::Pair, false));
         text.push('\n');
         text.push_str(&share_table(&self.terms, Share::Term, false));
         text.push('\n');
@@ -138,6 +149,7 @@ fn unit(share: Share) -> &'static str {
     match share {
         Share::Term => "terms",
         Share::Step => "steps",
+        Share::Pair => "pairs",
     }
 }
 
@@ -166,7 +178,8 @@ fn table(rows: &[Row], share: Share, floor: &str, markdown: bool) -> String {
 
 fn share_table(rows: &[Row], share: Share, markdown: bool) -> String {
     let proved = rows.iter().any(|row| row.proved.is_some());
-    let mut head = vec!["up to", unit(share), "bytes"];
+    let first = if share == Share::Pair { "file" } else { "up to" };
+    let mut head = vec![first, unit(share), "bytes"];
     head.extend(if proved { vec!["proved ns", "Rust ns", "ratio"] } else { vec!["Rust ns"] });
     let body = rows.iter().map(|row| {
         let count = share.count(row) as usize;
@@ -300,7 +313,7 @@ mod tests {
 
     fn row(proved: Option<f64>) -> Row {
         let (name, copy, rust) = ("a".into(), 0.05, 2.0);
-        Row { name, bytes: 1024, terms: 2, steps: 4, copy, proved, rust }
+        Row { name, bytes: 1024, terms: 2, steps: 4, pairs: 0, copy, proved, rust }
     }
 
     /// Texts have a table of their own, with the ratio, a line of what it shows, and bars.

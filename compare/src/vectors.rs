@@ -7,6 +7,7 @@ use crate::compare::{self, Checker};
 use crate::compare_links::Counter;
 use crate::compare_reader::{self, Reader};
 use crate::compare_writer::{self, Areas, Writer};
+use crate::padding::Question;
 use std::collections::BTreeMap;
 use std::fmt;
 
@@ -21,6 +22,7 @@ pub enum Call {
     Write { lengths: [usize; 3], job: Vec<u8> },
     Read { lengths: [usize; 3], declarations: Vec<u8>, text: Vec<u8> },
     Links { step: usize, file: Vec<u8> },
+    Walk { context: u32, sides: [u32; 2], file: Vec<u8> },
 }
 
 /// One of those who are held to the lines, with its calls.
@@ -52,6 +54,11 @@ impl Call {
                 text: bytes(text)?,
             }),
             ["links", step, file] => Ok(Call::Links { step: number(step)?, file: bytes(file)? }),
+            ["walk", context, left, right, file] => {
+                let [context, left, right] = [number(context)?, number(left)?, number(right)?]
+                    .map(|number| u32::try_from(number).unwrap_or(u32::MAX));
+                Ok(Call::Walk { context, sides: [left, right], file: bytes(file)? })
+            }
             _ => Err(format!("there is no such call here: {}", words[0])),
         }
     }
@@ -63,11 +70,13 @@ impl Call {
             Call::Write { .. } => "write",
             Call::Read { .. } => "read",
             Call::Links { .. } => "links",
+            Call::Walk { .. } => "walk",
         }
     }
 
     /// What a party answers, and what is wrong with the areas that it leaves; `None`
-    /// where the text is too long for it.
+    /// where the text is too long for it, or a walk's file has no room for what tells its
+    /// pairs.
     fn ask(&self, party: Party, junk: u64) -> Option<(String, Option<&'static str>)> {
         match self {
             Call::Check { lent, file } => {
@@ -77,7 +86,7 @@ impl Call {
                     return Some((refused(answer), dirty.then_some("the area is not zero")));
                 }
                 let words = to_words(file);
-                Some((format!("accepted {} {} 0", words[LEFT], words[RIGHT]), None))
+                Some((format!("accepted {} {} {answer}", words[LEFT], words[RIGHT]), None))
             }
             Call::Sets { lent, file } => {
                 let (_, area) = compare::call(party.check, file, *lent, junk);
@@ -96,6 +105,11 @@ impl Call {
                 })
             }
             Call::Links { step, file } => Some((counted((party.links)(file, *step)), None)),
+            Call::Walk { context, sides, file } => {
+                let question = Question { file, context: *context, sides: *sides };
+                let walk = question.measure(party.check)?;
+                Some((walk.map_or_else(refused, |walk| walk.to_string()), None))
+            }
         }
     }
 }
@@ -212,7 +226,7 @@ pub struct Report {
     pub moved: usize,
     /// Cases that a party answered, by its name and the call.
     pub answered: BTreeMap<(String, &'static str), usize>,
-    /// The lines, from 1, whose text was too long for it, by its name.
+    /// The lines, from 1, that it was not held to, by its name.
     pub left_out: BTreeMap<String, Vec<usize>>,
     pub differences: Vec<String>,
 }
@@ -276,7 +290,10 @@ impl fmt::Display for Report {
             writeln!(out, "{party}: {count} of {call}")?;
         }
         for (party, lines) in &self.left_out {
-            writeln!(out, "{party}: NOT held to lines {lines:?}: too long a text for it")?;
+            writeln!(
+                out,
+                "{party}: NOT held to lines {lines:?}: too long a text, or no room in the file"
+            )?;
         }
         for difference in &self.differences {
             writeln!(out, "DIFFERENCE: {difference}")?;
@@ -290,7 +307,7 @@ pub fn refusals(text: &str) -> Vec<u32> {
     let mut numbers: Vec<u32> = text
         .lines()
         .filter_map(|line| line.rsplit_once(" = refused ")?.1.split(' ').next()?.parse().ok())
-        .filter(|&number| number <= Reason::UnknownName.number())
+        .filter(|&number| number <= Reason::Spent.number())
         .collect();
     numbers.sort_unstable();
     numbers.dedup();
@@ -355,8 +372,8 @@ mod tests {
 
     #[test]
     fn other_calls_are_named() {
-        let report = run("walk 0 1 1 w1 = same 1\nnonsense\n", &BTreeMap::new(), &[]);
+        let report = run("cut 7 2 = 3 1\nnonsense\n", &BTreeMap::new(), &[]);
         assert_eq!(report.differences.len(), 2);
-        assert!(report.to_string().contains("no such call here: walk"), "{report}");
+        assert!(report.to_string().contains("no such call here: cut"), "{report}");
     }
 }

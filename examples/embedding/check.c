@@ -27,15 +27,16 @@ static uint32_t word_at(const uint8_t *file, size_t k)
 /* 19 and 20 name a byte of the text, the others a record. */
 static void print_refusal(uint64_t answer)
 {
-    const char *what = answer >> 32 >= 19 ? "byte" : "record";
+    const char *what = answer >> 32 == 19 || answer >> 32 == 20 ? "byte" : "record";
     printf("refused: check %" PRIu64 ", %s %" PRIu64 "\n", answer >> 32, what, answer & 0xffffffff);
 }
 
 /* Exit status 0 where the file is accepted. */
 static int check(const uint8_t *file, size_t length)
 {
+    /* Below 2^32 it is accepted: the number is that of the pairs that its last walked REFL visited, mostly 0. */
     uint64_t answer = nezkaldo_check(file, length, free_sets, SETS);
-    if (answer != 0) {
+    if (answer >> 32 != 0) {
         print_refusal(answer);
         return 1;
     }

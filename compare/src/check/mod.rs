@@ -5,8 +5,9 @@
 //! other lists equal it) is computed once for each link, from the end of the
 //! chain, and what a list of terms was found to be is remembered at its links. So
 //! the time is linear in the file, also where lists are shared, but for a factor of
-//! at most 256 in lets and contexts (a variable each), and for CONG: it takes each of
-//! its three lists once at every step (Req 03), so as long as they are together.
+//! at most 256 in lets and contexts (a variable each), for CONG, which takes each of
+//! its three lists once at every step (Req 03), so as long as they are together, and for
+//! REFL, which walks up to 4,096 pairs of terms at a step (Req 04).
 
 mod contexts;
 mod header;
@@ -15,6 +16,7 @@ mod lists;
 mod signature;
 mod steps;
 mod terms;
+mod whole;
 mod word_map;
 
 pub use header::Header;
@@ -23,19 +25,21 @@ pub(crate) use links::links_with;
 pub use lists::Lists;
 pub use signature::{Arguments, Profile, Signature, Sort};
 pub use terms::{Quantifier, Term, Terms};
+pub use whole::MOST_PAIRS;
 
-use crate::answer::{Claim, Reason, Refusal};
+use crate::answer::{Accepted, Reason, Refusal, Whole};
 use crate::bundle::{Counts, SET_WORDS, Section, area_words, to_words};
 use crate::fault::{Exact, Fault, OLD_VARIABLES, Rules};
 use contexts::Contexts;
 use lists::Classes;
 use terms::Key;
+use whole::Binders;
 use word_map::WordMap;
 
 /// Checks a file. `free` is the lent area: on acceptance the words from
 /// `SET_WORDS` * (i - 1) hold the free variables of term i and the rest is zero; on
 /// refusal all of it is zero.
-pub fn check(file: &[u8], free: &mut [u64]) -> Result<Claim, Refusal> {
+pub fn check(file: &[u8], free: &mut [u64]) -> Result<Accepted, Refusal> {
     check_with(Exact, file, free)
 }
 
@@ -44,15 +48,15 @@ pub(crate) fn check_with<R: Rules>(
     rules: R,
     file: &[u8],
     free: &mut [u64],
-) -> Result<Claim, Refusal> {
+) -> Result<Accepted, Refusal> {
     match judge(rules, file, free.len()) {
-        Ok((terms, claim)) => {
+        Ok((terms, accepted)) => {
             if rules.has(Fault::SetsWrittenClose) {
                 free.fill(0);
                 for (place, set) in terms.free_sets().enumerate() {
                     free[place..place + SET_WORDS].copy_from_slice(&set.words());
                 }
-                return Ok(claim);
+                return Ok(accepted);
             }
             let (places, _) = free.as_chunks_mut::<SET_WORDS>();
             for (place, set) in places.iter_mut().zip(terms.free_sets()) {
@@ -63,7 +67,7 @@ pub(crate) fn check_with<R: Rules>(
             if !rules.has(Fault::AreaTailKept) {
                 free[end..].fill(0);
             }
-            Ok(claim)
+            Ok(accepted)
         }
         Err(refusal) => {
             if !rules.has(Fault::AreaKeptOnRefusal) {
@@ -74,15 +78,26 @@ pub(crate) fn check_with<R: Rules>(
     }
 }
 
-fn judge<R: Rules>(rules: R, file: &[u8], area: usize) -> Result<(Terms, Claim), Refusal> {
+fn judge<R: Rules>(rules: R, file: &[u8], area: usize) -> Result<(Terms, Accepted), Refusal> {
     let area = if rules.has(Fault::AreaOneShort) { area + 1 } else { area };
     let tables = Tables::decode(rules, file, |counts| {
         let terms = counts[Section::Terms];
         area >= if rules.has(Fault::AreaOfTerms) { terms as usize } else { area_words(terms) }
     })?;
     let contexts = Contexts::decode(rules, &tables)?;
-    let claim = steps::check(rules, &tables, &contexts)?;
-    Ok((tables.terms, claim))
+    let accepted = steps::check(rules, &tables, &contexts)?;
+    Ok((tables.terms, accepted))
+}
+
+/// The walk of a whole-term REFL with these sides in a context of a file, whatever its
+/// steps are; also where an earlier form of REFL would take it. `None` where one of 1 to 11
+/// refuses the file, or there is no such context or term.
+pub fn walk(file: &[u8], context: u32, sides: [u32; 2]) -> Option<Whole> {
+    let tables = Tables::decode(Exact, file, |_| true).ok()?;
+    let contexts = Contexts::decode(Exact, &tables).ok()?;
+    let there = context <= contexts.count() && sides.iter().all(|&term| tables.terms.is_term(term));
+    let mut binders = Binders::default();
+    there.then(|| whole::walk(Exact, &tables, &contexts, &mut binders, context, sides))
 }
 
 /// What precedes terms, decoded and found well formed.

@@ -1,9 +1,10 @@
-//! Steps (refusals 12 to 14) and the claim (15).
+//! Steps (refusals 12 to 14, and 21) and the claim (15).
 
 use super::contexts::{Contexts, Entry};
 use super::terms::Term;
+use super::whole::{self, Binders};
 use super::{Lists, Tables, first_refusal, member};
-use crate::answer::{Claim, Reason, Refusal, Walk};
+use crate::answer::{Accepted, Ending, Reason, Refusal, Walk};
 use crate::bundle::Section;
 use crate::fault::{Fault, OLD_VARIABLES, Rules};
 use crate::set::Set;
@@ -37,15 +38,19 @@ impl Step {
     }
 }
 
-pub fn check<R: Rules>(rules: R, tables: &Tables, contexts: &Contexts) -> Result<Claim, Refusal> {
+pub fn check<R: Rules>(
+    rules: R,
+    tables: &Tables,
+    contexts: &Contexts,
+) -> Result<Accepted, Refusal> {
     let records = tables.section(Section::Steps).as_chunks::<5>().0;
     if rules.has(Fault::ClaimBeforeSteps) {
         claim(rules, tables, records)?;
     }
-    let steps = vec![NO_STEP; records.len() + 1];
-    let mut checker = Checker { rules, tables, contexts, steps };
+    let mut checker = Checker::new(rules, tables, contexts, vec![NO_STEP; records.len() + 1]);
     first_refusal(rules, records.iter(), |number, record| checker.step(number, Step::of(record)))?;
-    claim(rules, tables, records)
+    let (left, right) = claim(rules, tables, records)?;
+    Ok(Accepted { left, right, pairs: checker.pairs })
 }
 
 /// The walk of the CONG step of this number, whatever the steps before it are;
@@ -58,18 +63,18 @@ pub fn walk_of<R: Rules>(
 ) -> Option<Walk> {
     let steps = Step::all(tables.section(Section::Steps).as_chunks::<5>().0);
     let step = steps[number as usize];
-    let checker = Checker { rules, tables, contexts, steps };
+    let checker = Checker::new(rules, tables, contexts, steps);
     checker.references_sound(number, &step).then(|| checker.cong(&step))
 }
 
-/// The last step has to be the claim, in the empty context.
-fn claim<R: Rules>(rules: R, tables: &Tables, records: &[[u32; 5]]) -> Result<Claim, Refusal> {
-    let claim = Claim { left: tables.header.left, right: tables.header.right };
+/// The last step has to be the claim, in the empty context; answers its sides.
+fn claim<R: Rules>(rules: R, tables: &Tables, records: &[[u32; 5]]) -> Result<(u32, u32), Refusal> {
+    let claim = (tables.header.left, tables.header.right);
     let proved = match records.last() {
         Some(&[_, context, left, right, _]) => {
             (context == 0 || rules.has(Fault::ClaimInAnyContext))
-                && (left == claim.left || rules.has(Fault::ClaimedLeftUnread))
-                && (right == claim.right || rules.has(Fault::ClaimedRightUnread))
+                && (left == claim.0 || rules.has(Fault::ClaimedLeftUnread))
+                && (right == claim.1 || rules.has(Fault::ClaimedRightUnread))
         }
         None => rules.has(Fault::NoStepsTaken),
     };
@@ -144,19 +149,24 @@ struct Checker<'a, R> {
     contexts: &'a Contexts,
     /// Index 0 is no step.
     steps: Vec<Step>,
+    /// For the walks of REFL.
+    binders: Binders,
+    /// Pairs of the last REFL that was walked.
+    pairs: u32,
 }
 
-impl<R: Rules> Checker<'_, R> {
+impl<'a, R: Rules> Checker<'a, R> {
+    fn new(rules: R, tables: &'a Tables, contexts: &'a Contexts, steps: Vec<Step>) -> Self {
+        Checker { rules, tables, contexts, steps, binders: Binders::default(), pairs: 0 }
+    }
+
     fn step(&mut self, number: u32, step: Step) -> Result<(), Reason> {
         if !self.references_sound(number, &step) {
             return Err(Reason::Step);
         }
         self.steps[number as usize] = step;
         match step.rule {
-            REFL if self.rules.has(Fault::ReflFailureIsSide) => {
-                require(self.refl(&step), Reason::Side)
-            }
-            REFL => require(self.refl(&step), Reason::Rule),
+            REFL => self.refl(&step),
             // Only `links` asks for the count: here the compiler may leave it out, as it
             // does in the proved library.
             CONG => require(self.cong(&step).passes, Reason::Rule),
@@ -219,18 +229,57 @@ impl<R: Rules> Checker<'_, R> {
                 && self.contexts.equal(self.tables, one, other)
     }
 
-    fn refl(&self, step: &Step) -> bool {
-        let left = self.tables.terms.get(step.left);
-        if step.left == step.right
-            && (self.settled(step.context, step.left) || self.rules.has(Fault::ReflUnsettledTaken))
-        {
-            return true;
+    /// Document 01's two forms first: they take no pairs. Then the walk.
+    fn refl(&mut self, step: &Step) -> Result<(), Reason> {
+        let stays = self.stays(step);
+        if stays || self.takes_image(step) {
+            if !stays && self.rules.has(Fault::ReflWithoutImages) {
+                return Err(Reason::Rule);
+            }
+            if self.rules.has(Fault::OldFormsCounted) {
+                self.pairs = 1;
+            } else if self.rules.has(Fault::OldFormsClear) {
+                self.pairs = 0;
+            }
+            return Ok(());
         }
-        match left.term {
-            Term::Variable(variable) if !self.rules.has(Fault::ReflWithoutImages) => {
+        self.whole(step)
+    }
+
+    /// Both sides are one settled term.
+    fn stays(&self, step: &Step) -> bool {
+        step.left == step.right
+            && (self.settled(step.context, step.left) || self.rules.has(Fault::ReflUnsettledTaken))
+    }
+
+    /// Left is a variable and right its image.
+    fn takes_image(&self, step: &Step) -> bool {
+        match self.tables.terms.get(step.left).term {
+            Term::Variable(variable) => {
                 self.contexts.image(step.context, variable).unwrap_or(step.left) == step.right
             }
             _ => false,
+        }
+    }
+
+    /// Right is left with its free variables replaced, up to the names of binders in left.
+    fn whole(&mut self, step: &Step) -> Result<(), Reason> {
+        let Checker { rules, tables, contexts, .. } = *self;
+        let sides = [step.left, step.right];
+        let walk = whole::walk(rules, tables, contexts, &mut self.binders, step.context, sides);
+        match walk.ending {
+            Ending::Same if rules.has(Fault::WholeTermsRefused) => Err(Reason::Rule),
+            Ending::Same => {
+                if rules.has(Fault::WalksAdded) {
+                    self.pairs += walk.pairs;
+                } else if !(rules.has(Fault::FirstWalkCounts) && self.pairs != 0) {
+                    self.pairs = walk.pairs;
+                }
+                Ok(())
+            }
+            Ending::Differs if rules.has(Fault::ReflFailureIsSide) => Err(Reason::Side),
+            Ending::Spent if !rules.has(Fault::SpentIsRule) => Err(Reason::Spent),
+            _ => Err(Reason::Rule),
         }
     }
 

@@ -138,6 +138,12 @@ impl Terms {
         *self.sets.get(self.get(number).free)
     }
 
+    /// Whether a term is known to have no free variable without a look at its set.
+    #[inline(always)]
+    pub fn plainly_closed(&self, number: u32) -> bool {
+        self.get(number).free == NONE
+    }
+
     /// Whether a variable is free in a term; one word of its set is looked at.
     pub fn is_free<R: Rules>(&self, rules: R, variable: u32, number: u32) -> bool {
         let variable = member(rules, variable);

@@ -3,6 +3,7 @@
 //! careless derivation some choices are wrong on purpose.
 
 use super::builder::{Builder, EXISTS, Entry, FOR_ALL, Shape};
+use super::replace::{MISSES, replaced};
 use crate::bundle::{Counts, Section};
 use crate::set::Set;
 use std::collections::HashMap;
@@ -31,11 +32,13 @@ pub enum Slip {
     /// A replacement that is not settled in its parent.
     Replacement,
     Claim,
+    /// REFL to what is nearly the replaced term.
+    Whole,
 }
 
 /// Wrong choices to be tried by themselves, and together where the order of
 /// refusals in a step decides.
-pub const SLIPS: [&[Slip]; 15] = [
+pub const SLIPS: [&[Slip]; 16] = [
     &[Slip::Refl],
     &[Slip::Image],
     &[Slip::Middle],
@@ -48,6 +51,7 @@ pub const SLIPS: [&[Slip]; 15] = [
     &[Slip::Let],
     &[Slip::Replacement],
     &[Slip::Claim],
+    &[Slip::Whole],
     &[Slip::Name, Slip::Bind],
     &[Slip::Name, Slip::Bind],
     &[Slip::Middle, Slip::Trans],
@@ -64,6 +68,9 @@ pub enum Care {
     But(&'static [Slip]),
 }
 
+/// How often, in percent, an ordinary derivation carries a whole term by one REFL.
+pub const SELDOM: u32 = 6;
+
 /// The sections that a derivation adds to without asking.
 const GROWING: [Section; 4] = [Section::Terms, Section::Links, Section::Contexts, Section::Steps];
 const SMALL: [u32; 4] = [200, 400, 60, 150];
@@ -78,6 +85,8 @@ pub struct Derivation<'a> {
     known: HashMap<(u32, u32), Vec<u32>>,
     /// No step is carried further once a section has grown by so much.
     most: Counts,
+    /// How often, in percent, a whole term is carried by one REFL.
+    whole: u32,
 }
 
 impl<'a> Derivation<'a> {
@@ -92,7 +101,12 @@ impl<'a> Derivation<'a> {
         for (section, growth) in GROWING.into_iter().zip(growth) {
             most[section] = builder.count(section) + growth;
         }
-        Derivation { builder, care, slipped: false, known: HashMap::new(), most }
+        Derivation { builder, care, slipped: false, known: HashMap::new(), most, whole: SELDOM }
+    }
+
+    /// The same with one REFL for a whole term so often, in percent.
+    pub fn walking(self, percent: u32) -> Self {
+        Derivation { whole: percent, ..self }
     }
 
     fn chance(&mut self, percent: u32) -> bool {
@@ -146,8 +160,23 @@ impl<'a> Derivation<'a> {
         self.advance(context, term)
     }
 
-    /// A step by the rule for the term's kind, REFL where that fails.
+    /// One REFL for the whole term.
+    fn whole(&mut self, context: u32, term: u32) -> Option<u32> {
+        let slipped = self.slipped;
+        let miss = self.slips(Slip::Whole).then(|| self.builder.rng.one_of(MISSES));
+        let found = replaced(self.builder, context, term, miss);
+        // A miss that did not offer itself is none.
+        self.slipped = slipped || found.is_some_and(|(_, missed)| missed);
+        Some(self.step(REFL, context, term, found?.0, &[]))
+    }
+
+    /// A step by the rule for the term's kind, or REFL for all of it; REFL where that fails.
     fn advance(&mut self, context: u32, term: u32) -> Option<u32> {
+        if self.chance(self.whole)
+            && let Some(step) = self.whole(context, term)
+        {
+            return Some(step);
+        }
         let found = match self.builder.shape(term).clone() {
             Shape::Variable(variable) => Some(self.variable(context, term, variable)),
             Shape::Application(symbol, arguments) => {
@@ -246,7 +275,7 @@ impl<'a> Derivation<'a> {
                 0 => premises.truncate(premises.len().saturating_sub(1)),
                 1 => premises.reverse(),
                 2 => premises.extend(premises.last().copied()),
-                3 => symbol = self.another_symbol(symbol),
+                3 => symbol = self.builder.another_symbol(symbol),
                 4 => self.use_premises_again(&mut premises),
                 _ => {
                     if let Some(place) = premises.len().checked_sub(1) {
@@ -270,16 +299,6 @@ impl<'a> Derivation<'a> {
         if let Some(other) = self.builder.rng.pick(&used) {
             premises.clone_from(other);
         }
-    }
-
-    fn another_symbol(&mut self, symbol: u32) -> u32 {
-        let wanted = self.builder.profile(symbol);
-        let declared = 33..33 + self.builder.count(Section::Symbols);
-        let same: Vec<u32> = (1..=8)
-            .chain(declared)
-            .filter(|&other| self.builder.profile(other) == wanted)
-            .collect();
-        self.builder.rng.pick(&same).copied().unwrap_or(symbol)
     }
 
     fn quantifier(&mut self, context: u32, term: u32, kind: u32, x: u32, body: u32) -> Option<u32> {

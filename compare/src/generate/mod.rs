@@ -8,14 +8,16 @@ pub mod jobs;
 pub mod large;
 pub mod limits;
 pub mod printing;
+pub mod replace;
 mod terms;
 pub mod texts;
+pub mod whole;
 
 use crate::bundle::{Section, to_bytes};
 use crate::damage::{Draft, random_bytes, random_words};
 use crate::rng::Rng;
 use builder::{Builder, ITEM, TRUTH};
-use derive::{Care, Derivation, SLIPS};
+use derive::{Care, Derivation, SELDOM, SLIPS};
 
 #[derive(Clone, Copy, Debug, PartialEq, Eq, PartialOrd, Ord, Hash)]
 pub enum Family {
@@ -31,6 +33,8 @@ pub enum Family {
     Limit,
     /// Deep contexts, long lists, many quantifiers, large terms.
     Large,
+    /// REFL for whole terms, some of them damaged there.
+    Whole,
     /// Document 01's examples, often damaged.
     Example,
     /// Random words of the right length, random bytes.
@@ -47,10 +51,11 @@ pub struct Case {
 pub fn case(seed: u64, index: u64) -> Case {
     let mut rng = Rng::for_file(seed, index);
     let family = match rng.below(1000) {
-        0..220 => Family::Derivation,
-        220..400 => Family::Careless,
-        400..760 => Family::Damaged,
-        760..900 => Family::Order,
+        0..190 => Family::Derivation,
+        190..355 => Family::Careless,
+        355..680 => Family::Damaged,
+        680..800 => Family::Order,
+        800..900 => Family::Whole,
         900..915 => Family::Limit,
         915..925 => Family::Large,
         925..950 => Family::Example,
@@ -90,6 +95,13 @@ pub fn case(seed: u64, index: u64) -> Case {
             }
             draft.bytes()
         }
+        Family::Whole => {
+            let mut draft = Draft::new(whole::any(rng.clone()));
+            if rng.chance(25) {
+                draft.spoil_walk(&mut rng);
+            }
+            draft.bytes()
+        }
         Family::Example => {
             let mut draft = Draft::new(examples::any(&mut rng));
             if rng.chance(60) {
@@ -113,22 +125,27 @@ pub fn case(seed: u64, index: u64) -> Case {
 
 /// A derivation that uses the rules in varied ways.
 pub fn derivation(rng: Rng, care: Care) -> Vec<u32> {
-    attempt(rng, care).0
+    attempt(rng, care, SELDOM).0
+}
+
+/// A derivation in which REFL often carries whole terms.
+fn walking(rng: Rng, care: Care) -> Vec<u32> {
+    attempt(rng, care, 60).0
 }
 
 /// A derivation with a wrong choice in it, if one offers itself soon.
 fn careless(mut rng: Rng, care: Care) -> Vec<u32> {
     for _ in 0..7 {
-        let (words, slipped) = attempt(Rng::new(rng.next_u64()), care);
+        let (words, slipped) = attempt(Rng::new(rng.next_u64()), care, SELDOM);
         if slipped {
             return words;
         }
     }
-    attempt(rng, care).0
+    attempt(rng, care, SELDOM).0
 }
 
 /// A derivation, and whether a wrong choice was taken in it.
-fn attempt(mut rng: Rng, care: Care) -> (Vec<u32>, bool) {
+fn attempt(mut rng: Rng, care: Care, whole: u32) -> (Vec<u32>, bool) {
     let sharing = rng.one_of([0, 30, 70, 100]);
     let mut builder = Builder::new(rng, sharing);
     builder.random_signature();
@@ -139,7 +156,7 @@ fn attempt(mut rng: Rng, care: Care) -> (Vec<u32>, bool) {
         term = builder.close(term);
     }
     let lemmas = if builder.rng.chance(50) { builder.rng.between(1, 5) } else { 0 };
-    let mut derivation = Derivation::new(&mut builder, care);
+    let mut derivation = Derivation::new(&mut builder, care).walking(whole);
     derivation.lemmas(lemmas);
     derivation.claim(term);
     let slipped = derivation.slipped;

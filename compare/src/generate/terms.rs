@@ -77,6 +77,16 @@ impl Builder {
         33..33 + self.count(Section::Symbols)
     }
 
+    /// A symbol with the same sorts, the same one where there is no other.
+    pub fn another_symbol(&mut self, symbol: u32) -> u32 {
+        let wanted = self.profile(symbol);
+        let same: Vec<u32> = (1..=8)
+            .chain(self.declared_symbols())
+            .filter(|&other| self.profile(other) == wanted)
+            .collect();
+        self.rng.pick(&same).copied().unwrap_or(symbol)
+    }
+
     pub fn random_leaf(&mut self, sort: u32) -> u32 {
         let mut leaves: Vec<Shape> =
             self.variables_of(sort).into_iter().map(Shape::Variable).collect();

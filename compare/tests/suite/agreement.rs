@@ -25,6 +25,8 @@ fn check_files(checkers: Checkers) {
     assert!(report.agrees(), "{report}");
     assert_eq!(report.unseen(1), [], "{report}");
     assert_eq!(report.walks.unseen(1), [], "{report}");
+    assert_eq!(report.pairs.unseen(20), [], "{report}");
+    assert!(report.walked > FILES / 30, "{report}");
 }
 
 fn check_jobs(writers: Writers) {

@@ -3,7 +3,7 @@
 //! document 01 says. Times are printed (`-- --nocapture`), never judged.
 
 use crate::{exact_read, with_stack};
-use nezkaldo_compare::answer::Packed;
+use nezkaldo_compare::answer::PackedLength;
 use nezkaldo_compare::bundle::{MAX_BYTES, MAX_SETS, MAX_WORDS, to_bytes};
 use nezkaldo_compare::compare_reader::{Reader, call};
 use nezkaldo_compare::compare_writer::Areas;
@@ -66,7 +66,11 @@ fn hold_one(
         let (answer, areas) = call(read, declarations, text.as_bytes(), lengths, 1);
         let time = begun.elapsed().as_secs_f64();
         if lengths == ENOUGH {
-            println!("{time:>8.3} s {party:>8} {name}, {} bytes: {}", text.len(), Packed(answer));
+            println!(
+                "{time:>8.3} s {party:>8} {name}, {} bytes: {}",
+                text.len(),
+                PackedLength(answer)
+            );
         }
         let found = match answer >> 32 {
             0 => Written,

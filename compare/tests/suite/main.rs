@@ -10,6 +10,7 @@ mod teeth;
 mod variables;
 mod vectors;
 mod walks;
+mod whole;
 mod worlds;
 mod writer;
 

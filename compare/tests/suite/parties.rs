@@ -2,7 +2,7 @@
 //! from an otherwise exact comparison is noticed.
 
 use crate::{EXACT, exact, exact_expand, exact_read};
-use nezkaldo_compare::answer::{Claim, Refusal, line};
+use nezkaldo_compare::answer::{Accepted, Refusal, line};
 use nezkaldo_compare::bundle::{MAX_SETS, to_bytes};
 use nezkaldo_compare::check::check;
 use nezkaldo_compare::compare::{self, Calls, Checkers};
@@ -65,7 +65,7 @@ fn prints(stdout: impl Into<Vec<u8>>, stderr: impl Into<Vec<u8>>) -> io::Result<
 
 /// The program check, but for what `change` makes of the answer.
 fn check_but(
-    change: impl Fn(Result<Claim, Refusal>) -> Result<Claim, Refusal>,
+    change: impl Fn(Result<Accepted, Refusal>) -> Result<Accepted, Refusal>,
 ) -> impl Fn(&[u8]) -> io::Result<Output> {
     move |file| prints(line(change(check(file, &mut [0; MAX_SETS]))), "")
 }
@@ -82,12 +82,13 @@ fn the_right_programs_agree() {
 
 #[test]
 fn another_claim_or_refusal_is_noticed() {
-    let left = |answer: Result<Claim, Refusal>| {
-        answer.map(|claim| Claim { left: claim.right, right: claim.right })
+    let left = |answer: Result<Accepted, Refusal>| {
+        answer.map(|claim| Accepted { left: claim.right, ..claim })
     };
-    let right =
-        |answer: Result<Claim, Refusal>| answer.map(|claim| Claim { right: claim.left, ..claim });
-    let record = |answer: Result<Claim, Refusal>| {
+    let right = |answer: Result<Accepted, Refusal>| {
+        answer.map(|claim| Accepted { right: claim.left, ..claim })
+    };
+    let record = |answer: Result<Accepted, Refusal>| {
         answer.map_err(|refusal| Refusal { record: refusal.record.min(7), ..refusal })
     };
     for (program, text) in [

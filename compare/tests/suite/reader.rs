@@ -1,7 +1,7 @@
 //! The reader: its refusals in order, its areas and its limits.
 
 use crate::{exact_read, plain_read};
-use nezkaldo_compare::answer::{Packed, Reason, Refusal};
+use nezkaldo_compare::answer::{PackedLength, Reason, Refusal};
 use nezkaldo_compare::bundle::{
     LEFT, MAX_BYTES, MAX_SETS, MAX_WORDS, RIGHT, Section, counts_of, to_bytes, to_words,
 };
@@ -20,7 +20,13 @@ fn answer_to(declarations: &[u8], text: &[u8]) -> (u64, u64) {
     if text.len() < 200 {
         let plain = call(&plain_read, declarations, text, ENOUGH, 1);
         let text = String::from_utf8_lossy(text);
-        assert_eq!(exact.0, plain.0, "{} against {} on {text}", Packed(exact.0), Packed(plain.0));
+        assert_eq!(
+            exact.0,
+            plain.0,
+            "{} against {} on {text}",
+            PackedLength(exact.0),
+            PackedLength(plain.0)
+        );
         assert!(exact == plain, "the areas differ on {text}");
     }
     match exact.0 >> 32 {

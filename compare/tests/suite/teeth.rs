@@ -1,6 +1,7 @@
 //! The comparison notices every single fault, by the ordinary files alone.
 
 use crate::{EXACT, exact, exact_expand, exact_links, exact_read};
+use nezkaldo_compare::answer::number;
 use nezkaldo_compare::bundle::MAX_SETS;
 use nezkaldo_compare::compare::{self, Calls, Checkers};
 use nezkaldo_compare::eval::claim_holds;
@@ -65,6 +66,19 @@ fn every_broken_walk_is_told_apart() {
     }
 }
 
+/// The count of a walk that differs is in no answer; the files that are made of it tell it.
+#[test]
+fn the_count_of_a_walk_that_differs_is_told_apart() {
+    for fault in [Fault::WholeDifferenceUncounted, Fault::SpentAfterRule] {
+        let broken = broken_checker(fault);
+        let broken = Calls { check: &broken, ..EXACT };
+        let report = compare::run(Checkers::two(broken, EXACT), SEED, 3_000, None).unwrap();
+        let by_walk = |difference: &&compare::Difference| difference.text.starts_with("walk ");
+        let told = report.differences.iter().filter(by_walk).count();
+        assert!(told >= 3, "{fault:?}: {told} of {}", report.differences.len());
+    }
+}
+
 /// The evaluator has teeth too: files that only an unsound checker accepts claim
 /// something false in some world.
 #[test]
@@ -74,12 +88,18 @@ fn unsound_faults_let_false_claims_through() {
         Fault::BindNameUnread,
         Fault::CongSymbolsDiffer,
         Fault::BindKindsDiffer,
+        Fault::WholeCaptureTaken,
+        Fault::WholeLeftNotHidden,
+        Fault::WholeKindsUnread,
+        Fault::WholeSymbolsUnread,
+        Fault::WholeBoundsInside,
     ] {
         let broken = broken_checker(fault);
         let found = (0..40_000).any(|index| {
             let file = case(SEED, index).bytes;
             let mut free = vec![0; MAX_SETS];
-            if broken(&file, &mut free) != 0 || exact(&file, &mut free) == 0 {
+            let accepts = |answer: u64| number(answer) == 0;
+            if !accepts(broken(&file, &mut free)) || accepts(exact(&file, &mut free)) {
                 return false;
             }
             let Ok(plain) = naive::tables(&file, |_| true) else { return false };

@@ -9,12 +9,13 @@ use nezkaldo_compare::ffi::{self, Library};
 use nezkaldo_compare::vectors::{self, Party, Report};
 
 /// The last request that has landed.
-const LANDED: u32 = 3;
+const LANDED: u32 = 4;
 
 const MOVES: &str = include_str!("../../vectors/moves.txt");
 const REQ_01: &str = include_str!("../../vectors/req01.txt");
 const REQ_02: &str = include_str!("../../vectors/req02.txt");
 const REQ_03: &str = include_str!("../../vectors/req03.txt");
+const REQ_04: &str = include_str!("../../vectors/req04.txt");
 
 fn held(name: &str, text: &str) -> Report {
     let moved = vectors::moves(MOVES, name, LANDED).unwrap();
@@ -89,4 +90,14 @@ fn vectors_of_req_03() {
     let report = held("req03", REQ_03);
     assert_eq!((report.cases, report.moved), (338, 0));
     assert_eq!(by_call(&report, ["check", "links"]), [185, 153]);
+}
+
+/// Walks too are held to by what a check answers, so by every party.
+#[test]
+fn vectors_of_req_04() {
+    let report = held("req04", REQ_04);
+    assert_eq!((report.cases, report.moved), (251, 0));
+    assert_eq!(by_call(&report, ["check", "walk"]), [211, 40]);
+    assert!(report.left_out.is_empty());
+    assert_eq!(vectors::refusals(REQ_04), (1..=15).chain([21]).collect::<Vec<u32>>());
 }

@@ -12,6 +12,7 @@ use Rattle.bundle.specs.File.{bundleOf}
 use Rattle.sets.specs.Sets.{cleared}
 use Rattle.logic.specs.declared.Fault.{Fault}
 use Rattle.logic.specs.Free.{freeArea}
+use Rattle.logic.specs.Rules.{lastPairs}
 use Rattle.judgement.specs.declared.Answer.the-variants.{Accepted, Refused}
 use Rattle.judgement.specs.Judge.{faultOf, judge, areaAfter}
 use Rattle.judgement.proofs.Accepting.{nothing-exactly, accepted-where, refused-where}
@@ -38,8 +39,9 @@ module _ (f : List ℕ) (m : ℕ) (r : Fault) (found : r ≡ faultOf f m) where
     pub header-there : 36 ≤ length f
     header-there = nothing-exactly f m .0 none .header .long
 
-    pub answer-accepted : (left right : ℕ) → left ≡ bundleOf f .left → right ≡ bundleOf f .right → Accepted (record { left = left; right = right }) ≡ judge f m
-    answer-accepted left right l q = sym (accepted-where f m _ .1 (none, λ i. record { left = l i; right = q i }))
+    pub answer-accepted : (left right pairs : ℕ) → left ≡ bundleOf f .left → right ≡ bundleOf f .right
+        → pairs ≡ lastPairs (bundleOf f) (length (bundleOf f .steps)) → Accepted (record { left = left; right = right; pairs = pairs }) ≡ judge f m
+    answer-accepted left right pairs l q p = sym (accepted-where f m _ .1 (none, λ i. record { left = l i; right = q i; pairs = p i }))
 
     pub area-free : (x : List ℕ) → x ≡ freeArea (bundleOf f) setWords m → x ≡ areaAfter f m
     unfolding areaAfter

@@ -15,9 +15,10 @@ use Rattle.images.proofs.ContextRows.{images-none, moved-none}
 
 -- a room of p places and q words holds what is known of the empty context, and has a row and a set for each context
 module _ (f : List ℕ) (c : Counts) (n p q : ℕ) {A B : Type 0} (whole : Whole f c) (sorts : A) (free : B) (bits : c .variables ≤ 64 * n)
-    (row : c .variables * (c .contexts + 1) ≤ p) (set : n * (c .contexts + 1) ≤ q) where
+    (few : n ≤ setWords) (row : c .variables * (c .contexts + 1) ≤ p) (set : n * (c .contexts + 1) ≤ q) where
   pub asks : Whole f c × A × B × (c .variables ≤ 64 * n) × (c .variables * (c .contexts + 1) ≤ length {A = ℕ} (replicate p 0))
       × (n * (c .contexts + 1) ≤ length {A = ℕ} (replicate q 0)) × Images (bundleAt f c) (replicate p 0) 1 × MovedSets (bundleAt f c) (replicate q 0) n 1
+      × (n ≤ setWords)
   asks = (
     whole,
     sorts,
@@ -27,6 +28,7 @@ module _ (f : List ℕ) (c : Counts) (n p q : ℕ) {A B : Type 0} (whole : Whole
     omega (arith, length-replicate {A = ℕ} q 0),
     images-none (bundleAt f c) p (rw (variables-length f c) (omega arith)),
     moved-none (bundleAt f c) n q (omega arith),
+    few,
   )
 
 module _ (c : Counts) (n m : ℕ) (within : Within c) (words : n ≤ setWords) (few : c .contexts < m) where

@@ -10,6 +10,7 @@ ghost use Rattle.logic.specs.Free.{freeArea};
 ghost use Rattle.sorting.specs.Notes.{Sorted};
 ghost use Rattle.free_variables.specs.FreeSets.{FreeSets};
 ghost use Rattle.images.specs.ContextRows.{Images, MovedSets};
+ghost use Rattle.steps.specs.Verdicts.{Found};
 ghost use Rattle.judgement.specs.Judge.{claimTests, lentFor, lateFault, faultOf, judge, areaAfter};
 use bundle::Bundle;
 use bundle::records::step_field;
@@ -24,6 +25,7 @@ use judgement::Acceptance;
 use judgement::Answer;
 use logic::Fault;
 use sorting::notes::note_sorts;
+use steps::Findings;
 
 // The words that a file's terms ask for: nothing of a file that is too short to say.
 fn lent_for(file: &[u8]) -> usize
@@ -62,32 +64,39 @@ fn late_fault_in(
     n: usize,
     images: &mut [u16],
     moved: &mut [u64],
-) -> Fault
+) -> Findings
     requires { ⌜ (let bundle = bundleAt (now file) b in
         Whole (now file) b × Sorted (now file) b (now sorts) × FreeSets (now free) n bundle × (b .variables ≤ 64 * n) × (b .variables * (b .contexts + 1) ≤
-        length (now images)) × (n * (b .contexts + 1) ≤ length (now moved)) × Images bundle (now images) 1 × MovedSets bundle (now moved) n 1) ⌝ }
-    ensures { λ r. ⌜ r ≡ lateFault (bundleAt (now (file .entry)) b) ⌝ }
+        length (now images)) × (n * (b .contexts + 1) ≤ length (now moved)) × Images bundle (now images) 1 × MovedSets bundle (now moved) n 1 × (n ≤ setWords)) ⌝ }
+    ensures { λ r. ⌜ (let bundle = bundleAt (now (file .entry)) b in
+        Found (lateFault bundle) bundle r) ⌝ }
 {
     let in_contexts = contexts::contexts::contexts_fault(file, b, sorts, free, n, images, moved);
     if in_contexts.number != 0 {
-        return in_contexts;
+        return Findings {
+            fault: in_contexts,
+            pairs: 0,
+        };
     }
     let in_steps = steps::steps::steps_fault(file, b, free, n, images, moved);
-    if in_steps.number != 0 {
+    let bad_step = in_steps.fault;
+    if bad_step.number != 0 {
         return in_steps;
     }
-    Fault {
-        number: claim_fault(file, b),
-        record: 0,
+    let number = claim_fault(file, b);
+    Findings {
+        fault: Fault { number, record: 0 },
+        pairs: in_steps.pairs,
     }
 }
 
 // The same with room of its own, for files with many variables. Two places call this: so the compiler keeps it, and its room, apart, and no other file pays
 // for so much stack.
-fn late_fault_wide(file: &[u8], b: Bundle, sorts: &[usize], free: &[u64], n: usize) -> Fault
+fn late_fault_wide(file: &[u8], b: Bundle, sorts: &[usize], free: &[u64], n: usize) -> Findings
     requires { ⌜ Whole (now file) b × Sorted (now file) b (now sorts) × FreeSets (now free) n (bundleAt (now file) b) × (n ≤ setWords) × (b .variables ≤ 64
         * n) ⌝ }
-    ensures { λ r. ⌜ r ≡ lateFault (bundleAt (now (file .entry)) b) ⌝ }
+    ensures { λ r. ⌜ (let bundle = bundleAt (now (file .entry)) b in
+        Found (lateFault bundle) bundle r) ⌝ }
 {
     if b.contexts < 8 {
         let mut few_images = [0u16; Bundle::VARIABLES * 8];
@@ -106,10 +115,11 @@ fn late_fault_wide(file: &[u8], b: Bundle, sorts: &[usize], free: &[u64], n: usi
 
 // The same with room of one of three sizes, the last for 64 variables in all contexts, or as above. The room is cleared first, so a file with few variables
 // and contexts gets little.
-fn late_fault(file: &[u8], b: Bundle, sorts: &[usize], free: &[u64], n: usize) -> Fault
+fn late_fault(file: &[u8], b: Bundle, sorts: &[usize], free: &[u64], n: usize) -> Findings
     requires { ⌜ Whole (now file) b × Sorted (now file) b (now sorts) × FreeSets (now free) n (bundleAt (now file) b) × (n ≤ setWords) × (b .variables ≤ 64
         * n) ⌝ }
-    ensures { λ r. ⌜ r ≡ lateFault (bundleAt (now (file .entry)) b) ⌝ }
+    ensures { λ r. ⌜ (let bundle = bundleAt (now (file .entry)) b in
+        Found (lateFault bundle) bundle r) ⌝ }
 {
     let rows = b.contexts + 1;
     let places = b.variables * rows;
@@ -137,20 +147,24 @@ fn late_fault(file: &[u8], b: Bundle, sorts: &[usize], free: &[u64], n: usize) -
 
 // What is wrong past the header, where the sorts of all terms are noted; number 0 where nothing is: the area then holds the free sets. While the file is
 // checked they have as many words as its variables ask for.
-fn sorted_fault(file: &[u8], b: Bundle, sorts: &[usize], free: &mut [u64]) -> Fault
+fn sorted_fault(file: &[u8], b: Bundle, sorts: &[usize], free: &mut [u64]) -> Findings
     requires { ⌜ Whole (now file) b × Sorted (now file) b (now sorts) × (setWords * b .terms ≤ length (now free)) ⌝ }
     ensures { λ r. ⌜ (let bundle = bundleAt (now (file .entry)) b in
-        r ≡ orNext (sectionsFault bundle) (lateFault bundle)) ⌝ }
-    ensures { λ r. ⌜ (r .number ≡ 0 → now (free .exit) ≡ freeArea (bundleAt (now (file .entry)) b) setWords (length (now (free .entry)))) ⌝ }
+        Found (orNext (sectionsFault bundle) (lateFault bundle)) bundle r) ⌝ }
+    ensures { λ r. ⌜ (r .fault .number ≡ 0 → now (free .exit) ≡ freeArea (bundleAt (now (file .entry)) b) setWords (length (now (free .entry)))) ⌝ }
 {
     let early = terms::sections_fault(file, b, sorts);
     if early.number != 0 {
-        return early;
+        return Findings {
+            fault: early,
+            pairs: 0,
+        };
     }
     let n = words_for(b.variables);
     free_variables::free_sets(file, b, free, n);
     let late = late_fault(file, b, sorts, free, n);
-    if late.number != 0 {
+    let later = late.fault;
+    if later.number != 0 {
         return late;
     }
     spread(free, n, b.terms);
@@ -158,15 +172,18 @@ fn sorted_fault(file: &[u8], b: Bundle, sorts: &[usize], free: &mut [u64]) -> Fa
 }
 
 // The first check that fails, number 0 where none does; the area then holds the free sets.
-fn fault_of(file: &[u8], free: &mut [u64]) -> Fault
-    ensures { λ r. ⌜ r ≡ faultOf (now (file .entry)) (length (now (free .entry))) ⌝ }
-    ensures { λ r. ⌜ (r .number ≡ 0 → now (free .exit) ≡ freeArea (bundleOf (now (file .entry))) setWords (length (now (free .entry)))) ⌝ }
+fn fault_of(file: &[u8], free: &mut [u64]) -> Findings
+    ensures { λ r. ⌜ Found (faultOf (now (file .entry)) (length (now (free .entry)))) (bundleOf (now (file .entry))) r ⌝ }
+    ensures { λ r. ⌜ (r .fault .number ≡ 0 → now (free .exit) ≡ freeArea (bundleOf (now (file .entry))) setWords (length (now (free .entry)))) ⌝ }
 {
     let lent = free.len();
     let required = lent_for(file);
     let number = header_fault(file, lent, required);
     if number != 0 {
-        return Fault { number, record: 0 };
+        return Findings {
+            fault: Fault { number, record: 0 },
+            pairs: 0,
+        };
     }
     let b = counts(file);
     if b.terms < 256 {
@@ -184,7 +201,8 @@ pub fn check(file: &[u8], free: &mut [u64]) -> Answer
     ensures { λ r. ⌜ r ≡ judge (now (file .entry)) (length (now (free .entry))) ⌝ }
     ensures { λ _. ⌜ now (free .exit) ≡ areaAfter (now (file .entry)) (length (now (free .entry))) ⌝ }
 {
-    let found = fault_of(file, free);
+    let findings = fault_of(file, free);
+    let found = findings.fault;
     if found.number != 0 {
         sets::clear(free, 0, free.len());
         return Answer::Refused {
@@ -195,5 +213,6 @@ pub fn check(file: &[u8], free: &mut [u64]) -> Answer
     Answer::Accepted(Acceptance {
         left: claim_left(file),
         right: claim_right(file),
+        pairs: findings.pairs,
     })
 }

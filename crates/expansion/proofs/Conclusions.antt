@@ -5,6 +5,7 @@
 --     Visited, conclude                    THE LAW: what a visit leaves whose step is an instance, in every longer bundle
 use mathlib.Core.Path.{_≡_, refl, sym, ap, ap₂, _∙_, subst}
 use Prim.Native.Nat.{ℕ, suc, _≤_}
+use mathlib.Core.Logic.{inl}
 use mathlib.Core.List.{List, [], _∷_, map}
 use native.Mathlib.Omega.{arith}
 use lib.ListN.{length, length-append}
@@ -12,9 +13,9 @@ use Rattle.bundle.specs.Bundle.{Bundle, Step, stepOf}
 use Rattle.bundle.specs.Links.{items}
 use Rattle.logic.specs.Lists.{All, Number}
 use Rattle.logic.specs.Terms.{gather, tree}
-use Rattle.logic.specs.Rules.{ruleOf}
+use Rattle.logic.specs.Rules.{REFL, ruleOf}
 use Rattle.logic.specs.WellFormed.{sortOfTerm, Lower, TablesFormed, WellFormed}
-use Rattle.logic.specs.Instance.{Says, SayAll, Instance, StepHolds}
+use Rattle.logic.specs.Instance.{Says, SayAll, Instance, ReflForm, PairsSuffice, StepHolds}
 use Rattle.logic.specs.Longer.{Longer, addList, listStart}
 use Rattle.logic.proofs.Longer.{longer-refl, sizes, list-added, steps-longer, step-added}
 use Rattle.logic.proofs.Kept.{step-kept, sort-tree-kept}
@@ -98,8 +99,9 @@ pub record VisitedAll (N : ℕ → Type 0) (c : ℕ) (ts : List ℕ) (v : Visits
 
 pub conclude : {N : ℕ → Type 0} (b : Bundle) (k c t r : ℕ) (ps : List ℕ) → Checked b → c ≤ length (b .contexts) → Number (length (b .terms)) t
     → Result N b r → sortOfTerm b r ≡ sortOfTerm b t → All (Number (length (b .steps))) ps
-    → ((B : Bundle) → Longer b B → WellFormed B → Instance B (ruleOf k) c (tree B t) (tree B r) ps) → Visited N c t (concluded b k c t r ps)
-conclude b k c t r ps old hc nt res sorted before rule = record {
+    → ((B : Bundle) → Longer b B → WellFormed B → Instance B (ruleOf k) c (tree B t) (tree B r) ps)
+    → ((B : Bundle) → Longer b B → WellFormed B → ruleOf k ≡ REFL → ReflForm B c (tree B t) (tree B r)) → Visited N c t (concluded b k c t r ps)
+conclude b k c t r ps old hc nt res sorted before rule form = record {
   checked = step-checked (addList b ps) s (list-checked b ps old) holds;
   done = record {
     term = nt;
@@ -141,4 +143,5 @@ conclude b k c t r ps old hc nt res sorted before rule = record {
           (rw li (all-map (λ p n. (n .0, omega (arith, n .1))) ps before));
       «instance» = subst (λ (x : Step). Instance B (ruleOf (x .rule)) (x .context) (tree B (x .left)) (tree B (x .right)) (items B (x .premises))) (sym here)
           (subst (Instance B (ruleOf k) c (tree B t) (tree B r)) (sym li) (rule B longer well));
+      pairs = subst (λ (x : Step). PairsSuffice B (ruleOf (x .rule)) x) (sym here) (λ e. inl (form B longer well e));
     }

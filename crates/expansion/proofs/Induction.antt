@@ -24,12 +24,14 @@ use Rattle.logic.specs.Free.{Free, Frees}
 use Rattle.logic.specs.Lets.{holdsLet, holdLets}
 use Rattle.logic.specs.Sorts.{binderSort, sort}
 use Rattle.logic.specs.Contexts.{lookup, first, image, treeOfImage, imageTree, by-fixing}
-use Rattle.logic.specs.Rules.{ruleOf}
+use Rattle.logic.specs.Rules.{REFL, ruleOf}
 use Rattle.logic.specs.WellFormed.{ListsFormed, WellFormed}
-use Rattle.logic.specs.Instance.{Instance, refl-image, by-cong, by-bind, by-let, Replaces}
+use Rattle.logic.specs.Instance.{ReflForm, Instance, by-refl, by-cong, by-bind, by-let, Replaces}
 use Rattle.logic.specs.Longer.{Longer, withVariables, addList, listStart}
 use Rattle.logic.proofs.Tests.{or-neither}
 use Rattle.logic.proofs.FreeSettled.{free-number}
+use Rattle.logic.proofs.ReflStep.{refl-forms}
+use Rattle.logic.proofs.Pairs.{refl-rule}
 use Rattle.logic.proofs.Longer.{longer-refl, longer-trans, sizes, variable-added, list-longer, list-added}
 use Rattle.logic.proofs.Kept.{variable-kept, tree-kept, image-kept}
 use Rattle.logic.proofs.FormedKept.{image-tree-kept}
@@ -70,12 +72,18 @@ image-stays longer well c h x e = ap (λ (f : ℕ → Image). f x) (image-kept l
 
 -- ---- a variable: REFL
 
+-- right is its image
+refl-form : (b : Bundle) (c t x r : ℕ) → WellFormed b → c ≤ length (b .contexts) → StandsAs b t (var x) → image b c x ≡ Gives r
+    → (B : Bundle) → Longer b B → WellFormed B → ReflForm B c (tree B t) (tree B r)
+unfolding imageTree treeOfImage
+refl-form b c t x r formed here (nt, is) given B later well =
+    inr (x, tree-kept later (formed .tables) t (nt .1) ∙ is, sym (ap (λ (i : Image). treeOfImage B i x) (image-stays later formed c here x given)))
+
 refl-instance : (b : Bundle) (c t x r : ℕ) → WellFormed b → c ≤ length (b .contexts) → StandsAs b t (var x) → image b c x ≡ Gives r
     → (B : Bundle) → Longer b B → WellFormed B → Instance B (ruleOf 1) c (tree B t) (tree B r) []
-unfolding ruleOf imageTree treeOfImage
-refl-instance b c t x r formed here (nt, is) given B later well =
-    refl-image refl refl x (tree-kept later (formed .tables) t (nt .1) ∙ is)
-    (sym (ap (λ (i : Image). treeOfImage B i x) (image-stays later formed c here x given)))
+unfolding ruleOf
+refl-instance b c t x r formed here stands given B later well =
+    by-refl refl refl (refl-forms B c (tree B t) (tree B r) (refl-form b c t x r formed here stands given B later well))
 
 leaf-visited : {V₀ : ℕ} {N : ℕ → Type 0} (b : Bundle) (c t x : ℕ) → Checked b → Substitutes V₀ N b c → StandsAs b t (var x) → Covers b c (tree b t)
     → Visited N c t (concluded b 1 c t (imageTerm (image b c x) t) [])
@@ -85,7 +93,11 @@ leaf-visited {N = N} b c t x old s stands covers =
     let (res, sorted) = s .gives x r given in
     subst (λ (i : Image). Visited N c t (concluded b 1 c t (imageTerm i t) [])) (sym given)
     (conclude b 1 c t r [] old (s .here) (stands .0) res (sorted ∙ sym (ap (sort b) (stands .1))) tt
-    (refl-instance b c t x r (old .formed) (s .here) stands given))
+    (refl-instance b c t x r (old .formed) (s .here) stands given) (λ B later well e. refl-form b c t x r (old .formed) (s .here) stands given B later well))
+
+-- the other rules are not REFL
+not-refl : {A : Type 0} (k : ℕ) → (k ≡ 1 → ⊥) → ruleOf k ≡ REFL → A
+not-refl k other e = absurd (other (refl-rule k e))
 
 -- ---- an application: CONG
 
@@ -149,7 +161,7 @@ module _ {V₀ : ℕ} {N : ℕ → Type 0} (b : Bundle) (c t f : ℕ) (ns : Node
       }
       (ap (sort A) (applied-as .stands) ∙ sym (ap (sort A) (here .1)))
       (all-map (λ k n. (n .0, omega (arith, n .1, sizes to-applied .steps))) (v .steps) (done-steps (ih .done)))
-      cong-instance
+      cong-instance (λ B later well. not-refl 2 (λ e. omega arith))
 
 -- ---- a quantifier: its new variable, its contexts
 
@@ -333,7 +345,7 @@ module _ {V₀ : ℕ} {N : ℕ → Type 0} (b : Bundle) (c x : ℕ) (old : Check
         }
         (ap (sort R) (ok .stands) ∙ ap (binderSort q) same-sort ∙ sym (ap (sort R) (there R since .1)))
         ((ih .done .step .0, omega (arith, ih .done .step .1, sizes placed .steps)), tt)
-        bind-instance
+        bind-instance (λ B later well. not-refl 4 (λ e. omega arith))
       where
         -- the new variable has the sort of the old one
         same-sort : sortOfVariable R y ≡ sortOfVariable R x
@@ -404,7 +416,7 @@ module _ {V₀ : ℕ} {N : ℕ → Type 0} (b : Bundle) (c t l : ℕ) (vs : List
         (body .done .sorted ∙ sym (ap (sort (w .bundle)) (let-there (w .bundle) let-since .0 .1)))
         (all-snoc (Number (length (w .bundle .steps))) (v .steps) (w .step)
         (all-map (λ k n. (n .0, omega (arith, n .1, sizes from-bound .steps))) (v .steps) (done-steps (ih .done))) (body .done .step))
-        let-instance
+        let-instance (λ B later well. not-refl 5 (λ e. omega arith))
 
 -- ---- THE INDUCTION
 

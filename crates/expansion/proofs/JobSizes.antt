@@ -7,7 +7,7 @@ use Rattle.bundle.specs.Limits.{limits}
 use Rattle.bundle.specs.File.{bundleOf}
 use Rattle.logic.specs.Tests.{firstFailing, fault, orElse}
 use Rattle.logic.specs.Checks.{tablesFault}
-use Rattle.judgement.proofs.Sizes.{SmallFault, failing-le, none-small, else-small, next-small, tables-small}
+use Rattle.judgement.proofs.Sizes.{lastNumber, SmallFault, failing-le, none-small, else-small, next-small, tables-small}
 use Rattle.expansion.specs.declared.Answer.the-variants.{Refused}
 use Rattle.expansion.specs.Expansion.{longEnough, jobTests, jobFault, expansion}
 use Rattle.expansion.proofs.JobChecks.{refused-job-where}
@@ -20,7 +20,7 @@ job-small f out words sets =
     (else-small (firstFailing (jobTests (bundleOf f))) 0 (fault 0 0)
     (failing-le (jobTests (bundleOf f)) (omega arith, (omega arith, (omega arith, (omega arith, tt))))) (omega arith) none-small)
 
-pub refused-job-small : (f : List ℕ) (out words sets n i : ℕ) → expansion f out words sets .answer ≡ Refused n i → (n ≤ 18) × (i ≤ limits .links)
+pub refused-job-small : (f : List ℕ) (out words sets n i : ℕ) → expansion f out words sets .answer ≡ Refused n i → (n ≤ lastNumber) × (i ≤ limits .links)
 refused-job-small f out words sets n i e =
     let s : SmallFault (fault n i) = subst SmallFault (refused-job-where f out words sets n i .0 e .1) (job-small f out words sets) in
     (s .number, s .place)

@@ -3,7 +3,7 @@
 --     free-right, settled-right     the free variables of each term; the settled terms of a context whose moved set is right
 --     step-right                    the steps, where the bed has none
 --     reading-right                 THE LAW: the whole reading
---     fault-right, lent-right       so the faults of steps are the bundle's, and the memory is long enough
+--     fault-right, pairs-right, lent-right     so the faults of steps and the pairs of walks are the bundle's, and the memory is long enough
 use mathlib.Core.Path.{_≡_, refl, sym, ap, _∙_, fun-ext}
 use mathlib.Core.Bool.{Bool, true, false, not, _||_}
 use mathlib.Core.List.{List, append-nil}
@@ -13,6 +13,7 @@ use native.Mathlib.Nat.{mul-le-mul-left}
 use native.Mathlib.Decide.{ℕ-discrete, decLe}
 use lib.ListN.{length, getD}
 use borrow.Author.Tests.{le-leb, lt-leb}
+use Rattle.bundle.specs.Limits.{setWords}
 use Rattle.bundle.specs.declared.Bundle.{Bundle as Counts}
 use Rattle.bundle.specs.Bundle.{Bundle, noTerm, noContext, termOf, contextOf, stepOf}
 use Rattle.bundle.specs.File.{bundleAt, tab}
@@ -23,7 +24,7 @@ use Rattle.logic.specs.declared.Image.the-variants.{Own}
 use Rattle.logic.specs.Table.{table, below}
 use Rattle.logic.specs.Free.{freeBy, freeAt, nothingFree}
 use Rattle.logic.specs.Contexts.{image, found, asImage, movedBy, moved, settledFor, settled}
-use Rattle.logic.specs.Rules.{stepFaultBy, stepFault}
+use Rattle.logic.specs.Rules.{stepFaultBy, stepFault, pairsBy, walkedPairs}
 use Rattle.logic.specs.Readings.{Reading, readingOf}
 use Rattle.logic.proofs.Tables.{table-below}
 use Rattle.logic.proofs.Tests.{up-to-all}
@@ -138,5 +139,12 @@ module _ (f : List ℕ) (c : Counts) (w : List ℕ) (n : ℕ) (sets : FreeSets w
       unfolding stepFault
       fault-right bed short k = ap (λ (g : Reading). stepFaultBy g (bundleAt f c) (k - 1) (stepOf (bundleAt f c) k)) (reading-right bed short)
 
-      pub lent-right : Lent c w images m n
-      lent-right = record { free = free-long; images = rw (variables-length f c) at (rows .long); moved = moves .long }
+      -- the pairs that its walk visits
+      pub pairs-right : (bed : List ℕ) → length bed < 5 → (k : ℕ)
+          → pairsBy (readingIn f c w n images m bed) (bundleAt f c) (stepOf (bundleAt f c) k) ≡ walkedPairs (bundleAt f c) k
+      unfolding walkedPairs
+      pairs-right bed short k = ap (λ (g : Reading). pairsBy g (bundleAt f c) (stepOf (bundleAt f c) k)) (reading-right bed short)
+
+      pub lent-right : c .variables ≤ 64 * n → n ≤ setWords → Lent c w images m n
+      lent-right bits few =
+          record { bits = bits; few = few; free = free-long; images = rw (variables-length f c) at (rows .long); moved = moves .long }

@@ -6,6 +6,7 @@ use lib.ListN.{length, getD}
 use lib.Dec.{leb}
 use Rattle.bundle.specs.declared.Bundle.{Bundle as Counts}
 use Rattle.bundle.specs.Bundle.{Bundle, Step, stepOf}
+use Rattle.bundle.specs.Limits.{setWords}
 use Rattle.bundle.specs.Lists.{numbers}
 use Rattle.bundle.specs.File.{tab, recordBy, stepFrom, bundleAt}
 use Rattle.sets.specs.Sets.{member, disjointOf}
@@ -54,8 +55,10 @@ readingIn f c w n images moved bed = record {
   step = stepIn (bundleAt f c) bed;
 }
 
--- there is room for the free sets of all terms, and for what is known of all contexts
+-- there is room for the free sets of all terms, and for what is known of all contexts; a set has a bit for each variable, and no more words than it may
 pub record Lent (c : Counts) (w i m : List ℕ) (n : ℕ) : Type 0 where
+  pub bits : c .variables ≤ 64 * n
+  pub few : n ≤ setWords
   pub free : n * c .terms ≤ length w
   pub images : c .variables * (c .contexts + 1) ≤ length i
   pub moved : n * (c .contexts + 1) ≤ length m

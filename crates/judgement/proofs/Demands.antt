@@ -3,22 +3,27 @@
 --     accepted-unless-fails     a file is accepted exactly where no check fails
 --     accepted-exactly          the same, in document 01's words
 --     accepted-sound            accepted, both sides of the claim have equal values
+--     accepted-pairs            the answer gives the pairs of the last REFL walked, at most 4,096
 --     accepted-distinct         accepted, different numbers stand for different terms
 --     area-left                 accepted, the free sets stand in the area; refused, zeros
 use Prim.Native.Nat.{ℕ, zero, suc, _≤_}
-use mathlib.Core.Path.{_≡_, refl, sym, ap, subst₂, _∙_}
+use mathlib.Core.Path.{_≡_, refl, sym, ap, subst, subst₂, _∙_}
 use native.Mathlib.Omega.{arith}
 use lib.ListN.{length, replicate}
 use Rattle.bundle.specs.File.{bundleOf}
 use Rattle.bundle.proofs.Fields.{terms-length}
+use Rattle.logic.specs.Rules.{stepsFault, lastPairs}
 use Rattle.logic.specs.Values.{EqualValues}
+use Rattle.logic.specs.Statements.{LastWalked}
 use Rattle.logic.proofs.Formed.{well-formed-exactly}
 use Rattle.logic.proofs.Distinct.{terms-distinct}
+use Rattle.logic.proofs.Instances.{steps-exactly}
+use Rattle.logic.proofs.Pairs.{last-pairs, last-pairs-at-most}
 use Rattle.logic.proofs.Sound.{claim-sound}
 use Rattle.judgement.specs.declared.Acceptance.{Acceptance}
 use Rattle.judgement.specs.Judge.{areaFor, areaAfter}
 use Rattle.judgement.specs.Order.{allChecks}
-use Rattle.judgement.specs.Demands.{LastIsClaim, RefusedExactly, AcceptedUnlessFails, AcceptedExactly, AcceptedSound, AcceptedDistinct, AreaLeft}
+use Rattle.judgement.specs.Demands.{LastIsClaim, RefusedExactly, AcceptedUnlessFails, AcceptedExactly, AcceptedSound, AcceptedPairs, AcceptedDistinct, AreaLeft}
 use Rattle.judgement.proofs.Order.{first-fails, fails-first, none-fails, all-hold, failing-number, checks-find}
 use Rattle.judgement.proofs.Accepting.{nothing-exactly, accepted-where, refused-where}
 use Rattle.judgement.proofs.Areas.{sets-left}
@@ -48,6 +53,15 @@ accepted-sound f m a e =
     subst₂ (EqualValues (bundleOf f)) (last .left ∙ sym (ap (λ (x : Acceptance). x .left) (h .1)))
     (last .right ∙ sym (ap (λ (x : Acceptance). x .right) (h .1)))
     (claim-sound (bundleOf f) (h .0 .formed) (h .0 .steps) (length (bundleOf f .steps)) (last .some, omega arith) (last .context))
+
+pub accepted-pairs : AcceptedPairs
+accepted-pairs f m a e =
+    let h = accepted-exactly f m a .0 e in
+    let is : a .pairs ≡ lastPairs (bundleOf f) (length (bundleOf f .steps)) = ap (λ (x : Acceptance). x .pairs) (h .1) in
+    let none : stepsFault (bundleOf f) .number ≡ 0 = steps-exactly (bundleOf f) (h .0 .formed) .1 (h .0 .steps) in (
+      subst (LastWalked (bundleOf f) (length (bundleOf f .steps))) (sym is) (last-pairs (bundleOf f) (length (bundleOf f .steps))),
+      omega (arith, is, last-pairs-at-most (bundleOf f) none),
+    )
 
 pub accepted-distinct : AcceptedDistinct
 accepted-distinct f m a e = terms-distinct (bundleOf f) (well-formed-exactly (bundleOf f) .1 (accepted-exactly f m a .0 e .0 .formed) .0)

@@ -1,5 +1,4 @@
--- How large the number and the record of an answer can be: at most 18 (15 for the checker; the writer has three more), and at most the longest section's
--- length.
+-- How large the number and the record of an answer can be: at most the last number of documents 01 and 02, and at most the longest section's length.
 --     failing-le, none-small, else-small, next-small, sections-small     of tests, of faults one after another, of sections
 --     tables-small    of the first of checks 1 to 9
 --     fault-small     of the first fault of a file
@@ -25,23 +24,27 @@ use Rattle.judgement.specs.Judge.{required, claimTests, lateFault, fault
 use Rattle.logic.proofs.Headers.{header-exactly}
 use Rattle.judgement.proofs.Accepting.{refused-where}
 
+-- the last number of a refusal
+abbrev pub lastNumber : ℕ
+lastNumber = 24
+
 pub record SmallFault (r : Fault) : Type 0 where
-  pub number : r .number ≤ 18
+  pub number : r .number ≤ lastNumber
   pub place : r .«record» ≤ 2048
 
-pub failing-le : (ts : List Test) → All (λ t. t .number ≤ 18) ts → firstFailing ts ≤ 18
+pub failing-le : (ts : List Test) → All (λ t. t .number ≤ lastNumber) ts → firstFailing ts ≤ lastNumber
 unfolding firstFailing
 failing-le [] h = omega arith
 failing-le (t ∷ ts) h = go (t .holds) (failing-le ts (h .1))
   where
-    go : (p : Bool) → firstFailing ts ≤ 18 → cond p (firstFailing ts) (t .number) ≤ 18
+    go : (p : Bool) → firstFailing ts ≤ lastNumber → cond p (firstFailing ts) (t .number) ≤ lastNumber
     go true later = later
     go false later = h .0
 
 pub none-small : SmallFault (fault 0 0)
 none-small = record { number = omega arith; place = omega arith }
 
-pub else-small : (n i : ℕ) (rest : Fault) → n ≤ 18 → i ≤ 2048 → SmallFault rest → SmallFault (orElse n i rest)
+pub else-small : (n i : ℕ) (rest : Fault) → n ≤ lastNumber → i ≤ 2048 → SmallFault rest → SmallFault (orElse n i rest)
 unfolding orElse
 else-small zero i rest h l s = s
 else-small (suc n) i rest h l s = record { number = h; place = l }
@@ -49,12 +52,12 @@ else-small (suc n) i rest h l s = record { number = h; place = l }
 pub next-small : (a rest : Fault) → SmallFault a → SmallFault rest → SmallFault (orNext a rest)
 next-small a rest s t = else-small (a .number) (a .«record») rest (s .number) (s .place) t
 
-from-small : (f : ℕ → ℕ) → ((i : ℕ) → f i ≤ 18) → (i left : ℕ) → i + left ≤ 2049 → SmallFault (firstFrom f i left)
+from-small : (f : ℕ → ℕ) → ((i : ℕ) → f i ≤ lastNumber) → (i left : ℕ) → i + left ≤ 2049 → SmallFault (firstFrom f i left)
 unfolding firstFrom
 from-small f h i zero l = none-small
 from-small f h i (suc left) l = else-small (f i) i (firstFrom f (suc i) left) (h i) (omega arith) (from-small f h (suc i) left (omega arith))
 
-section-small : (f : ℕ → ℕ) → ((i : ℕ) → f i ≤ 18) → (n : ℕ) → n ≤ 2048 → SmallFault (firstFault f n)
+section-small : (f : ℕ → ℕ) → ((i : ℕ) → f i ≤ lastNumber) → (n : ℕ) → n ≤ 2048 → SmallFault (firstFault f n)
 unfolding firstFault
 section-small f h n l = from-small f h 1 n (omega arith)
 
@@ -66,7 +69,7 @@ module _ (f : List ℕ) (whole : Whole f (countsOf f)) where
       (section-small (contextFault b) (λ i. failing-le (contextTests b i) (omega arith, (omega arith, tt))) (length (b .contexts))
       (omega (arith, contexts-length f (countsOf f), whole .within .contexts)))
       (next-small (stepsFault b) claim
-      (section-small (stepFault b) (λ i. failing-le (stepTests b i) (omega arith, (omega arith, (omega arith, tt)))) (length (b .steps))
+      (section-small (stepFault b) (λ i. failing-le (stepTests b i) (omega arith, (omega arith, (omega arith, (omega arith, tt))))) (length (b .steps))
       (omega (arith, steps-length f (countsOf f), whole .within .steps)))
       (else-small (firstFailing (claimTests b)) 0 (fault 0 0) (failing-le (claimTests b) (omega arith, tt)) (omega arith) none-small))
     where
@@ -94,7 +97,7 @@ module _ (f : List ℕ) (whole : Whole f (countsOf f)) where
       b : Bundle
       b = bundleAt f (countsOf f)
 
-header-le : (f : List ℕ) (lent required : ℕ) → headerFault f lent required ≤ 18
+header-le : (f : List ℕ) (lent required : ℕ) → headerFault f lent required ≤ lastNumber
 unfolding headerFault
 header-le f lent required = failing-le (headerTests f lent required) (omega arith, (omega arith, (omega arith, (omega arith, (omega arith, tt)))))
 
@@ -116,7 +119,7 @@ fault-small f m = go (headerFault f m (required f)) refl
         next-small (sectionsFault (bundleOf f)) (lateFault (bundleOf f)) (sections-small f whole) (late-small f whole)
     go (suc n) e = record { number = omega (arith, header-le f m (required f)); place = omega arith }
 
-pub refused-small : (f : List ℕ) (m n i : ℕ) → judge f m ≡ Refused n i → (n ≤ 18) × (i ≤ 2048)
+pub refused-small : (f : List ℕ) (m n i : ℕ) → judge f m ≡ Refused n i → (n ≤ lastNumber) × (i ≤ 2048)
 refused-small f m n i e =
     let s : SmallFault (fault n i) = subst SmallFault (refused-where f m n i .0 e .1) (fault-small f m) in
     (s .number, s .place)

@@ -14,6 +14,8 @@ use Rattle.logic.specs.Distinct.{Distinct}
 use Rattle.logic.specs.WellFormed.{HeaderFormed, WellFormed}
 use Rattle.logic.specs.Instance.{StepHolds}
 use Rattle.logic.specs.Values.{EqualValues}
+use Rattle.logic.specs.ReflWalk.{pairLimit}
+use Rattle.logic.specs.Statements.{LastWalked}
 use Rattle.judgement.specs.declared.Acceptance.{Acceptance}
 use Rattle.judgement.specs.declared.Answer.the-variants.{Accepted, Refused}
 use Rattle.judgement.specs.Judge.{acceptance, judge, areaAfter}
@@ -53,6 +55,12 @@ AcceptedExactly =
 -- Demand 3, its first half: accepted, both sides of the claim have equal value in every finite world, under every valuation.
 abbrev pub AcceptedSound : Type 0
 AcceptedSound = (f : List ℕ) (m : ℕ) (a : Acceptance) → judge f m ≡ Accepted a → EqualValues (bundleOf f) (a .left) (a .right)
+
+-- The answer gives the number of pairs of the last REFL walked of all steps, 0 if none was; it is at most 4,096.
+abbrev pub AcceptedPairs : Type 0
+AcceptedPairs =
+    (f : List ℕ) (m : ℕ) (a : Acceptance) → judge f m ≡ Accepted a
+    → LastWalked (bundleOf f) (length (bundleOf f .steps)) (a .pairs) × (a .pairs ≤ pairLimit)
 
 -- In an accepted file different numbers stand for different terms.
 abbrev pub AcceptedDistinct : Type 0

@@ -12,7 +12,7 @@ use Rattle.logic.specs.Tests.{passed, Test, test, firstFailing, fault, orElse, 
 use Rattle.logic.specs.Free.{freeArea}
 use Rattle.logic.specs.Checks.{tablesFault}
 use Rattle.logic.specs.Contexts.{contextsFault}
-use Rattle.logic.specs.Rules.{stepsFault}
+use Rattle.logic.specs.Rules.{stepsFault, lastPairs}
 use Rattle.judgement.specs.declared.Acceptance.{Acceptance}
 use Rattle.judgement.specs.declared.Answer.{Answer}
 use Rattle.judgement.specs.declared.Answer.the-variants.{Accepted, Refused}
@@ -48,18 +48,18 @@ unfoldable pub faultOf : List ℕ → ℕ → Fault
 unfolding tablesFault lateFault orElse bundleOf countsOf
 faultOf f m = orNext (tablesFault f m (required f)) (lateFault (bundleOf f))
 
--- what is said of a file that is accepted: the claim's left and right
+-- what is said of a file that is accepted: the claim's left and right, and the number of pairs of the last REFL walked, 0 if none was
 abbrev pub acceptance : Bundle → Acceptance
-acceptance b = record { left = b .left; right = b .right }
+acceptance b = record { left = b .left; right = b .right; pairs = lastPairs b (length (b .steps)) }
 
--- The answer of a fault, by document 01's number: accepted with the claim's left and right, or refused with number and record.
+-- The answer of a fault, by document 01's number: accepted with what is said of the file, or refused with number and record.
 unfoldable pub answerOf : Bundle → ℕ → ℕ → Answer
 answerOf b zero i = Accepted (acceptance b)
 answerOf b (suc n) i = Refused (suc n) i
 
 -- THE ANSWER to a file f where m words are lent
 unfoldable pub judge : List ℕ → ℕ → Answer
-unfolding answerOf faultOf bundleOf
+unfolding answerOf faultOf bundleOf lastPairs
 judge f m = answerOf (bundleOf f) (faultOf f m .number) (faultOf f m .«record»)
 
 -- What is left in the m words: the free sets and zeros after them, or, where the file is refused, zeros.

@@ -12,7 +12,7 @@ use Rattle.logic.specs.Terms.{Terms, gather, tree}
 use Rattle.logic.specs.Contexts.{Settled}
 use Rattle.logic.specs.Rules.{LET}
 use Rattle.logic.specs.WellFormed.{ContextFormed, fixes, replaces, WellFormed}
-use Rattle.logic.specs.Instance.{Replaces, Instance, refl-same, refl-image, by-cong, by-trans, by-bind, by-let, AllSettled, LetAsPrinted}
+use Rattle.logic.specs.Instance.{Replaces, Instance, by-refl, by-cong, by-trans, by-bind, by-let, AllSettled, LetAsPrinted}
 use Rattle.logic.specs.Statements.{LetPrinted}
 use Rattle.logic.proofs.Tables.{everywhere}
 
@@ -46,8 +46,7 @@ pub let-printed : LetPrinted
 let-printed b well Γ left right premises = go
   where
     go : Instance b LET Γ left right premises → LetAsPrinted b Γ left right premises
-    go (refl-same r p e s) = absurd (let o : _≡_ {A = ℕ} 0 1 = cc in omega arith)
-    go (refl-image r p x l e) = absurd (let o : _≡_ {A = ℕ} 0 1 = cc in omega arith)
+    go (by-refl r p h) = absurd (let o : _≡_ {A = ℕ} 0 1 = cc in omega arith)
     go (by-cong r f ts us l e s) = absurd (let o : _≡_ {A = ℕ} 0 1 = cc in omega arith)
     go (by-trans r p q m e s t h) = absurd (let o : _≡_ {A = ℕ} 0 1 = cc in omega arith)
     go (by-bind r Q x y φ ψ p Δ Θ l e pr s re fi n m) = absurd (let o : _≡_ {A = ℕ} 0 1 = cc in omega arith)

@@ -2,14 +2,17 @@
 -- contexts are compared by number, as document 01 says.
 use Prim.Native.Nat.{ℕ, _≤_}
 use mathlib.Core.Path.{_≡_}
+use mathlib.Core.Logic.{_⊎_}
 use mathlib.Core.List.{List, [], _∷_, _++_}
 use lib.ListN.{length}
-use Rattle.bundle.specs.Bundle.{Bundle, contextOf, stepOf}
+use Rattle.bundle.specs.Bundle.{Bundle, Step, contextOf, stepOf}
 use Rattle.bundle.specs.Links.{items}
 use Rattle.logic.specs.Lists.{All, Number}
 use Rattle.logic.specs.Terms.{Binder, Term, Terms, var, app, bind, letIn, none, more, gather, tree}
 use Rattle.logic.specs.Free.{Free}
 use Rattle.logic.specs.Contexts.{imageTree, Settled}
+use Rattle.logic.specs.Replacement.{Replacement}
+use Rattle.logic.specs.ReflWalk.{reflWalk, pairLimit}
 use Rattle.logic.specs.Rules.{Rule, REFL, CONG, TRANS, BIND, LET, ruleOf}
 use Rattle.logic.specs.WellFormed.{StartsList, Lower}
 
@@ -43,10 +46,9 @@ pub record Replaces (b : Bundle) (Δ : ℕ) (xs : List ℕ) (ts : Terms) (Γ : �
 
 -- In context Γ, left is right, by a rule from premises.
 pub data Instance (b : Bundle) (rule : Rule) (Γ : ℕ) (left right : Term) (premises : List ℕ) : Type 0 where
-  -- REFL: left and right are the same term and it is settled;
-  refl-same : rule ≡ REFL → premises ≡ [] → left ≡ right → Settled b Γ left → Instance b rule Γ left right premises
-  -- or left is a variable and right its image.
-  refl-image : rule ≡ REFL → premises ≡ [] → (x : ℕ) → left ≡ var x → right ≡ imageTree b Γ x → Instance b rule Γ left right premises
+  -- REFL: right is the capture-avoiding replacement of left, each free variable by its image, up to the names of binders inside left (Req 04).
+  -- Document 01's two forms are cases of it: `ReflForms` (Statements.antt).
+  by-refl : rule ≡ REFL → premises ≡ [] → Replacement b (imageTree b Γ) left right → Instance b rule Γ left right premises
   -- CONG: same symbol, premises in the step's context, one for each argument in order.
   by-cong : rule ≡ CONG → (f : ℕ) (ts us : Terms) → left ≡ app f ts → right ≡ app f us → SayAll b Γ ts us premises
       → Instance b rule Γ left right premises
@@ -86,11 +88,20 @@ pub record LetAsPrinted (b : Bundle) (Γ : ℕ) (left right : Term) (premises : 
   pub replacing : Replaces b inner variables carried Γ
   pub side : AllSettled b Γ carried
 
+-- Document 01's two forms of REFL: left and right are the same term and it is settled; or left is a variable and right its image.
+abbrev pub ReflForm : Bundle → ℕ → Term → Term → Type 0
+ReflForm b Γ left right = ((left ≡ right) × Settled b Γ left) ⊎ ((x : ℕ) × (left ≡ var x) × (right ≡ imageTree b Γ x))
+
+-- A REFL is of one of these forms, or else its walk visits at most 4,096 pairs.
+abbrev pub PairsSuffice : Bundle → Rule → Step → Type 0
+PairsSuffice b rule s =
+    rule ≡ REFL → ReflForm b (s .context) (tree b (s .left)) (tree b (s .right)) ⊎ (reflWalk b s .pairs ≤ pairLimit)
+
 -- both sides of step p are terms
 abbrev pub SidesAreTerms : Bundle → ℕ → Type 0
 SidesAreTerms b p = Number (length (b .terms)) (stepOf b p .left) × Number (length (b .terms)) (stepOf b p .right)
 
--- Step: rule, context, left, right, list of premises, which are earlier steps; and it is an instance of its rule.
+-- Step: rule, context, left, right, list of premises, which are earlier steps; and it is an instance of its rule, within the pairs of a walk.
 pub record StepHolds (b : Bundle) (k : ℕ) : Type 0 where
   pub context : stepOf b k .context ≤ length (b .contexts)
   pub left : Number (length (b .terms)) (stepOf b k .left)
@@ -99,3 +110,4 @@ pub record StepHolds (b : Bundle) (k : ℕ) : Type 0 where
   pub earlier : All (Lower k) (items b (stepOf b k .premises))
   pub «instance» : Instance b (ruleOf (stepOf b k .rule)) (stepOf b k .context) (tree b (stepOf b k .left)) (tree b (stepOf b k .right))
       (items b (stepOf b k .premises))
+  pub pairs : PairsSuffice b (ruleOf (stepOf b k .rule)) (stepOf b k)

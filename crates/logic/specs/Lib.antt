@@ -11,8 +11,11 @@
 --     Distinct     the statement that different numbers stand for different terms
 --     Contexts     images, moved variables, settled terms; checks 10 and 11
 --     Readings     what the tests of a step read besides the records
---     Rules        the five rules as tests on record numbers; checks 12, 13 and 14
+--     ReflWalk     the walk of whole-term REFL over pairs of records, with the number of pairs that it visits
+--     Rules        the five rules as tests on record numbers; checks 12, 21, 13 and 14
 --     WellFormed   what document 01 says of the header, the tables and the contexts, in propositions
+--     Nameless     terms without the names of their binders
+--     Replacement  CAPTURE-AVOIDING REPLACEMENT, up to the names of binders; terms that are the same up to names
 --     Instance     THE RULES AS PRINTED: steps that are instances of REFL, CONG, TRANS, BIND or LET
 --     Values       worlds, valuations, and the value of a term
 --     Meanings     what values mean: document 01's sentences, and that worlds exist, as types
@@ -31,8 +34,11 @@ pub mod Checks
 pub mod Distinct
 pub mod Contexts
 pub mod Readings
+pub mod ReflWalk
 pub mod Rules
 pub mod WellFormed
+pub mod Nameless
+pub mod Replacement
 pub mod Instance
 pub mod Values
 pub mod Meanings

@@ -1,6 +1,6 @@
--- The five rules as tests on record numbers, and checks 12, 13 and 14 of a step. A test whose name ends in `By` is over a reading, of which it
+-- The five rules as tests on record numbers, and checks 12, 21, 13 and 14 of a step. A test whose name ends in `By` is over a reading, of which it
 -- takes what it needs; under the plain name stands the same test at the bundle's own reading.
-use Prim.Native.Nat.{ℕ, _+_, _-_}
+use Prim.Native.Nat.{ℕ, zero, suc, _+_, _-_}
 use mathlib.Core.Bool.{Bool, true, false, cond, not, _&&_, _||_}
 use mathlib.Core.List.{List, [], _∷_, _++_}
 use lib.ListN.{length}
@@ -18,6 +18,7 @@ use Rattle.logic.specs.Free.{freeAt}
 use Rattle.logic.specs.Checks.{startsList}
 use Rattle.logic.specs.Contexts.{image, isVariable, settled}
 use Rattle.logic.specs.Readings.{Reading, readingOf}
+use Rattle.logic.specs.ReflWalk.{pairWalkBy, reflWalkBy, pairLimit}
 
 -- Rules: 1 REFL, 2 CONG, 3 TRANS, 4 BIND, 5 LET.
 pub data Rule : Type 0 where
@@ -58,7 +59,8 @@ walkBy step body c (l ∷ ls) [] ps = record { passes = false; links = 0 }
 walkBy step body c (l ∷ ls) (r ∷ rs) [] = record { passes = false; links = 0 }
 walkBy step body c (l ∷ ls) (r ∷ rs) (p ∷ ps) = threeThen (carries (step p) c l r) (walkBy step body c ls rs ps)
 
--- ---- REFL: left and right are the same term and it is settled; or left is a variable and right its image.
+-- ---- REFL: right is the capture-avoiding replacement of left, up to the names of binders inside left (Req 04). Document 01's two forms are tried
+-- before and take no pairs: left and right are the same term and it is settled; or left is a variable and right its image.
 
 -- right is the image that the term left, a variable, has
 unfoldable pub isImage : Image → ℕ → ℕ → Bool
@@ -74,6 +76,24 @@ reflHoldsBy settled image b s =
 unfoldable pub reflHolds : Bundle → Step → Bool
 unfolding reflHoldsBy settled isImage image
 reflHolds b = reflHoldsBy (settled b) (image b) b
+
+-- the rest is walked: a walk that fails is refused 13
+unfoldable pub reflMatchesBy : Reading → Bundle → Step → Bool
+unfolding reflHoldsBy pairWalkBy
+reflMatchesBy g b s = reflHoldsBy (g .settled) (g .image) b s || reflWalkBy (g .free) (g .image) b s .same
+
+unfoldable pub reflMatches : Bundle → Step → Bool
+unfolding reflMatchesBy reflHolds
+reflMatches b = reflMatchesBy (readingOf b) b
+
+-- 21 exactly where the definition would visit more than 4,096 pairs
+unfoldable pub reflSufficesBy : Reading → Bundle → Step → Bool
+unfolding reflHoldsBy pairWalkBy
+reflSufficesBy g b s = reflHoldsBy (g .settled) (g .image) b s || leb (reflWalkBy (g .free) (g .image) b s .pairs) pairLimit
+
+unfoldable pub reflSuffices : Bundle → Step → Bool
+unfolding reflSufficesBy reflHolds
+reflSuffices b = reflSufficesBy (readingOf b) b
 
 -- ---- CONG: same symbol, premises in the step's context, one for each argument in order.
 
@@ -277,10 +297,28 @@ unfoldable pub stepRefers : Bundle → ℕ → Bool
 unfolding refersBy
 stepRefers b k = refersBy b (k - 1) (stepOf b k)
 
+-- 21, spent: a REFL is walked over more pairs than there may be
+unfoldable pub sufficesBy : Reading → Bundle → Rule → Step → Bool
+unfolding reflSufficesBy
+sufficesBy g b REFL s = reflSufficesBy g b s
+sufficesBy g b CONG s = true
+sufficesBy g b TRANS s = true
+sufficesBy g b BIND s = true
+sufficesBy g b LET s = true
+sufficesBy g b noRule s = true
+
+unfoldable pub sufficesAs : Bundle → Rule → Step → Bool
+unfolding sufficesBy reflSuffices
+sufficesAs b = sufficesBy (readingOf b) b
+
+unfoldable pub suffices : Bundle → ℕ → Bool
+unfolding sufficesAs ruleOf
+suffices b k = sufficesAs b (ruleOf (stepOf b k .rule)) (stepOf b k)
+
 -- 13: any other mismatch with its rule
 unfoldable pub matchesBy : Reading → Bundle → Rule → Step → Bool
-unfolding reflHoldsBy congTestsBy transTestsBy bindTermsBy bindContextsBy letTestsBy passed
-matchesBy g b REFL s = reflHoldsBy (g .settled) (g .image) b s
+unfolding reflMatchesBy congTestsBy transTestsBy bindTermsBy bindContextsBy letTestsBy passed
+matchesBy g b REFL s = reflMatchesBy g b s
 matchesBy g b CONG s = passed (congTestsBy (g .step) b s)
 matchesBy g b TRANS s = passed (transTestsBy (g .step) b s)
 matchesBy g b BIND s = passed (bindTermsBy (g .step) b s) && passed (bindContextsBy (g .step) b s)
@@ -288,7 +326,7 @@ matchesBy g b LET s = passed (letTestsBy (g .step) b s)
 matchesBy g b noRule s = false
 
 unfoldable pub matchesAs : Bundle → Rule → Step → Bool
-unfolding matchesBy isBinder reflHolds congTests transTests bindTerms bindContexts letTests passed
+unfolding matchesBy isBinder reflMatches congTests transTests bindTerms bindContexts letTests passed
 matchesAs b = matchesBy (readingOf b) b
 
 unfoldable pub matches : Bundle → ℕ → Bool
@@ -313,9 +351,10 @@ unfoldable pub sides : Bundle → ℕ → Bool
 unfolding sidesAs ruleOf
 sides b k = sidesAs b (ruleOf (stepOf b k .rule)) (stepOf b k)
 
--- the tests of a step s after n others, in the order of their numbers
+-- the tests of a step s after n others, in their order
 abbrev pub ruleTestsBy : Reading → Bundle → Step → List Test
-ruleTestsBy g b s = test 13 (matchesBy g b (ruleOf (s .rule)) s) ∷ test 14 (sidesBy g b (ruleOf (s .rule)) s) ∷ []
+ruleTestsBy g b s =
+    test 21 (sufficesBy g b (ruleOf (s .rule)) s) ∷ test 13 (matchesBy g b (ruleOf (s .rule)) s) ∷ test 14 (sidesBy g b (ruleOf (s .rule)) s) ∷ []
 
 abbrev pub stepTestsBy : Reading → Bundle → ℕ → Step → List Test
 stepTestsBy g b n s = test 12 (refersBy b n s) ∷ ruleTestsBy g b s
@@ -326,10 +365,10 @@ stepFaultBy g b n s = firstFailing (stepTestsBy g b n s)
 
 -- the same of step k
 abbrev pub stepTests : Bundle → ℕ → List Test
-stepTests b k = test 12 (stepRefers b k) ∷ test 13 (matches b k) ∷ test 14 (sides b k) ∷ []
+stepTests b k = test 12 (stepRefers b k) ∷ test 21 (suffices b k) ∷ test 13 (matches b k) ∷ test 14 (sides b k) ∷ []
 
 unfoldable pub stepFault : Bundle → ℕ → ℕ
-unfolding stepFaultBy firstFailing stepRefers matches sides
+unfolding stepFaultBy firstFailing stepRefers suffices matches sides
 stepFault b k = firstFailing (stepTests b k)
 
 -- what is wrong with a step that comes after all those of a bundle
@@ -340,3 +379,30 @@ nextFault b s = stepFaultBy (readingOf b) b (length (b .steps)) s
 unfoldable pub stepsFault : Bundle → Fault
 unfolding firstFault stepFault
 stepsFault b = firstFault (stepFault b) (length (b .steps))
+
+-- ---- the pairs that the answer gives
+
+-- a REFL that neither of document 01's two forms takes: it is walked
+unfoldable pub walkedBy : Reading → Bundle → Step → Bool
+unfolding reflHoldsBy
+walkedBy g b s = eqb (s .rule) 1 && not (reflHoldsBy (g .settled) (g .image) b s)
+
+-- the number of pairs that a step's walk visits, 0 where it is not walked
+unfoldable pub pairsBy : Reading → Bundle → Step → ℕ
+unfolding walkedBy pairWalkBy
+pairsBy g b s = cond (walkedBy g b s) (reflWalkBy (g .free) (g .image) b s .pairs) 0
+
+-- step k is walked, over so many pairs
+unfoldable pub walked : Bundle → ℕ → Bool
+unfolding walkedBy
+walked b k = walkedBy (readingOf b) b (stepOf b k)
+
+unfoldable pub walkedPairs : Bundle → ℕ → ℕ
+unfolding pairsBy walked
+walkedPairs b k = pairsBy (readingOf b) b (stepOf b k)
+
+-- the number of pairs of the last REFL walked of the steps 1 to k, 0 if none was
+unfoldable pub lastPairs : Bundle → ℕ → ℕ
+unfolding walked walkedPairs
+lastPairs b zero = 0
+lastPairs b (suc k) = cond (walked b (suc k)) (walkedPairs b (suc k)) (lastPairs b k)

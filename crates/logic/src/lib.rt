@@ -1,6 +1,7 @@
 // Types that the definitions and the code of the checks share. The matter of this crate is in specs/ and proofs/.
 ghost use mathlib.Core.Path.{_≡_};
 ghost use Rattle.logic.specs.Tests.{fault};
+ghost use Rattle.logic.specs.ReflWalk.{pairLimit};
 
 pub mod kinds; // kinds.rt: the kinds of terms and of contexts
 pub mod rules; // rules.rt: the rules
@@ -42,6 +43,23 @@ pub enum Mention {
 pub enum Image {
     Own,
     Gives(usize),
+}
+
+// The most pairs that a walk of whole-term REFL may visit.
+pub const PAIR_LIMIT: usize = 4096;
+
+// Ties it to that in specs/.
+fn pair_limit() -> usize
+    ensures { λ r. ⌜ r ≡ pairLimit ⌝ }
+{
+    PAIR_LIMIT
+}
+
+// How a walk ended that may visit so many pairs and no more: with no difference, or at one, with so many pairs left; or the pairs did not suffice.
+pub enum Limited {
+    Same(usize),
+    Different(usize),
+    Spent,
 }
 
 // Nothing is wrong.

@@ -19,12 +19,13 @@ use native.Mathlib.Nat.{mod-lt, div-add-mod}
 use lib.ListN.{length, take}
 use Rattle.bundle.specs.Limits.{limits, headerWords, bytesOf}
 use Rattle.bundle.specs.File.{bundleOf}
+use Rattle.judgement.specs.declared.Acceptance.{Acceptance}
 use Rattle.judgement.specs.declared.Answer.{Answer}
 use Rattle.judgement.specs.declared.Answer.the-variants.{Accepted, Refused}
 use Rattle.judgement.specs.Judge.{judge}
-use Rattle.judgement.proofs.Sizes.{refused-small}
+use Rattle.judgement.proofs.Sizes.{lastNumber, refused-small}
 use Rattle.judgement.proofs.Accepting.{refused-where}
-use Rattle.judgement.proofs.Demands.{refused-exactly, accepted-exactly, accepted-sound}
+use Rattle.judgement.proofs.Demands.{refused-exactly, accepted-exactly, accepted-sound, accepted-pairs}
 use Rattle.expansion.specs.declared.Answer.{Answer as Reply}
 use Rattle.expansion.specs.declared.Answer.the-variants.{Written, Refused as Denied}
 use Rattle.expansion.specs.Visit.{expanded}
@@ -65,23 +66,31 @@ unfolding packed
 check-number f m = go (judge f m) refl
   where
     go : (a : Answer) → judge f m ≡ a → CheckSays f m (packed a)
-    go (Accepted a) e = record {
-      accepted = (λ z. accepted-exactly f m a .0 e .0, λ h. refl);
-      other = λ ne. absurd (ne refl);
-      refused = λ n i. (
-        λ t. absurd (omega (arith, t .number, t .sum)),
-        λ h.
-            let q : judge f m ≡ Refused n i = refused-exactly f m n i .1 h in
-            let z : _≡_ {A = ℕ} 0 1 = cc in
-            omega arith,
-      );
-    }
+    go (Accepted a) e =
+        let (last, few) = accepted-pairs f m a e in
+        record {
+          accepted = (λ l. accepted-exactly f m a .0 e .0, λ h. omega (arith, few));
+          pairs = λ l. (last, few);
+          refused = λ n i. (
+            λ t. absurd (omega (arith, t .number, t .sum, few)),
+            λ h.
+                let q : judge f m ≡ Refused n i = refused-exactly f m n i .1 h in
+                let z : _≡_ {A = ℕ} 0 1 = cc in
+                omega arith,
+          );
+        }
     go (Refused k j) e =
         let some : 1 ≤ k = refused-where f m k j .0 e .0 in
         let small = refused-small f m k j e in
         record {
-          accepted = (λ z. absurd (omega arith), λ h. let q : judge f m ≡ Accepted _ = accepted-exactly f m _ .1 (h, refl) in cc);
-          other = λ ne. omega arith;
+          accepted = (
+            λ l. absurd (omega arith),
+            λ h.
+                let q : judge f m ≡ Accepted _ = accepted-exactly f m _ .1 (h, refl) in
+                let z : _≡_ {A = ℕ} 0 1 = cc in
+                omega arith,
+          );
+          pairs = λ l. absurd (omega arith);
           refused = λ n i. (
             λ t. let same = tells-exactly k j n i some (omega arith) .0 t in refused-exactly f m n i .0 (cc),
             λ h. let q = refused-exactly f m n i .1 h in tells-exactly k j n i some (omega arith) .1 (cc, cc),
@@ -178,7 +187,7 @@ read-number f text out words sets short = go (reading f text out words sets .ans
 
 -- ---- both answers fit a word of 64 bits
 
-fits-word : (a : Reply) → ((n : ℕ) → a ≡ Written n → n ≤ bytesOf limits) → ((n i : ℕ) → a ≡ Denied n i → (n ≤ 20) × (i ≤ 9223372036854775807))
+fits-word : (a : Reply) → ((n : ℕ) → a ≡ Written n → n ≤ bytesOf limits) → ((n i : ℕ) → a ≡ Denied n i → (n ≤ lastNumber) × (i ≤ 9223372036854775807))
     → packedReply a ≤ 18446744073709551615
 unfolding packedReply headerWords
 fits-word (Written n) short small = omega (arith, short n refl)
@@ -246,8 +255,13 @@ exported-read-zeros f text out words sets out′ words′ sets′ r =
 -- ---- demand 3
 
 exported-equal : ExportedEqual
-exported-equal file free r e zero =
-    accepted-sound file _ _ (accepted-exactly file (length free) _ .1 (check-number file _ .accepted .0 (sym e ∙ zero), refl))
+exported-equal file free r e low =
+    accepted-sound file _ _ (accepted-exactly file (length free) _ .1 (check-number file _ .accepted .0 (omega (arith, e, low)), refl))
+
+-- an accepted file's number is that of its pairs
+accepted-low : (f : List ℕ) (m : ℕ) (s : Acceptance) (a : ℕ) → judge f m ≡ Accepted s → a ≡ packed (judge f m) → a < 4294967296
+unfolding packed
+accepted-low f m s a q e = let is : a ≡ s .pairs = e ∙ ap packed q in omega (arith, is, accepted-pairs f m s q .1)
 
 exported-accepted : ExportedAccepted
 unfolding packed packedReply
@@ -256,7 +270,7 @@ exported-accepted job out words sets out′ words′ sets′ r bytes formed clos
     let says : ExpandSays job (length out) (length words) (length sets) r = rw (left .answer) (expand-number job _ _ _) in
     let same : r ≡ w .0 = left .answer ∙ ap packedReply (w .1) in
     let well : WrittenWell job (take r out′) = rw (same, left .output) (w .2) in
-    (says .written .1 (formed, closed, fits, long), λ free a room e. e ∙ ap packed (well .accepted _ room), well)
+    (says .written .1 (formed, closed, fits, long), λ free a room e. accepted-low _ _ _ a (well .accepted _ room) e, well)
 
 pub exported-demand-three : ExportedDemandThree
 exported-demand-three = (exported-equal, exported-accepted)
@@ -290,5 +304,5 @@ exported-read-expanded f text out words sets out₁ words₁ sets₁ r bytes lef
           let same : q ≡ w .0 = after .answer ∙ ap packedReply (w .1) in
           let right : RuleExpanded f φ (take q out₃) = rw (same, after .output) (w .2) in
           let small : q < 4294967296 = omega (arith, same, file-short job _ _ _ (w .0) (w .1)) in
-          (small, (λ free a room e. e ∙ ap packed (right .accepted _ room)), right),
+          (small, (λ free a room e. accepted-low _ _ _ a (right .accepted _ room) e), right),
     )

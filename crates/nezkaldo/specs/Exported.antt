@@ -10,6 +10,8 @@ use Rattle.bundle.specs.File.{countsOf, bundleOf}
 use Rattle.logic.specs.Terms.{tree}
 use Rattle.logic.specs.Free.{Closed}
 use Rattle.logic.specs.Values.{EqualValues}
+use Rattle.logic.specs.ReflWalk.{pairLimit}
+use Rattle.logic.specs.Statements.{LastWalked}
 use Rattle.judgement.specs.Judge.{judge}
 use Rattle.judgement.specs.Order.{allChecks, FirstFailing}
 use Rattle.judgement.specs.Demands.{Acceptable}
@@ -42,13 +44,13 @@ TellsOne =
 
 -- ---- what `nezkaldo_check` answers to the file f where m words are lent
 
--- The answer is number and record.
+-- The answer is a number of pairs, or number and record.
 pub record CheckSays (f : List ℕ) (m p : ℕ) : Type 0 where
-  -- 0 exactly where the file is acceptable;
-  pub accepted : (p ≡ 0) ↔ Acceptable f m
-  -- any other answer is at least 2^32, so that it tells of exactly one number and record,
-  pub other : (p ≡ 0 → ⊥) → 4294967296 ≤ p
-  -- which are those of the first check of document 01 that fails
+  -- less than 2^32 exactly where the file is acceptable;
+  pub accepted : (p < 4294967296) ↔ Acceptable f m
+  -- then it is the number of pairs of the last REFL walked of all steps, 0 if none was, at most 4,096;
+  pub pairs : p < 4294967296 → LastWalked (bundleOf f) (length (bundleOf f .steps)) p × (p ≤ pairLimit)
+  -- any other answer tells of the number and record of the first check of document 01 that fails
   pub refused : (n i : ℕ) → Tells p n i ↔ FirstFailing (allChecks f m) n i
 
 abbrev pub CheckNumber : Type 0
@@ -124,22 +126,23 @@ ExportedReadZeros =
 
 -- ---- DEMAND 3 over these numbers
 
--- Where `nezkaldo_check` answers 0, both sides of the claim have equal value in every finite world, under every valuation. `r` is what it answers.
+-- Where `nezkaldo_check` answers less than 2^32, both sides of the claim have equal value in every finite world, under every valuation. `r` is what it
+-- answers.
 abbrev pub ExportedEqual : Type 0
 ExportedEqual =
-    (file free : List ℕ) (r : ℕ) → r ≡ packed (judge file (length free)) → r ≡ 0
+    (file free : List ℕ) (r : ℕ) → r ≡ packed (judge file (length free)) → r < 4294967296
     → EqualValues (bundleOf file) (bundleOf file .left) (bundleOf file .right)
 
 -- For every well-formed closed job whose derivation fits, with long enough areas, whatever stood in them (out, words, sets): if `nezkaldo_expand`
--- answers `r` and leaves out′, words′ and sets′, then r is less than 2^32, `nezkaldo_check` answers 0 to the first r bytes of out′ with an area for
--- their T, and they are as they are to be: left is the rule, right holds no let, both have equal value in every world.
+-- answers `r` and leaves out′, words′ and sets′, then r is less than 2^32, `nezkaldo_check` accepts the first r bytes of out′ with an area for
+-- their T: its answer is less than 2^32; and they are as they are to be: left is the rule, right holds no let, both have equal value in every world.
 abbrev pub ExportedAccepted : Type 0
 ExportedAccepted =
     (job out words sets out′ words′ sets′ : List ℕ) (r : ℕ)
     → Bytes job → JobFormed job → Closed (tree (bundleOf job) (bundleOf job .left)) → Fits job → LongEnough (length out) (length words) (length sets)
     → Leaves (expansion job (length out) (length words) (length sets)) r out′ words′ sets′
     → (r < 4294967296)
-    × ((free : List ℕ) (a : ℕ) → setWords * countsOf (take r out′) .terms ≤ length free → a ≡ packed (judge (take r out′) (length free)) → a ≡ 0)
+    × ((free : List ℕ) (a : ℕ) → setWords * countsOf (take r out′) .terms ≤ length free → a ≡ packed (judge (take r out′) (length free)) → a < 4294967296)
     × WrittenWell job (take r out′)
 
 abbrev pub ExportedDemandThree : Type 0
@@ -149,7 +152,7 @@ ExportedDemandThree = ExportedEqual × ExportedAccepted
 
 -- If `nezkaldo_read` answers r, less than 2^32, to a text beside declarations, then the text spells one formula φ, and the first r bytes g of the output
 -- are the job of it. Where φ is closed and the derivation of g fits: if `nezkaldo_expand` answers q to g, with long enough areas, whatever stood in
--- them, then q is less than 2^32, `nezkaldo_check` answers 0 to the first q bytes of its output with an area for their T, and they are as they are to
+-- them, then q is less than 2^32, `nezkaldo_check` answers less than 2^32 to the first q bytes of its output with an area for their T, and they are as they are to
 -- be: left is the formula, right holds no let, both have equal value in every world.
 abbrev pub ExportedReadExpanded : Type 0
 ExportedReadExpanded =
@@ -163,5 +166,5 @@ ExportedReadExpanded =
     → Closed (plain (bundleOf declarations) φ) → Fits (take r out₁) → LongEnough (length out₂) (length words₂) (length sets₂)
     → Leaves (expansion (take r out₁) (length out₂) (length words₂) (length sets₂)) q out₃ words₃ sets₃
     → (q < 4294967296)
-    × ((free : List ℕ) (a : ℕ) → setWords * countsOf (take q out₃) .terms ≤ length free → a ≡ packed (judge (take q out₃) (length free)) → a ≡ 0)
+    × ((free : List ℕ) (a : ℕ) → setWords * countsOf (take q out₃) .terms ≤ length free → a ≡ packed (judge (take q out₃) (length free)) → a < 4294967296)
     × RuleExpanded declarations φ (take q out₃))

@@ -16,8 +16,8 @@ fn pack(number: usize, place: usize) -> u64
     4294967296 * (number as u64) + place as u64
 }
 
-// Checks a file: 0 where it is accepted, else number · 2^32 + record of the first check that fails. The lent area then holds the free sets
-// of the file's terms and zeros after them, or zeros.
+// Checks a file: the number of pairs of the last REFL walked, less than 2^32, where it is accepted, else number · 2^32 + record of the first check that
+// fails. The lent area then holds the free sets of the file's terms and zeros after them, or zeros.
 #[no_mangle]
 pub extern "C" fn nezkaldo_check(file: &[u8], free: &mut [u64]) -> u64
     ensures { λ r. ⌜ r ≡ packed (judge (now (file .entry)) (length (now (free .entry)))) ⌝ }
@@ -25,7 +25,7 @@ pub extern "C" fn nezkaldo_check(file: &[u8], free: &mut [u64]) -> u64
 {
     let answer = checker::check(file, free);
     match answer {
-        Answer::Accepted(_) => 0,
+        Answer::Accepted(acceptance) => acceptance.pairs as u64,
         Answer::Refused { number, record } => pack(number, record),
     }
 }

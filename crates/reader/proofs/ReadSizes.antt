@@ -16,7 +16,7 @@ use Rattle.logic.specs.Tests.{firstFailing, fault, orElse, orNext}
 use Rattle.logic.specs.Checks.{headerFault, linksFault, symbolsFault, variablesFault, termsFault, sectionsFault, tablesFault}
 use Rattle.judgement.specs.Order.{FirstFailing}
 use Rattle.judgement.proofs.Order.{first-fails, failing-number}
-use Rattle.judgement.proofs.Sizes.{SmallFault, failing-le, none-small, else-small, tables-small}
+use Rattle.judgement.proofs.Sizes.{lastNumber, SmallFault, failing-le, none-small, else-small, tables-small}
 use Rattle.expansion.specs.declared.Answer.the-variants.{Written, Refused}
 use Rattle.expansion.specs.File.{countsIn, fileOf}
 use Rattle.expansion.specs.Expansion.{Outcome, longEnough}
@@ -72,7 +72,7 @@ unread-low : (text : List ℕ) (n : ℕ) → Unread text n → n ≤ length text
 unread-low text n (breaks l c d) = omega arith
 unread-low text n (stops c d) = omega arith
 
-answered-small : (b : Bundle) (text : List ℕ) (a : Answer) → Answered b text a → (m i : ℕ) → a ≡ refused m i → (1 ≤ m) × (m ≤ 20) × (i ≤ length text)
+answered-small : (b : Bundle) (text : List ℕ) (a : Answer) → Answered b text a → (m i : ℕ) → a ≡ refused m i → (1 ≤ m) × (m ≤ lastNumber) × (i ≤ length text)
 answered-small b text a (unread {n} u k) m i e =
     let same : 19 ≡ m = cc in
     let place : n ≡ i = cc in
@@ -96,11 +96,11 @@ answered-small b text a (read φ r fit) m i e = let z : _≡_ {A = ℕ} 0 1 = cc
 -- ---- both
 
 pub refused-reading-small : (f text : List ℕ) (out words sets n i : ℕ) → reading f text out words sets .answer ≡ Refused n i
-    → (1 ≤ n) × (n ≤ 20) × ((k : ℕ) → limits .links ≤ k → length text ≤ k → i ≤ k)
+    → (1 ≤ n) × (n ≤ lastNumber) × ((k : ℕ) → limits .links ≤ k → length text ≤ k → i ≤ k)
 refused-reading-small f text out words sets n i e = go (refused-exactly f text out words sets n i .0 e)
   where
     go : FirstFailing (declarationChecks f out words sets) n i ⊎ (DeclarationsFormed f × LongEnough out words sets × Answered (bundleOf f) text (refused n i))
-        → (1 ≤ n) × (n ≤ 20) × ((k : ℕ) → limits .links ≤ k → length text ≤ k → i ≤ k)
+        → (1 ≤ n) × (n ≤ lastNumber) × ((k : ℕ) → limits .links ≤ k → length text ≤ k → i ≤ k)
     go (inl h) =
         let is : declarationsFault f out words sets ≡ fault n i =
         sym (declarations-find f out words sets .first) ∙ first-fails (declarationChecks f out words sets) n i h in

@@ -1,4 +1,4 @@
-// What a refusal by 13 or 14 means: a step that is no instance of its rule, or a side that fails.
+// What a refusal by 13, 14 or 21 means: a step that is no instance of its rule, a side that fails, or a REFL whose walk is too long.
 // Each function goes through the tests of its rule, up to the first that fails; where only one is left, it is that one.
 ghost use Rattle.bundle.specs.File.{Whole};
 use bundle::Bundle;
@@ -15,17 +15,8 @@ use logic::rules::LET;
 use logic::rules::REFL;
 use logic::rules::TRANS;
 use show_text::out;
-
-fn false_refl(context: usize, left: usize, right: usize) {
-    if left == right {
-        out::name(b" is REFL, and t", left);
-        out::name(b" has a free variable that is moved in c", context);
-    } else {
-        out::name(b" is REFL, and t", left);
-        out::name(b" is no variable whose image in c", context);
-        out::name(b" is t", right);
-    }
-}
+use show_walks::sentences::failed_walk;
+use show_walks::sentences::spent_walk;
 
 fn false_cong(file: &[u8], b: Bundle, context: usize, left: usize, right: usize)
     requires { ⌜ Whole (now file) b ⌝ }
@@ -98,7 +89,7 @@ pub fn false_step(file: &[u8], b: Bundle, k: usize)
     let right = step_field(file, b, k, 3);
     out::name(b"step ", k);
     match rule {
-        REFL => false_refl(context, left, right),
+        REFL => failed_walk(file, b, context, left, right),
         CONG => false_cong(file, b, context, left, right),
         BIND => false_bind(file, b, context, left, right),
         LET => false_let(file, b, context, left, right),
@@ -131,4 +122,14 @@ pub fn failed_side(file: &[u8], b: Bundle, k: usize)
         out::name(b", or in the image in c", context);
         out::text(b" of a variable free there");
     }
+}
+
+// 21: a REFL that would visit too many pairs.
+pub fn spent_step(file: &[u8], b: Bundle, k: usize)
+    requires { ⌜ Whole (now file) b ⌝ }
+{
+    let left = step_field(file, b, k, 2);
+    let right = step_field(file, b, k, 3);
+    out::name(b"step ", k);
+    spent_walk(left, right);
 }

@@ -1,4 +1,4 @@
-// What a refusal by 12 to 15 means, in one sentence, and the sentence for every number.
+// What a refusal by 12 to 15 or 21 means, in one sentence, and the sentence for every number.
 // Each function goes through the tests of its check, up to the first that fails; where only one is left, it is that one.
 ghost use Rattle.bundle.specs.File.{Whole};
 use bundle::Bundle;
@@ -10,6 +10,7 @@ use logic::rules::RULES;
 use logic::rules::TRANS;
 use show_rules::failures::failed_side;
 use show_rules::failures::false_step;
+use show_rules::failures::spent_step;
 use show_tables::tables::bad_link;
 use show_tables::tables::bad_sort;
 use show_tables::tables::before;
@@ -105,6 +106,7 @@ pub fn sentence(file: &[u8], b: Bundle, left: usize, right: usize, number: usize
         13 => false_step(file, b, record),
         14 => failed_side(file, b, record),
         15 => other_claim(file, b, left, right),
+        21 => spent_step(file, b, record),
         _ => out::text(b"the area lent to the checker is too short"),
     }
 }

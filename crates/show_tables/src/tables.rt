@@ -7,7 +7,7 @@ use bundle::records::symbol_field;
 use bundle::records::variable_sort;
 use show_text::out;
 
-// The words are document 01's, as it prints them.
+// The words are document 01's, as it prints them, and document 02's for 21.
 pub fn word(number: usize) {
     match number {
         1 => out::text(b"short"),
@@ -24,6 +24,7 @@ pub fn word(number: usize) {
         12 => out::text(b"bad step"),
         13 => out::text(b"false step"),
         14 => out::text(b"captured"),
+        21 => out::text(b"spent"),
         _ => out::text(b"other claim"),
     }
 }

@@ -17,20 +17,17 @@ same-length c = search needs
 
 returns : tie.Need-returns
 returns c =
-    let w = c .before .before in
-    let t = w .before .before in
-    let f = t .before .before .before .before in (
-      answer-refused _ _ _ (f .fault-of .ensures .0) (t .if1 .taken),
-      area-zeros _ _ _ (f .fault-of .ensures .0) _ _ (t .if1 .taken) (search needs) (w .clear .ensures),
+    let f = c .before .before .before .before .before .before .before .before .before .fault-of in
+    let taken = c .before .before .before .before .if1 .taken in (
+      answer-refused _ _ _ (f .ensures .0 .fault) taken,
+      area-zeros _ _ _ (f .ensures .0 .fault) _ _ taken (search needs) (c .before .before .clear .ensures),
     )
 
 claim-left-requires : tie.Need-claim-left-requires
-claim-left-requires c κs = omega (arith, header-there _ _ _ (c .before .before .before .before .fault-of .ensures .0) (c .if1 .left))
+claim-left-requires c κs = omega (arith, header-there _ _ _ (c .before .before .before .before .before .fault-of .ensures .0 .fault) (c .if1 .left))
 
 claim-right-requires : tie.Need-claim-right-requires
-claim-right-requires c κs =
-    let e = c .before in
-    header-there _ _ _ (e .before .before .before .before .fault-of .ensures .0) (e .if1 .left)
+claim-right-requires c κs = header-there _ _ _ (c .before .before .before .before .before .before .fault-of .ensures .0 .fault) (c .before .if1 .left)
 
 same-length-2 : tie.Need-same-length-2
 same-length-2 c = search needs
@@ -38,10 +35,10 @@ same-length-2 c = search needs
 returns-2 : tie.Need-returns-2
 unfolding bundleOf
 returns-2 c =
-    let e = c .before .before in
-    let f = e .before .before .before .before in (
-      answer-accepted _ _ _ (f .fault-of .ensures .0) (e .if1 .left) _ _ (c .before .claim-left .ensures .0) (c .claim-right .ensures .0),
-      area-free _ _ _ (f .fault-of .ensures .0) (e .if1 .left) _ (f .fault-of .ensures .1 (e .if1 .left)),
+    let f = c .before .before .before .before .before .before .before .fault-of .ensures in
+    let none = c .before .before .if1 .left in (
+      answer-accepted _ _ _ (f .0 .fault) none _ _ _ (c .before .claim-left .ensures .0) (c .claim-right .ensures .0) (f .0 .pairs none),
+      area-free _ _ _ (f .0 .fault) none _ (f .1 none),
     )
 
 pub check-spec : {M : Type 1} → statement M

@@ -51,8 +51,13 @@ header-fault-requires c κs = search needs
 
 returns : tie.Need-returns
 returns c =
-    let h = c .before in
-    (header-refused _ _ (rw (← h .before .lent-for .ensures) (h .header-fault .ensures)) (c .if1 .taken), λ z. absurd (c .if1 .taken z))
+    let h = c .before in (
+      record {
+        fault = header-refused _ _ (rw (← h .before .lent-for .ensures) (h .header-fault .ensures)) (c .if1 .taken);
+        pairs = λ z. absurd (c .if1 .taken z);
+      },
+      λ z. absurd (c .if1 .taken z),
+    )
 
 -- past the test of the header
 none : (c : tie.Else1)
@@ -89,8 +94,13 @@ same-length c = search needs
 returns-2 : tie.Need-returns-2
 returns-2 c =
     let s = c .before .before .sorted-fault .ensures in
-    let n = c .before .before .before .before .before .before .before .before .before .before in
-    (s .0 ∙ later _ _ (none (n .before)) (n .counts .ensures), λ z. rw (← bundle-is _ (n .counts .ensures)) (s .1 z))
+    let n = c .before .before .before .before .before .before .before .before .before .before in (
+      record {
+        fault = s .0 .fault ∙ later _ _ (none (n .before)) (n .counts .ensures);
+        pairs = λ z. rw (← bundle-is _ (n .counts .ensures)) (s .0 .pairs z);
+      },
+      λ z. rw (← bundle-is _ (n .counts .ensures)) (s .1 z),
+    )
 
 slice-aggregate-note-sorts-2 : tie.Need-slice-aggregate-note-sorts-2
 slice-aggregate-note-sorts-2 c = search needs
@@ -114,8 +124,13 @@ same-length-2 c = search needs
 returns-3 : tie.Need-returns-3
 returns-3 c =
     let s = c .before .before .sorted-fault2 .ensures in
-    let n = c .before .before .before .before .before .before .before .before .before .before in
-    (s .0 ∙ later _ _ (none (n .before)) (n .counts .ensures), λ z. rw (← bundle-is _ (n .counts .ensures)) (s .1 z))
+    let n = c .before .before .before .before .before .before .before .before .before .before in (
+      record {
+        fault = s .0 .fault ∙ later _ _ (none (n .before)) (n .counts .ensures);
+        pairs = λ z. rw (← bundle-is _ (n .counts .ensures)) (s .0 .pairs z);
+      },
+      λ z. rw (← bundle-is _ (n .counts .ensures)) (s .1 z),
+    )
 
 pub fault-of-spec : {M : Type 1} → statement M
 fault-of-spec =

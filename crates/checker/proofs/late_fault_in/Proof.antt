@@ -28,13 +28,16 @@ same-length-2 c = search needs
 
 returns : tie.Need-returns
 unfolding lateFault
-returns c = rw (← c .before .before .before .before .before .before .contexts-fault .ensures .0, orElse-here _ _ _ (c .if1 .taken))
+returns c = record {
+  fault = rw (← c .before .before .before .before .before .before .contexts-fault .ensures .0, orElse-here _ _ _ (c .if1 .taken));
+  pairs = λ z. absurd (c .if1 .taken z);
+}
 
 steps-fault-requires : tie.Need-steps-fault-requires
 steps-fault-requires c κs =
     let k = c .before .before .before .before .before .before .before .before .contexts-fault .ensures .1 (c .before .before .if1 .left) in
     let p = c .before .before .before .before .before .before .before .before .before .before .before .before .before .before .before .before .pre in
-    (p .0, p .2, k .0, k .1)
+    (p .0, p .2, k .0, k .1, p .3, p .8)
 
 same-length-3 : tie.Need-same-length-3
 same-length-3 c = search needs
@@ -44,14 +47,16 @@ same-length-4 c = search needs
 
 returns-2 : tie.Need-returns-2
 unfolding lateFault
-returns-2 c =
-    rw (
-      ← c .before .before .before .before .before .before .before .before .before .before .before .contexts-fault .ensures .0,
-      orElse-on _ _ _
-          (c .before .before .before .before .before .if1 .left),
-      ← c .before .before .steps-fault .ensures,
-      orElse-here _ _ _ (c .if2 .taken),
-    )
+returns-2 c = record {
+  fault = rw (
+    ← c .before .before .before .before .before .before .before .before .before .before .before .before .contexts-fault .ensures .0,
+    orElse-on _ _ _
+        (c .before .before .before .before .before .before .if1 .left),
+    ← c .before .before .before .steps-fault .ensures .fault,
+    orElse-here _ _ _ (c .if2 .taken),
+  );
+  pairs = λ z. absurd (c .if2 .taken z);
+}
 
 claim-fault-requires : tie.Need-claim-fault-requires
 claim-fault-requires c κs = search needs
@@ -64,15 +69,17 @@ same-length-6 c = search needs
 
 returns-3 : tie.Need-returns-3
 unfolding lateFault
-returns-3 c =
-    rw (
-      ← c .before .before .before .before .before .before .before .before .before .before .before .before .contexts-fault .ensures .0,
-      orElse-on _ _ _
-          (c .before .before .before .before .before .before .if1 .left),
-      ← c .before .before .before .steps-fault .ensures,
-      orElse-on _ _ _ (c .before .if2 .left),
-      ← c .claim-fault .ensures,
-    ) (sym (orElse-last _))
+returns-3 c = record {
+  fault = rw (
+    ← c .before .before .before .before .before .before .before .before .before .before .before .before .before .contexts-fault .ensures .0,
+    orElse-on _ _ _
+        (c .before .before .before .before .before .before .before .if1 .left),
+    ← c .before .before .before .before .steps-fault .ensures .fault,
+    orElse-on _ _ _ (c .before .if2 .left),
+    ← c .claim-fault .ensures,
+  ) (sym (orElse-last _));
+  pairs = λ z. c .before .before .before .before .steps-fault .ensures .pairs (c .before .if2 .left);
+}
 
 pub late-fault-in-spec : {M : Type 1} → statement M
 late-fault-in-spec =

@@ -19,7 +19,7 @@ sections-fault-requires c κs = search needs
 returns : tie.Need-returns
 returns c =
     let s = c .before .before .sections-fault in
-    (rw (← s .ensures, orElse-here _ _ _ (c .if1 .taken)), λ z. absurd (c .if1 .taken z))
+    (record { fault = rw (← s .ensures, orElse-here _ _ _ (c .if1 .taken)); pairs = λ z. absurd (c .if1 .taken z) }, λ z. absurd (c .if1 .taken z))
 
 words-for-requires : tie.Need-words-for-requires
 words-for-requires c κs = search needs
@@ -49,8 +49,13 @@ same-length : tie.Need-same-length
 same-length c = search needs
 
 returns-2 : tie.Need-returns-2
-returns-2 c =
-    (rw (← c .before .before .before .before .before .before .before .before .before .before .before .sections-fault .ensures, orElse-on _ _ _ (c .before .before .before .before .before .before .before .before .before .if1 .left)) (c .before .before .late-fault .ensures), λ z. absurd (c .if2 .taken z))
+returns-2 c = (
+  record {
+    fault = rw (← c .before .before .before .before .before .before .before .before .before .before .before .before .sections-fault .ensures, orElse-on _ _ _ (c .before .before .before .before .before .before .before .before .before .before .if1 .left)) (c .before .before .before .late-fault .ensures .fault);
+    pairs = λ z. absurd (c .if2 .taken z);
+  },
+  λ z. absurd (c .if2 .taken z),
+)
 
 spread-requires : tie.Need-spread-requires
 spread-requires c κs = search needs
@@ -60,14 +65,17 @@ same-length-2 c = search needs
 
 returns-3 : tie.Need-returns-3
 returns-3 c =
-    let a = c .before .before .before .before .before .before .before .before .before .before .before .before .before .before .before .before .before .before .before .args in
-    let p = c .before .before .before .before .before .before .before .before .before .before .before .before .before .before .before .before .before .before .before .pre in
+    let a = c .before .before .before .before .before .before .before .before .before .before .before .before .before .before .before .before .before .before .before .before .args in
+    let p = c .before .before .before .before .before .before .before .before .before .before .before .before .before .before .before .before .before .before .before .before .pre in
     let b = bundleAt (a .file .now) (a .b) in
-    let r = c .before .before .before .before .before .before .before .before .before .before .before .before .words-for in
+    let r = c .before .before .before .before .before .before .before .before .before .before .before .before .before .words-for in
     let w = r .ensures in
-    let f = c .before .before .before .before .before .before .before .before .before .before .free-sets in
+    let f = c .before .before .before .before .before .before .before .before .before .before .before .free-sets in
     let s = c .before .before .spread in (
-      rw (← c .before .before .before .before .before .before .before .before .before .before .before .before .before .before .before .sections-fault .ensures, orElse-on _ _ _ (c .before .before .before .before .before .before .before .before .before .before .before .before .before .if1 .left)) (c .before .before .before .before .before .before .late-fault .ensures),
+      record {
+        fault = rw (← c .before .before .before .before .before .before .before .before .before .before .before .before .before .before .before .before .sections-fault .ensures, orElse-on _ _ _ (c .before .before .before .before .before .before .before .before .before .before .before .before .before .before .if1 .left)) (c .before .before .before .before .before .before .before .late-fault .ensures .fault);
+        pairs = c .before .before .before .before .before .before .before .late-fault .ensures .pairs;
+      },
       (λ z. area-spread b (r .result) setWords (length (a .free .now)) (f .last .1 .1 .0) (s .last .0) (w .0) (w .1) (rw (variables-length (a .file .now) (a .b)) (w .2))
           (rw (terms-length (a .file .now) (a .b)) (p .2)) (f .ensures) (rw (terms-length (a .file .now) (a .b)) (s .ensures))),
     )

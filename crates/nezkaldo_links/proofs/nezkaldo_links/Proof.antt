@@ -17,14 +17,14 @@ use Rattle.logic.specs.Rules.{congWalkBy, congWalk}
 use Rattle.logic.proofs.Headers.{header-exactly, bundle-is}
 use Rattle.images.specs.LentReading.{stepIn}
 use Rattle.images.proofs.ReadingRight.{step-right}
-use Rattle.judgement.proofs.Sizes.{failing-le}
+use Rattle.judgement.proofs.Sizes.{lastNumber, failing-le}
 use Rattle.nezkaldo_links.specs.Links.{walkNumber, stepNumber, linksNumber}
 use Rattle.nezkaldo_links.proofs.Links.{links-short}
 use Rattle.rules.specs.StepWords.{asStep}
 use Rattle.nezkaldo_links.proofs.nezkaldo_links.Statement.{statement}
 use Rattle.nezkaldo_links.proofs.nezkaldo_links.Tie as tie
 
-header-small : (f : List ℕ) → headerFault f 0 0 ≤ 18
+header-small : (f : List ℕ) → headerFault f 0 0 ≤ lastNumber
 unfolding headerFault headerTests
 header-small f = failing-le (headerTests f 0 0) (omega arith, (omega arith, (omega arith, (omega arith, (omega arith, tt)))))
 
