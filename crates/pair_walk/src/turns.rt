@@ -218,8 +218,10 @@ pub fn next(
             uncross(b, n, places, bound, r, i, j, p);
             deep -= 1;
         } else {
-            if (i != 0) & (j != 0) {
-                return take(file, b, agenda, top, deep, l, i, j, left);
+            if i != 0 {
+                if j != 0 {
+                    return take(file, b, agenda, top, deep, l, i, j, left);
+                }
             }
             if (i != 0) | (j != 0) {
                 return Turn::Ended(Limited::Different(left));
