@@ -7,14 +7,17 @@
 --     frame-pending, frame-leave      a frame whose first word is not 0, and one whose first word is
 --     place-fits, other-fits, crossing-more     a pair of variables crossed
 --     turn-none, turn-lower, turn-other, turn-at     the next pair, by the code's tests
+--     closes-at, closes-here, closes-rising, follows-none     the test for an application of which nothing is left, by the nexts of two links
 use mathlib.Core.Path.{_≡_, refl, ap, ap₂, _∙_}
-use mathlib.Core.Bool.{Bool, cond}
+use mathlib.Core.Bool.{Bool, true, false, cond, _&&_, and-false}
 use mathlib.Core.List.{List, [], _∷_}
 use Prim.Native.Nat.{ℕ, zero, suc, _+_, _*_, _-_, _≤_, _<_}
 use native.Mathlib.Omega.{arith}
 use lib.ListN.{length, getD, set}
+use lib.Dec.{eqb, ltb, leb}
 use lib.Seq.{lt-length-set, getD-set-same, getD-set-other}
-use borrow.Author.Tests.{lt-ltb, le-ltb}
+use borrow.Author.Tests.{lt-ltb, le-ltb, ne-eqb}
+use Rattle.bundle.specs.Links.{follows}
 use Rattle.logic.specs.declared.Limited.the-variants.{Different, Spent}
 use Rattle.logic.specs.ReflWalk.{Crossed, lefts, rights}
 use Rattle.crossings.specs.Places.{stamp, Places}
@@ -174,3 +177,19 @@ module _ (w′ : List ℕ) (fs : List Frame) (g : Frame) (l x y h depth left : �
 -- that test, said of equal numbers
 pub closes-at : {k i j m u v : ℕ} → k ≡ m → i ≡ u → j ≡ v → closes k i j ≡ closes m u v
 closes-at p q r = rw (p, q, r)
+
+-- its answer where both nexts are 0, and where the first rises
+pub closes-here : (k i j : ℕ) → k ≡ 2 → (eqb i 0 && eqb j 0) ≡ true → closes k i j ≡ true
+closes-here k i j e h = rw e h
+
+pub closes-rising : (k i j n : ℕ) → n < i → closes k i j ≡ false
+closes-rising k i j n up = rw (ne-eqb i 0 (λ z. omega arith), and-false (eqb k 2))
+
+-- a next that is 0 ends the list
+pub follows-none : (n i next : ℕ) → next ≡ 0 → next ≡ follows n i next
+unfolding follows
+follows-none n i next e = go (ltb i next && leb next n)
+  where
+    go : (p : Bool) → next ≡ cond p next 0
+    go true = refl
+    go false = e

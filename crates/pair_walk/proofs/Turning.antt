@@ -1,5 +1,5 @@
 -- A turn on the frame on top of the agenda, of the words that are read of it.
---     both-some, one-none, both-none      the code's tests of two links
+--     one-none, both-none, both-zero      the code's tests of two links
 --     leave-known, leave-fits, leave-before, leave-after, leave-on     variables are left
 --     pending-known, take-turn, short-turn     the lists of a pair go on, or one is shorter
 --     closed-after, closed-on             both have ended, and there are no bodies
@@ -22,6 +22,7 @@ use Rattle.logic.specs.declared.Image.{Image}
 use Rattle.logic.specs.declared.Limited.the-variants.{Different}
 use Rattle.logic.specs.Terms.{kindOf}
 use Rattle.logic.specs.ReflWalk.{crossAll, goOn}
+use Rattle.logic.proofs.Tests.{and-left, and-right}
 use Rattle.crossings.specs.Places.{Places}
 use Rattle.pair_walk.specs.declared.Turn.{Turn}
 use Rattle.pair_walk.specs.Agenda.{Frame, pending, leave, frameOf, frames, crossedBy, hasBody, boundAs, bodyAs, leaves, under, finish, MetAs}
@@ -34,24 +35,10 @@ use Rattle.pair_walk.proofs.Soundness.{held-bodies, held-same, turn-hel
 
 -- ---- tests of two links
 
-pub both-some : (i j : ℕ) → (not (eqb i 0) && not (eqb j 0)) ≡ true → (i ≡ 0 → ⊥) × (j ≡ 0 → ⊥)
-both-some i j = go (eqb i 0) refl (eqb j 0) refl
-  where
-    go : (p : Bool) → eqb i 0 ≡ p → (q : Bool) → eqb j 0 ≡ q → (not p && not q) ≡ true → (i ≡ 0 → ⊥) × (j ≡ 0 → ⊥)
-    go true d q e h = absurd (false≢true h)
-    go false d true e h = absurd (false≢true h)
-    go false d false e h = (eqb-false i 0 d, eqb-false j 0 e)
-
-pub one-none : (i j : ℕ) → (not (eqb i 0) && not (eqb j 0)) ≡ false → (not (eqb i 0) || not (eqb j 0)) ≡ true
+pub one-none : (i j : ℕ) → ((i ≡ 0 → ⊥) × (j ≡ 0)) ⊎ (i ≡ 0) → (not (eqb i 0) || not (eqb j 0)) ≡ true
     → ((i ≡ 0) × (j ≡ 0 → ⊥)) ⊎ ((i ≡ 0 → ⊥) × (j ≡ 0))
-one-none i j = go (eqb i 0) refl (eqb j 0) refl
-  where
-    go : (p : Bool) → eqb i 0 ≡ p → (q : Bool) → eqb j 0 ≡ q → (not p && not q) ≡ false → (not p || not q) ≡ true
-        → ((i ≡ 0) × (j ≡ 0 → ⊥)) ⊎ ((i ≡ 0 → ⊥) × (j ≡ 0))
-    go true d true e h k = absurd (false≢true k)
-    go true d false e h k = inl (eqb-true i 0 d, eqb-false j 0 e)
-    go false d true e h k = inr (eqb-false i 0 d, eqb-true j 0 e)
-    go false d false e h k = absurd (false≢true (sym h))
+one-none i j (inl h) e = inr h
+one-none i j (inr z) e = inl (z, λ y. false≢true (rw (z, y) at e))
 
 pub both-none : (i j : ℕ) → (not (eqb i 0) || not (eqb j 0)) ≡ false → (i ≡ 0) × (j ≡ 0)
 both-none i j = go (eqb i 0) refl (eqb j 0) refl
@@ -60,6 +47,9 @@ both-none i j = go (eqb i 0) refl (eqb j 0) refl
     go true d true e h = (eqb-true i 0 d, eqb-true j 0 e)
     go true d false e h = absurd (false≢true (sym h))
     go false d q e h = absurd (false≢true (sym h))
+
+pub both-zero : (i j : ℕ) → (eqb i 0 && eqb j 0) ≡ true → (i ≡ 0) × (j ≡ 0)
+both-zero i j e = (eqb-true i 0 (and-left (eqb i 0) (eqb j 0) e), eqb-true j 0 (and-right (eqb i 0) (eqb j 0) e))
 
 -- ---- the frame on top
 

@@ -184,4 +184,4 @@ TurnHeld free image c b n most whole agenda places bound left (Turn.Pair l r h d
 
 -- the pairs that a walk is tried with first: any number up to the limit would do
 abbrev pub fewPairs : ℕ
-fewPairs = 128
+fewPairs = 64

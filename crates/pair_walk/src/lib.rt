@@ -97,7 +97,7 @@ fn walk(
 // The pairs that a walk may visit; most walks are short, and are made within a few, with little room.
 const PAIRS: usize = 4096;
 
-const FEW: usize = 128;
+const FEW: usize = 64;
 
 fn short_walk(
     file: &[u8],

@@ -67,9 +67,9 @@ fn link_at(file: &[u8], b: Bundle, i: usize) -> Link
     }
 }
 
-// Takes the terms at the links i and j up, which the frame of l on an agenda of height h + 1 has. The frame has the next links then; an application's
-// is taken off where there are none.
-fn take(
+// Takes the terms at the links i and j up, which the frame of l on an agenda of height h + 1 has, whatever their nexts are. The frame has the next
+// links then; an application's is taken off where there are none.
+fn take_any(
     file: &[u8],
     b: Bundle,
     agenda: &mut [u16],
@@ -102,6 +102,53 @@ fn take(
     }
     advance(agenda, h, after, other);
     turn_to(l, x, y, h + 1, depth, left)
+}
+
+// The same. In most lists both nexts rise, or both are 0: branches that are foreseen, where `followed` makes each turn wait for its choices.
+fn take(
+    file: &[u8],
+    b: Bundle,
+    agenda: &mut [u16],
+    h: usize,
+    depth: usize,
+    l: usize,
+    i: usize,
+    j: usize,
+    left: usize,
+) -> Turn
+    requires { ⌜ Whole (now file) b × (5 * h + 5 ≤ length (now agenda)) × ((i ≡ 0 → ⊥) × (i ≤ b .links)) × ((j ≡ 0 → ⊥) × (j ≤ b .links)) ⌝ }
+    ensures { λ t. ⌜ (let bundle = bundleAt (now (file .entry)) b in
+        let closed = closes (termOf bundle l .kind) (nextOf (bundle .links) i) (nextOf (bundle .links) j) in
+        (length (now (agenda .exit)) ≡ length (now (agenda .entry)))
+        × (t ≡ turnTo l (linkOf bundle i .value) (linkOf bundle j .value) (cond closed h (suc h)) depth left)
+        × (frames (now (agenda .exit)) (cond closed h (suc h)) ≡ cond closed (frames (now (agenda .entry)) h)
+        (frameOf (getD (now (agenda .entry)) (5 * h) 0) (getD (now (agenda .entry)) (5 * h + 1) 0)
+        (nextOf (bundle .links) i) (nextOf (bundle .links) j) (getD (now (agenda .entry)) (5 * h + 4) 0) ∷ frames (now (agenda .entry)) h))) ⌝ }
+{
+    let links = b.links;
+    let first = link_at(file, b, i);
+    let second = link_at(file, b, j);
+    let x = first.value;
+    let y = second.value;
+    let next = first.next;
+    let other = second.next;
+    if (next == 0) & (other == 0) {
+        let kind = term_field(file, b, l, 0);
+        if kind == APPLICATION {
+            return turn_to(l, x, y, h, depth, left);
+        }
+    }
+    if i < next {
+        if j < other {
+            if next <= links {
+                if other <= links {
+                    advance(agenda, h, next, other);
+                    return turn_to(l, x, y, h + 1, depth, left);
+                }
+            }
+        }
+    }
+    take_any(file, b, agenda, h, depth, l, i, j, left)
 }
 
 // Takes the bodies of l and r up, inside their variables.
@@ -171,8 +218,10 @@ pub fn next(
             uncross(b, n, places, bound, r, i, j, p);
             deep -= 1;
         } else {
-            if (i != 0) & (j != 0) {
-                return take(file, b, agenda, top, deep, l, i, j, left);
+            if i != 0 {
+                if j != 0 {
+                    return take(file, b, agenda, top, deep, l, i, j, left);
+                }
             }
             if (i != 0) | (j != 0) {
                 return Turn::Ended(Limited::Different(left));

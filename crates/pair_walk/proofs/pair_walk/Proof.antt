@@ -54,13 +54,13 @@ returns : tie.Need-returns
 returns c = let a = c .before .before .before .before .before .before .before .args in
     more-same (freeIn (a .b .terms) (a .area .now) (a .n)) (imageAt (a .b .variables) (a .images .now) (a .context)) (bundleAt (a .file .now) (a .b)) (a
     .left) [] (a .right)
-    fewPairs (c .before .walked .given .0 .0) (sym (c .before .walked .given .1) ∙ c .before .before .before .short-walk .ensures) 3968
+    fewPairs (c .before .walked .given .0 .0) (sym (c .before .walked .given .1) ∙ c .before .before .before .short-walk .ensures) 4032
 
 returns-2 : tie.Need-returns-2
 returns-2 c = let a = c .before .before .before .before .before .before .before .args in
     more-different (freeIn (a .b .terms) (a .area .now) (a .n)) (imageAt (a .b .variables) (a .images .now) (a .context)) (bundleAt (a .file .now) (a .b)) (a
     .left) [] (a .right)
-    fewPairs (c .before .walked2 .given .0 .0) (sym (c .before .walked2 .given .1) ∙ c .before .before .before .short-walk .ensures) 3968
+    fewPairs (c .before .walked2 .given .0 .0) (sym (c .before .walked2 .given .1) ∙ c .before .before .before .short-walk .ensures) 4032
 
 returns-3 : tie.Need-returns-3
 returns-3 c = search needs

@@ -4,6 +4,7 @@ use native.Mathlib.Omega.{arith}
 use borrow.Author.Needs.{needs}
 use mathlib.Core.Path.{_≡_, refl, sym, _∙_}
 use mathlib.Core.Bool.{Bool}
+use mathlib.Core.Logic.{inl, inr, ⊎-elim}
 use Prim.Native.Nat.{ℕ, _-_, _≤_}
 use lib.ListN.{length}
 use Rattle.bundle.specs.File.{bundleAt}
@@ -12,7 +13,7 @@ use Rattle.pair_walk.specs.Agenda.{frames, crossedBy, finish, Held}
 use Rattle.pair_walk.proofs.FrameWords.{crossing-few}
 use Rattle.pair_walk.proofs.ByKind.{body-flag}
 use Rattle.pair_walk.proofs.Finishing.{finish-none}
-use Rattle.pair_walk.proofs.Turning.{both-some, one-none, both-none, leave-known, leave-fits, leave-before, leave-after, leave-on}
+use Rattle.pair_walk.proofs.Turning.{one-none, both-none, leave-known, leave-fits, leave-before, leave-after, leave-on}
 use Rattle.pair_walk.proofs.Turning.{pending-known, take-turn, short-turn, closed-after, closed-on, bodies-known, bodies-turn}
 use Rattle.pair_walk.proofs.turns.next.Statement.{statement}
 use Rattle.pair_walk.proofs.turns.next.Tie as tie
@@ -287,66 +288,56 @@ sub-deep c = let a = c .before .before .before .before .before .before .before .
     )
 
 take-requires : tie.Need-take-requires Inv-loop μ-loop
-take-requires c κs = let a = c .before .before .before .before .before .before .before .before .before .before .before .before .before .before .before
-    .before .before .args in
-    let l = c .before .before .before .before .before .before .before .before .before .before .before .before .loop in
-    let some = c .before .before .before .before .before .before .before .before .before .before .before .loop-test .taken in
-    let top = c .before .before .before .before .before .before .before .before .before .wide in
-    let right = c .before .before .before .before .before .before .before .wide2 in
-    let first = c .before .before .before .before .before .wide3 in
-    let second = c .before .before .before .wide4 in
-    let both = both-some (first .result) (second .result) (c .before .if2 .taken) in
+take-requires c κs = let a = c .before .before .before .before .before .before .before .before .before .before .before .before .before .before .before .before .before .before .args in
+    let l = c .before .before .before .before .before .before .before .before .before .before .before .before .before .loop in
+    let some = c .before .before .before .before .before .before .before .before .before .before .before .before .loop-test .taken in
+    let top = c .before .before .before .before .before .before .before .before .before .before .wide in
+    let right = c .before .before .before .before .before .before .before .before .wide2 in
+    let first = c .before .before .before .before .before .before .wide3 in
+    let second = c .before .before .before .before .wide4 in
     let known = pending-known (a .file .now) (a .b) (a .n) (a .most) (l .agenda) (l .places) (l .bound) (l .height) (l .deep) (a .left) (l .inv .0) some (top
     .ensures) (right .ensures)
-    (first .ensures) (second .ensures) (c .before .before .if1 .left) in (
-      c .before .before .before .before .before .before .before .before .before .before .before .before .before .before .before .before .before .pre .0,
+    (first .ensures) (second .ensures) (c .before .before .before .if1 .left) in (
+      c .before .before .before .before .before .before .before .before .before .before .before .before .before .before .before .before .before .before .pre .0,
       omega (
         arith,
-        c .before .before .before .before .before .before .before .before .before .before .before .before .loop .inv .0 .long,
-        c .before .before
-            .before .before .before .before .before .before .before .before .before .before .loop .inv .1,
-        c .before .before .before .before .before .before
-            .before .before .before .before .before .before .before .before .before .before .before .pre .2,
-        c .before .before .before .before .before .before
-            .before .before .before .before .before .before .before .before .before .before .before .pre .3,
-        c .before .before .before .before .before .before
-            .before .before .before .before .before .loop-test .taken,
+        c .before .before .before .before .before .before .before .before .before .before .before .before .before .loop .inv .0 .long,
+        c .before .before .before .before .before .before .before .before .before .before .before .before .before .loop .inv .1,
+        c .before .before .before .before .before .before .before .before .before .before .before .before .before .before .before .before .before .before .pre .2,
+        c .before .before .before .before .before .before .before .before .before .before .before .before .before .before .before .before .before .before .pre .3,
+        c .before .before .before .before .before .before .before .before .before .before .before .before .loop-test .taken,
       ),
-      (both .0, known .left-link),
-      (both .1, known .right-link),
+      (c .before .before .if2 .taken, known .left-link),
+      (c .before .if3 .taken, known .right-link),
     )
 
 same-length : tie.Need-same-length Inv-loop μ-loop
-same-length c = c .before .before .before .before .before .before .before .before .before .before .before .before .before .before .before .loop .inv .3
+same-length c = c .before .before .before .before .before .before .before .before .before .before .before .before .before .before .before .before .loop .inv .3
 
 same-length-2 : tie.Need-same-length-2 Inv-loop μ-loop
-same-length-2 c = c .before .before .before .before .before .before .before .before .before .before .before .before .before .before .before .loop .inv .4
+same-length-2 c = c .before .before .before .before .before .before .before .before .before .before .before .before .before .before .before .before .loop .inv .4
 
 same-length-3 : tie.Need-same-length-3 Inv-loop μ-loop
-same-length-3 c = c .before .before .take .ensures .0 ∙ c .before .before .before .before .before .before .before .before .before .before .before .before
-    .before .before .before .loop .inv .2
+same-length-3 c = c .before .before .take .ensures .0 ∙ c .before .before .before .before .before .before .before .before .before .before .before .before .before .before .before .before .loop .inv .2
 
 returns : tie.Need-returns Inv-loop μ-loop
 returns c = λ free image.
-    let a = c .before .before .before .before .before .before .before .before .before .before .before .before .before .before .before .before .before .before
-    .before .before .args in
-    let l = c .before .before .before .before .before .before .before .before .before .before .before .before .before .before .before .loop in
-    let some = c .before .before .before .before .before .before .before .before .before .before .before .before .before .before .loop-test .taken in
-    let top = c .before .before .before .before .before .before .before .before .before .before .before .before .wide in
-    let right = c .before .before .before .before .before .before .before .before .before .before .wide2 in
-    let first = c .before .before .before .before .before .before .before .before .wide3 in
-    let second = c .before .before .before .before .before .before .wide4 in
+    let a = c .before .before .before .before .before .before .before .before .before .before .before .before .before .before .before .before .before .before .before .before .before .args in
+    let l = c .before .before .before .before .before .before .before .before .before .before .before .before .before .before .before .before .loop in
+    let some = c .before .before .before .before .before .before .before .before .before .before .before .before .before .before .before .loop-test .taken in
+    let top = c .before .before .before .before .before .before .before .before .before .before .before .before .before .wide in
+    let right = c .before .before .before .before .before .before .before .before .before .before .before .wide2 in
+    let first = c .before .before .before .before .before .before .before .before .before .wide3 in
+    let second = c .before .before .before .before .before .before .before .wide4 in
     let t = c .before .before .take in
     rw (← l .inv .5 free image)
     (take-turn (a .file .now) (a .b) (a .n) (a .most) (l .agenda) (l .places) (l .bound) (l .height) (l .deep) (a .left) (l .inv .0) some (top .ensures)
     (right .ensures)
-    (first .ensures) (second .ensures) (c .before .before .before .before .before .if1 .left) (t .last .1 .1 .0) (t .result) (both-some (first .result)
-    (second .result) (c .before .before .before .before .if2 .taken))
+    (first .ensures) (second .ensures) (c .before .before .before .before .before .before .if1 .left) (t .last .1 .1 .0) (t .result) (c .before .before .before .before .before .if2 .taken, c .before .before .before .before .if3 .taken)
     (t .ensures .0) (t .ensures .1) (t .ensures .2) (omega (
       arith,
       l .inv .1,
-      c .before .before .before .before .before .before .before .before .before
-          .before .before .before .before .before .before .before .before .before .before .before .pre .2,
+      c .before .before .before .before .before .before .before .before .before .before .before .before .before .before .before .before .before .before .before .before .before .pre .2,
     )) free image)
 
 same-length-4 : tie.Need-same-length-4 Inv-loop μ-loop
@@ -370,7 +361,7 @@ returns-2 c = λ free image.
     sym (l .inv .5 free image)
     ∙ short-turn (a .file .now) (a .b) (a .n) (a .most) (l .agenda) (l .places) (l .bound) (l .height) (l .deep) (a .left) (l .inv .0) some (top .ensures)
     (right .ensures)
-    (first .ensures) (second .ensures) (c .before .before .if1 .left) (one-none (first .result) (second .result) (c .before .if2 .left) (c .if3 .taken)) free
+    (first .ensures) (second .ensures) (c .before .before .if1 .left) (one-none (first .result) (second .result) (⊎-elim (λ w. inl (w .0 .taken, w .1 .left)) (λ w. inr (w .left)) (c .before .if2 .came)) (c .if4 .taken)) free
     image
 
 term-field-requires : tie.Need-term-field-requires Inv-loop μ-loop
@@ -398,12 +389,12 @@ into-bodies-requires c κs = let a = c .before .before .before .before .before .
     let known = bodies-known (a .file .now) (a .b) (a .n) (a .most) (l .agenda) (l .places) (l .bound) (l .height) (l .deep) (a .left) (l .inv .0) some (top
     .ensures) (right .ensures)
     (first .ensures) (second .ensures) (c .before .before .before .before .before .before .before .before .if1 .left) (both-none (first .result) (second
-    .result) (c .before .before .before .before .before .before .if3 .left)) (kind .ensures) in
+    .result) (c .before .before .before .before .before .before .if4 .left)) (kind .ensures) in
     let few = crossing-few (a .b .variables) (a .n) (l .agenda) (l .places) (l .bound) (l .height - 1) (l .deep) (known .0) in (
       c .before .before .before .before .before .before .before .before .before .before .before .before .before .before .before .before .before .before
           .before .before .before .before .before .pre .0,
       known .0,
-      body-flag (kind .result) (c .before .before .before .before .is-binder .ensures) ∙ c .before .before .before .if4 .taken,
+      body-flag (kind .result) (c .before .before .before .before .is-binder .ensures) ∙ c .before .before .before .if5 .taken,
       known .1,
       omega (arith, known .2, l .inv .0 .long),
       c .before .before .before .before .before .before .before .before .before .before .before .before .before .before .before .before .before .before
@@ -460,9 +451,9 @@ returns-3 c = λ free image.
     (right .ensures)
     (first .ensures) (second .ensures) (c .before .before .before .before .before .before .before .before .before .before .before .before .before .before
     .before .if1 .left) (both-none (first .result) (second .result) (c .before .before .before .before .before .before .before .before .before .before
-    .before .before .before .if3 .left)) (kind .ensures) (t .last .1 .1 .1 .1 .1 .0)
+    .before .before .before .if4 .left)) (kind .ensures) (t .last .1 .1 .1 .1 .1 .0)
     (t .last .1 .1 .1 .0) (t .last .1 .1 .1 .1 .0) (t .result) (body-flag (kind .result) (c .before .before .before .before .before .before .before .before
-    .before .before .before .is-binder .ensures) ∙ c .before .before .before .before .before .before .before .before .before .before .if4 .taken) (t
+    .before .before .before .is-binder .ensures) ∙ c .before .before .before .before .before .before .before .before .before .before .if5 .taken) (t
     .ensures .0)
     (t .ensures .1) (t .ensures .2) (t .ensures .3) free image)
 
@@ -517,8 +508,8 @@ loop-again-2 c = let a = c .before .before .before .before .before .before .befo
     let second = c .before .before .before .before .before .before .wide4 in
     let kind = c .before .before .term-field in
     let one = c .before .before .before .before .before .if1 .left in
-    let ended = both-none (first .result) (second .result) (c .before .before .before .if3 .left) in
-    let body = body-flag (kind .result) (c .before .is-binder .ensures) ∙ c .if4 .left in (
+    let ended = both-none (first .result) (second .result) (c .before .before .before .if4 .left) in
+    let body = body-flag (kind .result) (c .before .is-binder .ensures) ∙ c .if5 .left in (
       closed-after (a .file .now) (a .b) (a .n) (a .most) (l .agenda) (l .places) (l .bound) (l .height) (l .deep) (a .left) (l .inv .0) some (top .ensures)
           (right .ensures)
           (first .ensures) (second .ensures) one ended (kind .ensures),
