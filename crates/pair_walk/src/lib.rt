@@ -13,6 +13,7 @@ ghost use Rattle.pair_walk.specs.Agenda.{fewPairs};
 use bundle::Bundle;
 use crossings::pair_meets;
 use logic::Limited;
+use logic::PAIR_LIMIT;
 
 mod frames; // frames.rt: frames of the agenda
 mod bodies; // bodies.rt: variables crossed on the way into bodies
@@ -94,9 +95,7 @@ fn walk(
     }
 }
 
-// The pairs that a walk may visit; most walks are short, and are made within a few, with little room.
-const PAIRS: usize = 4096;
-
+// Most walks are short, and are made within a few pairs, with little room.
 const FEW: usize = 64;
 
 fn short_walk(
@@ -150,7 +149,7 @@ fn long_walk(
 {
     let mut places = [0u16; 2 * Bundle::VARIABLES];
     let mut bound = [0u64; Bundle::SET_WORDS];
-    let mut agenda = [0u16; 5 * PAIRS];
+    let mut agenda = [0u16; 5 * PAIR_LIMIT];
     walk(
         file,
         b,
@@ -163,7 +162,7 @@ fn long_walk(
         &mut agenda,
         left,
         right,
-        PAIRS,
+        PAIR_LIMIT,
     )
 }
 
@@ -185,8 +184,8 @@ pub fn pair_walk(
 {
     let walked = short_walk(file, b, area, n, images, context, left, right);
     match walked {
-        Limited::Same(m) => Limited::Same(m + (PAIRS - FEW)),
-        Limited::Different(m) => Limited::Different(m + (PAIRS - FEW)),
+        Limited::Same(m) => Limited::Same(m + (PAIR_LIMIT - FEW)),
+        Limited::Different(m) => Limited::Different(m + (PAIR_LIMIT - FEW)),
         Limited::Spent => long_walk(file, b, area, n, images, context, left, right),
     }
 }
