@@ -1,4 +1,5 @@
 -- `steps::walk_verdict` meets its contract, case by case.
+use native.Mathlib.Omega.{arith}
 use mathlib.Core.Path.{sym, ap, subst, _∙_}
 use Rattle.logic.specs.ReflWalk.{pairLimit}
 use Rattle.steps.specs.Verdicts.{LeavesAtMost, walkVerdict}
@@ -10,7 +11,9 @@ enum-known-walked : tie.Need-enum-known-walked
 enum-known-walked c = search needs
 
 sub-t4 : tie.Need-sub-t4
-sub-t4 c = subst (LeavesAtMost pairLimit) (c .before .walked .given .1) (c .before .before .before .pre)
+sub-t4 c =
+    let few = subst (LeavesAtMost pairLimit) (c .before .walked .given .1) (c .before .before .before .pre) in
+    omega (arith, few)
 
 enum-told : tie.Need-enum-told
 enum-told c = search needs
