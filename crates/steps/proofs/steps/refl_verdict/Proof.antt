@@ -28,7 +28,7 @@ returns c =
 
 pair-walk-requires : tie.Need-pair-walk-requires
 pair-walk-requires c κs =
-    let p = c .before .before .before .before .before .before .before .before .pre in
+    let p = c .before .before .before .before .before .before .before .pre in
     (p .0, p .1 .free, known-room _ _ _ _ (p .2) (p .1 .images), p .1 .bits, p .1 .few)
 
 walk-verdict-requires : tie.Need-walk-verdict-requires
@@ -37,30 +37,12 @@ walk-verdict-requires c κs = leaves-at-most _ _ _ _ _ _ (c .pair-walk .ensures)
 returns-2 : tie.Need-returns-2
 unfolding readingIn
 returns-2 c =
-    let a = c .before .before .before .before .before .before .before .before .before .before .args in
-    let p = c .before .before .before .before .before .before .before .before .before .before .pre in
+    let a = c .before .before .before .before .before .before .before .before .before .args in
+    let p = c .before .before .before .before .before .before .before .before .before .pre in
     let b = bundleAt (a .file .now) (a .b) in
     let g = readingIn (a .file .now) (a .b) (a .area .now) (a .n) (a .images .now) (a .moved .now) (a .bed .now) in
     walk-judged g b (asStep (a .s)) (p .3) (c .before .pair-walk .result) _ (images-here (a .b) (a .images .now) (a .s .context) (p .2))
-    (c .before .pair-walk .ensures) (sym (c .before .before .before .before .refl-holds .ensures) ∙ c .before .before .before .if1 .left) _ (c .walk-verdict .ensures)
-
-pair-walk-requires-2 : tie.Need-pair-walk-requires-2
-pair-walk-requires-2 c κs =
-    let p = c .before .before .before .before .before .before .before .before .pre in
-    (p .0, p .1 .free, known-room _ _ _ _ (p .2) (p .1 .images), p .1 .bits, p .1 .few)
-
-walk-verdict-requires-2 : tie.Need-walk-verdict-requires-2
-walk-verdict-requires-2 c κs = leaves-at-most _ _ _ _ _ _ (c .pair-walk2 .ensures)
-
-returns-3 : tie.Need-returns-3
-unfolding readingIn
-returns-3 c =
-    let a = c .before .before .before .before .before .before .before .before .before .before .args in
-    let p = c .before .before .before .before .before .before .before .before .before .before .pre in
-    let b = bundleAt (a .file .now) (a .b) in
-    let g = readingIn (a .file .now) (a .b) (a .area .now) (a .n) (a .images .now) (a .moved .now) (a .bed .now) in
-    walk-judged g b (asStep (a .s)) (p .3) (c .before .pair-walk2 .result) _ (images-here (a .b) (a .images .now) (a .s .context) (p .2))
-    (c .before .pair-walk2 .ensures) (sym (c .before .before .before .before .refl-holds .ensures) ∙ c .before .before .before .if1 .left) _ (c .walk-verdict2 .ensures)
+    (c .before .pair-walk .ensures) (sym (c .before .before .before .refl-holds .ensures) ∙ c .before .before .if1 .left) _ (c .walk-verdict .ensures)
 
 pub refl-verdict-spec : {M : Type 1} → statement M
 refl-verdict-spec =
@@ -71,7 +53,4 @@ refl-verdict-spec =
     returns
     pair-walk-requires
     walk-verdict-requires
-    returns-2
-    pair-walk-requires-2
-    walk-verdict-requires-2
-    returns-3)
+    returns-2)
