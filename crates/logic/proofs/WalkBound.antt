@@ -17,7 +17,7 @@ use Rattle.logic.specs.Contexts.{image, imageTree}
 use Rattle.logic.specs.Replacement.{replaced}
 use Rattle.logic.specs.WellFormed.{Lower, sortOfTerm, TermFormed, a-variable, an-application, a-binder, a-let, TablesFormed}
 use Rattle.logic.specs.Free.{freeAt}
-use Rattle.logic.specs.ReflWalk.{Crossed, PairWalk, pairThen, andThen, applicationMeets, binderMeets, letMeets, binderCrossed, letCrossed, listsWalk, pairWalkAs, pairWalkOf, pairWalk, Narrow, Doubled}
+use Rattle.logic.specs.ReflWalk.{Crossed, PairWalk, pairThen, andThen, applicationMeets, binderMeets, letMeets, binderCrossed, letCrossed, listsWalk, pairWalkAs, pairWalkOf, pairWalk, Binary, Doubled}
 use Rattle.logic.specs.Statements.{PairWalkBound, PairWalkDoubled, DoubledReached}
 use Rattle.logic.proofs.TermNumbers.{IsTerm, of-kind}
 use Rattle.logic.proofs.Passes.{lower-of}
@@ -70,7 +70,7 @@ module _ (b : Bundle) (formed : TablesFormed b) (c : ℕ) where
   here : (l : ℕ) (s : TermRecord) → termOf b l ≡ s → pairWalk b c l ≡ pairWalkOf (freeAt b) (image b c) b (pairWalk b c) s
   here l s e = walk-here (freeAt b) (image b c) b l (lower-of b (formed-pass b formed) l) ∙ ap (pairWalkOf (freeAt b) (image b c) b (pairWalk b c)) e
 
-  module _ (narrow : Narrow b) where
+  module _ (binary : Binary b) where
     all-lower : (l m : ℕ) → ((i : ℕ) → Lower l i → AtMost (pairWalk b c) m i) → (ts : List ℕ) → All (Lower l) ts → All (AtMost (pairWalk b c) m) ts
     all-lower l m ih [] h = tt
     all-lower l m ih (t ∷ ts) h = (ih t (h .0), all-lower l m ih ts (h .1))
@@ -93,7 +93,7 @@ module _ (b : Bundle) (formed : TablesFormed b) (c : ℕ) where
         rs = items b (termOf b r .b)
 
         two : length (items b s) ≤ 2
-        two = subst (λ (t : TermRecord). length (items b (t .b)) ≤ 2) e (narrow .arguments l n (ap (λ (t : TermRecord). t .kind) e))
+        two = subst (λ (t : TermRecord). length (items b (t .b)) ≤ 2) e (binary .arguments l n (ap (λ (t : TermRecord). t .kind) e))
 
         go : pairThen (applicationMeets b o r) (listsWalk (pairWalk b c) ps (items b s) rs) .pairs ≤ 1 + 2 * m
         go =
@@ -116,7 +116,7 @@ module _ (b : Bundle) (formed : TablesFormed b) (c : ℕ) where
         body = pairWalk b c t (letCrossed b o r ps) (termOf b r .c)
 
         one : length (items b vs) ≡ 1
-        one = subst (λ (u : TermRecord). length (items b (u .a)) ≡ 1) e (narrow .variables l n (ap (λ (u : TermRecord). u .kind) e))
+        one = subst (λ (u : TermRecord). length (items b (u .a)) ≡ 1) e (binary .variables l n (ap (λ (u : TermRecord). u .kind) e))
 
         go : pairThen (letMeets b o r) (andThen parts body) .pairs ≤ 1 + 2 * m
         go =
@@ -136,7 +136,7 @@ module _ (b : Bundle) (formed : TablesFormed b) (c : ℕ) where
         omega (arith, some-power n)
 
 pub pair-walk-bound : PairWalkBound
-pair-walk-bound b formed narrow c n h = up-to b formed c narrow n n (omega arith) h
+pair-walk-bound b formed binary c n h = up-to b formed c binary n n (omega arith) h
 
 -- ---- a variable doubled
 

@@ -234,7 +234,7 @@ limit n w = cond (leb (w .pairs) n) (ended (w .same) (n - w .pairs)) Spent
 -- ---- what a walk can cost (Req 13)
 
 -- Each application has at most two arguments and each let one variable.
-pub record Narrow (b : Bundle) : Type 0 where
+pub record Binary (b : Bundle) : Type 0 where
   pub arguments : (i : ℕ) → Number (length (b .terms)) i → termOf b i .kind ≡ 2 → length (items b (termOf b i .b)) ≤ 2
   pub variables : (i : ℕ) → Number (length (b .terms)) i → termOf b i .kind ≡ 5 → length (items b (termOf b i .a)) ≡ 1
 
