@@ -20,10 +20,10 @@ use Rattle.bundle.specs.Lists.{numbers, has}
 use Rattle.logic.specs.Lists.{Among, All, Different, Number}
 use Rattle.logic.specs.Terms.{Binder, Term, Terms, var, app, bind, letIn, none, more, kindOf, application, binder, letting}
 use Rattle.logic.specs.WellFormed.{TermFormed, a-variable, an-application, a-binder, a-let}
-use Rattle.logic.specs.ReflWalk.{Crossed, lefts, rights, pairUp, crossAll, meets, sortsMeet, allSortsMeet}
+use Rattle.logic.specs.ReflWalk.{Crossed, lefts, rights, crossAll, meets, sortsMeet, allSortsMeet}
 use Rattle.logic.proofs.Tests.{and-left, and-right, and-both, numbers-of, numbers-in}
 use Rattle.logic.proofs.Exactly.{has-exactly}
-use Rattle.logic.proofs.Meets.{zero-one, VariableMeets, Meets, MeetsAll}
+use Rattle.logic.proofs.Meets.{zero-one, pairUp, VariableMeets, Meets, MeetsAll}
 
 -- ---- the variables that a term binds
 

@@ -23,7 +23,7 @@ use Rattle.logic.specs.Free.{Free, freeAt}
 use Rattle.logic.specs.Contexts.{image, treeOfImage, imageTree}
 use Rattle.logic.specs.Distinct.{Distinct}
 use Rattle.logic.specs.WellFormed.{Lower, TermFormed, a-variable, an-application, a-binder, a-let, TablesFormed, WellFormed}
-use Rattle.logic.specs.ReflWalk.{Crossed, lefts, rights, pairUp, crossAll, meets, sortsMeet, allSortsMeet, boundMeets, imageIs, freeMeets, variableMeets, applicationMeets, binderMeets, letMeets, PairWalk, pairThen, andThen, listsWalk, pairWalkAs, pairWalkOf, pairWalk}
+use Rattle.logic.specs.ReflWalk.{Crossed, lefts, rights, crossAll, meets, sortsMeet, allSortsMeet, boundMeets, imageIs, freeMeets, variableMeets, applicationMeets, binderMeets, letMeets, PairWalk, pairThen, andThen, listsWalk, pairWalkAs, pairWalkOf, pairWalk}
 use Rattle.logic.specs.Statements.{PairWalkExactly}
 use Rattle.logic.proofs.Tests.{and-left, and-right, and-both}
 use Rattle.logic.proofs.TermKinds.{binder-kind}
@@ -32,7 +32,7 @@ use Rattle.logic.proofs.FreeSettled.{is-variable-exactly, free-at-exact
 use Rattle.logic.proofs.Formed.{tables-formed-distinct, tree-variable, tree-application, tree-binder, tree-let}
 use Rattle.logic.proofs.TermNumbers.{IsTerm, same, of-kind, app-args, bind-body, let-parts, app-fields, bind-fields, let-fields, ImageTerm, image-term}
 use Rattle.logic.proofs.Shapes.{formed-before}
-use Rattle.logic.proofs.Meets.{zero-one, place-has, meets-place, VariableMeets, Meets, MeetsAll, meets-exactly}
+use Rattle.logic.proofs.Meets.{zero-one, pairUp, place-has, meets-place, VariableMeets, Meets, MeetsAll, meets-exactly}
 use Rattle.logic.proofs.Crossings.{LetBinds, bound-variables, sorts-meet, sorts-met, all-sorts-meet, all-sorts-met, cross-meets}
 use Rattle.logic.proofs.ReflWalk.{walk-here}
 

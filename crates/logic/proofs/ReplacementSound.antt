@@ -16,11 +16,11 @@ use Rattle.logic.specs.Lists.{Among}
 use Rattle.logic.specs.Symbols.{kindOfSymbol}
 use Rattle.logic.specs.Terms.{Term, Terms, var, app, bind, letIn, none, more, tree}
 use Rattle.logic.specs.Contexts.{imageTree}
-use Rattle.logic.specs.ReflWalk.{Crossed, lefts, rights, pairUp, meets}
+use Rattle.logic.specs.ReflWalk.{Crossed, lefts, rights, meets}
 use Rattle.logic.specs.Values.{Value, truth, truthOf, World, meaningOf, boundValue, put, assign, value, values, seen}
 use Rattle.logic.specs.Statements.{ReplacementSound}
 use Rattle.logic.proofs.Values.{put-here, put-other, coincide}
-use Rattle.logic.proofs.Meets.{zero-one, VariableMeets, Meets, MeetsAll, meets-exactly}
+use Rattle.logic.proofs.Meets.{zero-one, pairUp, VariableMeets, Meets, MeetsAll, meets-exactly}
 
 module _ {b : Bundle} (w : World b) (σ : ℕ → Term) (ρ₀ : ℕ → Value) where
   -- Left the variables take the values τ, right ρ: the variables of matching binders the same; a free one, left, the value of what replaces it;

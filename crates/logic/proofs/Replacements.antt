@@ -2,6 +2,7 @@
 --     settled-plain, settled-apart     where each free variable replaces itself, replacement changes nothing and captures nothing
 --     unbound-apart               nor does it capture anything where the term has no binder
 --     same-form, image-form       so document 01's two forms of REFL are replacements
+--     SameUpToNames               terms that are the same up to the names of bound variables
 --     same-exactly                THE LAW: a term is another's replacement by its own variables exactly where the two are the same up to names
 --     same-walk                   so in context 0 the walk ends with no difference exactly where two terms are the same up to names
 --     renamed-first               binders may be renamed first and variables replaced afterwards
@@ -21,11 +22,11 @@ use Rattle.logic.specs.Free.{Free, Frees}
 use Rattle.logic.specs.Contexts.{imageTree, Settled}
 use Rattle.logic.specs.WellFormed.{WellFormed}
 use Rattle.logic.specs.Nameless.{Marked, MarkedList, whole, own, apply, over, lets, end, next, Place, place, nameless, namelessAll}
-use Rattle.logic.specs.Replacement.{replaced, replacedAll, plain, plainAll, NoCapture, NoCaptures, Replacement, SameUpToNames}
-use Rattle.logic.specs.ReflWalk.{Crossed, lefts, rights, pairUp, pairWalk}
+use Rattle.logic.specs.Replacement.{replaced, replacedAll, plain, plainAll, NoCapture, NoCaptures, Replacement}
+use Rattle.logic.specs.ReflWalk.{Crossed, lefts, rights, pairWalk}
 use Rattle.logic.proofs.Exactly.{has-exactly}
 use Rattle.logic.proofs.Images.{tree-empty}
-use Rattle.logic.proofs.Meets.{zero-one, place-has, meets-place, pair-lefts, pair-rights, VariableMeets, Meets, MeetsAll, meets-exactly}
+use Rattle.logic.proofs.Meets.{zero-one, pairUp, place-has, meets-place, pair-lefts, pair-rights, VariableMeets, Meets, MeetsAll, meets-exactly}
 use Rattle.logic.proofs.ReflExactly.{pair-walk-exactly}
 
 -- ---- lists
@@ -133,6 +134,10 @@ unfolding replaced plain nameless
 image-form b σ x = (whole (σ x), refl, (λ y m f. m), refl)
 
 -- ---- the same up to names
+
+-- Two terms are the same up to the names of bound variables; the sorts at binders are compared.
+abbrev pub SameUpToNames : Bundle → Term → Term → Type 0
+SameUpToNames b t u = nameless b [] (replaced var [] t) ≡ nameless b [] (replaced var [] u)
 
 module _ (b : Bundle) where
   variable-names : (ps : Crossed) (x : ℕ) (r : Term) → VariableMeets b var ps x r

@@ -36,12 +36,7 @@ unfoldable pub rights : Crossed → List ℕ
 rights [] = []
 rights (p ∷ ps) = p .1 ∷ rights ps
 
--- two lists of variables in pairs, and such pairs crossed one after another. A let's variables are all different, so their order does not matter.
-unfoldable pub pairUp : List ℕ → List ℕ → Crossed
-pairUp [] ys = []
-pairUp (x ∷ xs) [] = []
-pairUp (x ∷ xs) (y ∷ ys) = (x, y) ∷ pairUp xs ys
-
+-- Two lists of variables crossed in pairs, one after another. A let's variables are all different, so their order does not matter.
 unfoldable pub crossAll : List ℕ → List ℕ → Crossed → Crossed
 crossAll [] ys crossed = crossed
 crossAll (x ∷ xs) [] crossed = crossed
