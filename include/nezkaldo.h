@@ -14,7 +14,7 @@ extern "C" {
 
 /* Checks the bundle of `file_length` bytes at `file`.
  *
- * Returns less than 2^32 where it is accepted: then both sides of its claim (header words 7 and 8) have equal value in every finite world. The number is
+ * Returns less than 2^32 where it is accepted: then both sides of its claim (header words 7 and 8) are closed and have equal value in every finite world. The number is
  * that of the pairs of terms that the last REFL walked visited, at most 4,096; 0 where no REFL was walked (document 02, Req 04). Else
  * number * 2^32 + record of the first check of documents 01 and 02 that fails (record 0 for 1 to 4 and 15). So `answer >> 32` is 0 exactly where the file
  * is accepted.

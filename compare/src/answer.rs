@@ -27,10 +27,11 @@ pub enum Reason {
     Unread = 19,
     UnknownName = 20,
     Spent = 21,
+    Stray = 22,
 }
 
 impl Reason {
-    pub const ALL: [Reason; 21] = [
+    pub const ALL: [Reason; 22] = [
         Reason::Length,
         Reason::Version,
         Reason::Limit,
@@ -52,6 +53,7 @@ impl Reason {
         Reason::Unread,
         Reason::UnknownName,
         Reason::Spent,
+        Reason::Stray,
     ];
 
     pub fn number(self) -> u32 {
@@ -81,6 +83,7 @@ impl Reason {
             Reason::Unread => "reader: no text of the grammar goes on so",
             Reason::UnknownName => "reader: a name that is not declared, or of another kind",
             Reason::Spent => "a REFL that would visit more than 4,096 pairs",
+            Reason::Stray => "a step with a free variable that no entry mentions",
         }
     }
 }

@@ -4,17 +4,18 @@
 //! that REFL's walk visits. A share of the files goes to the plain reading and to the
 //! program check too. What is accepted has to hold in finite worlds.
 
-use crate::answer::{Packed, Reason, line, number};
-use crate::bundle::{MAX_SETS, Section, area_words, counts_of};
-use crate::check::check;
+use crate::answer::{Packed, Reason, line, number, packed};
+use crate::bundle::{LEFT, MAX_SETS, RIGHT, Section, area_words, counts_of, to_words};
+use crate::check::{check, check_with};
 use crate::compare_links::{self, Counter, Walks};
 use crate::compare_pairs::{self, Pairs};
 use crate::eval::{claim_holds, steps_hold};
+use crate::fault::{Broken, Fault};
 use crate::generate::{Case, Family, case};
 use crate::naive;
 use crate::programs::{self, Program};
 use crate::rng::Rng;
-use crate::tally::{self, ENOUGH, Tally, first_difference};
+use crate::tally::{self, Counts, ENOUGH, Tally, first_difference};
 use std::path::Path;
 use std::{fmt, io};
 
@@ -81,12 +82,15 @@ pub struct Report {
     pub walked: u64,
     pub walked_pairs: u64,
     pub pairs: Pairs,
+    /// Refused stray steps, by the other number that refuses them: 12, which comes before 22,
+    /// or 21, 13 or 14, which come after it; 0 where there is none.
+    pub stray: Counts,
     /// Accepted claims that were tried in worlds.
     pub claims: u64,
     /// Those of them whose sides are different terms.
     pub claims_apart: u64,
     /// Those of the latter that were tried in every world of one and two items, as
-    /// far as their symbols go, for every value of their free variables.
+    /// far as their symbols go.
     pub claims_everywhere: u64,
     pub differences: Vec<Difference>,
 }
@@ -101,7 +105,7 @@ pub const WORLDS: usize = 300;
 
 /// The numbers a checker can answer.
 pub fn numbers() -> impl Iterator<Item = Reason> {
-    Reason::ALL.into_iter().filter(|&reason| reason <= Reason::Claim || reason == Reason::Spent)
+    Reason::ALL.into_iter().filter(|&reason| reason <= Reason::Claim || reason >= Reason::Spent)
 }
 
 impl Default for Report {
@@ -115,6 +119,7 @@ impl Default for Report {
             walked: 0,
             walked_pairs: 0,
             pairs: Pairs::default(),
+            stray: Counts::new(),
             claims: 0,
             claims_apart: 0,
             claims_everywhere: 0,
@@ -151,10 +156,12 @@ impl Report {
             let text = difference(&found, &expected, "the Rust checker").or_else(|| {
                 difference(&found, &call(plain?.check, file, length, index), "the plain reading")
             });
+            let text = text.or_else(|| open_claim(file, &found));
             if let Some(text) = text {
                 return Some(format!("area of {length} words: {text}"));
             }
         }
+        self.count_stray(file, answer);
         let counters = [checkers.subject.links, checkers.reference.links];
         for step in compare_links::steps(file, answer, index) {
             let plain = plain.map(|plain| plain.links);
@@ -207,6 +214,27 @@ impl Report {
         steps_hold(&plain, 1, &mut rng).err()
     }
 
+    /// Counts a step that 22 refuses, or 12 though it is stray, by a checker that has the two
+    /// in another order.
+    fn count_stray(&mut self, file: &[u8], answer: u64) {
+        let by = |fault| number(packed(check_with(Broken(fault), file, &mut [0; MAX_SETS])));
+        let (step, stray) = (Reason::Step.number(), Reason::Stray.number());
+        let other = match number(answer) {
+            number if number == stray => Some(by(Fault::SideBeforeStray)),
+            number if number == step => (by(Fault::StrayBeforeStep) == stray).then_some(step),
+            _ => None,
+        };
+        if let Some(other) = other {
+            let other = if other == stray { 0 } else { other };
+            *self.stray.entry(other.into()).or_default() += 1;
+        }
+    }
+
+    /// The numbers by which, beside 22, fewer than `least` stray steps are refused.
+    pub fn unseen_stray(&self, least: u64) -> Vec<u32> {
+        tally::unseen(&self.stray, beside_stray(), least)
+    }
+
     /// The numbers of the checker's table, and 0, answered fewer than `least` times.
     pub fn unseen(&self, least: u64) -> Vec<u32> {
         self.tally.unseen(numbers(), least)
@@ -215,6 +243,26 @@ impl Report {
     pub fn agrees(&self) -> bool {
         self.differences.is_empty()
     }
+}
+
+/// The other numbers that can refuse a stray step.
+fn beside_stray() -> impl Iterator<Item = Reason> {
+    [Reason::Step, Reason::Spent, Reason::Rule, Reason::Side].into_iter()
+}
+
+/// What is wrong with an accepted claim: each of its sides has to be closed (Req 05), by the
+/// free variables in the area.
+fn open_claim(file: &[u8], (answer, area): &(u64, Vec<u64>)) -> Option<String> {
+    if number(*answer) != 0 {
+        return None;
+    }
+    let words = to_words(file);
+    let is_open = |term: &u32| {
+        let set = area.get(area_words(term - 1)..area_words(*term));
+        set.is_none_or(|set| set.iter().any(|&word| word != 0))
+    };
+    let open = [words[LEFT], words[RIGHT]].into_iter().find(is_open)?;
+    Some(format!("accepted, but term {open} of the claim is open"))
 }
 
 /// How two calls differ, if they do.
@@ -261,10 +309,21 @@ impl fmt::Display for Report {
             self.walked, self.walked_pairs
         )?;
         write!(out, "{}", self.pairs)?;
+        let stray = |number| tally::count(&self.stray, number);
         writeln!(
             out,
-            "{} accepted claims tried in worlds, {} of them with different sides; {} of these in \
-             every world of 1 and 2 items, for all values of their free variables",
+            "{} stray steps refused by 22 alone, {} by it before 21, {} before 13, {} before 14, \
+             and {} by 12 before it",
+            stray(0),
+            stray(21),
+            stray(13),
+            stray(14),
+            stray(12)
+        )?;
+        writeln!(
+            out,
+            "{} accepted claims, all closed, tried in worlds, {} of them with different sides; {} \
+             of these in every world of 1 and 2 items",
             self.claims, self.claims_apart, self.claims_everywhere
         )?;
         for difference in &self.differences {

@@ -35,7 +35,8 @@ pub fn steps(file: &[u8], answer: u64, index: u64) -> Vec<usize> {
         .map(|&step| step as usize)
         .collect();
     let refused = answer as u32 as usize;
-    if [Reason::Step, Reason::Rule].iter().any(|reason| u64::from(reason.number()) == answer >> 32)
+    let refusals = [Reason::Step, Reason::Stray, Reason::Rule];
+    if refusals.iter().any(|reason| u64::from(reason.number()) == answer >> 32)
         && !steps.contains(&refused)
     {
         steps.push(refused);

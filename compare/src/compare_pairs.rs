@@ -24,7 +24,7 @@ pub fn walks(file: &[u8], answer: u64, index: u64) -> Vec<(u32, [u32; 2])> {
     let mut rng = Rng::new(index ^ 4);
     let sound = [0, Reason::Step.number(), Reason::Rule.number(), Reason::Side.number()]
         .into_iter()
-        .chain([Reason::Claim.number(), Reason::Spent.number()]);
+        .chain([Reason::Claim.number(), Reason::Spent.number(), Reason::Stray.number()]);
     let Some(counts) = counts_of(file).filter(|_| sound.into_iter().any(|n| n == number(answer)))
     else {
         return Vec::new();
@@ -64,6 +64,8 @@ pub struct Pairs {
     pairs: [u64; 3],
     /// Files that were made of them.
     files: u64,
+    /// Walks whose sides are stray.
+    stray: u64,
     /// Walks whose files would pass a limit, in part or all.
     no_room: u64,
     /// Walks that went to the plain reading too.
@@ -96,15 +98,11 @@ impl Pairs {
                 return Some(format!("{what}: {walk} against {other:?} from the plain reading"));
             }
         }
-        let question = Question { file, context, sides };
-        let expected = question.expected(question.under()?, walk);
+        let question = Question::new(file, context, sides)?;
+        let expected = question.expected(walk);
         self.files += expected.len() as u64;
-        let all = match walk.ending {
-            Ending::Same => 3,
-            Ending::Differs => 2,
-            Ending::Spent => 1,
-        };
-        self.no_room += u64::from(expected.len() < all);
+        self.stray += u64::from(question.is_stray());
+        self.no_room += u64::from(expected.len() < question.all_files(walk));
         let mut free = [0; MAX_SETS];
         for (file, answer) in expected {
             for (name, check) in checkers {
@@ -137,9 +135,11 @@ impl fmt::Display for Pairs {
             out,
             "{} walks of REFL compared by {} files, at the limit and past it: {same} with no \
              difference, {same_pairs} pairs, {differ} with one, {differ_pairs} pairs, and {spent} \
-             spent; {} without room for all their files; {} of all also with the plain reading",
+             spent; {} with a free variable that no entry mentions; {} without room for all \
+             their files; {} of all also with the plain reading",
             same + differ + spent,
             self.files,
+            self.stray,
             self.no_room,
             self.plain
         )

@@ -135,7 +135,8 @@ impl Draft {
     pub fn spoil(&mut self, rng: &mut Rng) {
         match rng.below(100) {
             0..3 => self.spoil_walk(rng),
-            3..28 => self.spoil_field(rng),
+            3..6 => self.spoil_scope(rng),
+            6..28 => self.spoil_field(rng),
             28..32 => self.spoil_symbol(rng),
             32..35 => self.empty_lists(rng),
             35..46 => self.copy_field(rng),
@@ -241,6 +242,75 @@ impl Draft {
                 }
             }
         }
+    }
+
+    /// One fault at what mentions the variables of a step: in its context, in an entry from
+    /// there towards the empty context, in its sides; or one more REFL before the claim.
+    pub fn spoil_scope(&mut self, rng: &mut Rng) {
+        let Some(step) = self.some_record(rng, Section::Steps) else { return };
+        let (terms, contexts) = (self.counts[Section::Terms], self.counts[Section::Contexts]);
+        let variable = rng.between(1, self.counts[Section::Variables].max(1));
+        let chain = self.chain(self.get(Section::Steps, step, 1));
+        let entry = rng.pick(&chain).copied();
+        let parent = |draft: &Self, context| draft.get(Section::Contexts, context, 3);
+        match (entry, rng.below(8)) {
+            (None, 0..5) | (_, 5) => {
+                let other = rng.below(contexts + 1);
+                self.set(Section::Steps, step, 1, other);
+            }
+            (Some(_), 0) => {
+                let outer = parent(self, chain[0]);
+                self.set(Section::Steps, step, 1, outer);
+            }
+            // An entry that is passed by.
+            (Some(entry), 1) => {
+                let above = chain.iter().copied().find(|&context| parent(self, context) == entry);
+                let outer = parent(self, entry);
+                match above {
+                    Some(above) => self.set(Section::Contexts, above, 3, outer),
+                    None => self.set(Section::Steps, step, 1, outer),
+                }
+            }
+            (Some(entry), 2..4) if self.get(Section::Contexts, entry, 0) == 1 => {
+                self.set(Section::Contexts, entry, 1, variable);
+            }
+            (Some(entry), 2..4) => {
+                let mut variables = self.list(self.get(Section::Contexts, entry, 1));
+                let place = rng.below(variables.len() as u32) as usize;
+                if let Some(listed) = variables.get_mut(place) {
+                    *listed = variable;
+                }
+                let start = self.append_list(&variables);
+                self.set(Section::Contexts, entry, 1, start);
+            }
+            (Some(entry), 4) => {
+                for (field, word) in [1, variable, 0].into_iter().enumerate() {
+                    self.set(Section::Contexts, entry, field, word);
+                }
+            }
+            (_, 6) => {
+                let (side, other) = (rng.between(2, 3), rng.between(1, terms.max(1)));
+                self.set(Section::Steps, step, side as usize, other);
+            }
+            _ => {
+                let last = self.record(Section::Steps, self.counts[Section::Steps]);
+                let (context, term) = (rng.below(contexts + 1), rng.between(1, terms.max(1)));
+                self.append(Section::Steps, &[1, context, term, term, 0]);
+                self.append(Section::Steps, &last);
+            }
+        }
+    }
+
+    /// A context and those towards the empty one.
+    fn chain(&self, context: u32) -> Vec<u32> {
+        let mut chain = Vec::new();
+        let mut at = context;
+        while at >= 1 && at <= self.counts[Section::Contexts] {
+            chain.push(at);
+            let parent = self.get(Section::Contexts, at, 3);
+            at = if parent < at { parent } else { 0 };
+        }
+        chain
     }
 
     /// A term and those below it.

@@ -237,6 +237,7 @@ impl Run {
         let good = self.ended(begun, &report.unseen(self.least))
             & self.seen("counts of links", &report.walks.unseen(self.least))
             & self.seen("walks of REFL", &report.pairs.unseen(self.least))
+            & self.seen("other numbers of stray steps", &report.unseen_stray(self.least))
             & report.agrees();
         let begun = Instant::now();
         let report =

@@ -379,6 +379,28 @@ impl Plain {
         None
     }
 
+    /// Whether an entry, from the context towards the empty one, fixes or replaces a variable.
+    fn mentions(&self, context: u32, variable: u32) -> bool {
+        let mut at = context;
+        while at != 0 {
+            let (entry, parent) = &self.contexts[at as usize - 1];
+            let here = match entry {
+                Entry::Fixes(fixed) => *fixed == variable,
+                Entry::Replaces(variables, _) => variables.contains(&variable),
+            };
+            if here {
+                return true;
+            }
+            at = *parent;
+        }
+        false
+    }
+
+    /// Whether some free variable of a term is mentioned by no entry (Req 05).
+    fn is_stray(&self, context: u32, term: u32) -> bool {
+        self.free(term).iter().any(|&variable| !self.mentions(context, variable))
+    }
+
     fn moved(&self, context: u32, variable: u32) -> bool {
         match self.image(context, variable) {
             None => false,
@@ -445,6 +467,9 @@ impl Plain {
         };
         if premises.len() != due {
             return Some(Reason::Step);
+        }
+        if self.is_stray(context, left) || self.is_stray(context, right) {
+            return Some(Reason::Stray);
         }
         let step = Step { rule, context, left, right, premises };
         let before: Vec<Step> =

@@ -2,12 +2,15 @@
 //! answer to a file has the count of a walk that ends with no difference; the count of one
 //! that differs shows at the limit: with terms that take k pairs walked before it, it is
 //! refused by 13 as long as all pairs together are within the limit, else by 21.
+//!
+//! A walk is the same whether or not the context mentions the free variables of its sides
+//! (Req 05). Where one is not mentioned, entries that fix it are put between the empty context
+//! and all others: it stays its own image everywhere, and no other image changes.
 
 use crate::answer::{Ending, Reason, Refusal, Whole, number};
 use crate::bundle::{BUILT_IN, MAX_SETS, Section, counts_of, to_bytes, to_words};
-use crate::check::{MOST_PAIRS, Tables};
+use crate::check::{MOST_PAIRS, sides_in};
 use crate::compare::Checker;
-use crate::fault::Exact;
 
 const TRUTH: u32 = 0;
 /// Kinds of terms.
@@ -17,9 +20,13 @@ const EXISTS: u32 = 4;
 /// The walk of a REFL: a file whose tables and contexts are sound, a context and two terms.
 #[derive(Clone, Debug)]
 pub struct Question<'a> {
-    pub file: &'a [u8],
-    pub context: u32,
-    pub sides: [u32; 2],
+    file: &'a [u8],
+    context: u32,
+    sides: [u32; 2],
+    /// The free variables of the sides that the context does not mention.
+    stray: Vec<u32>,
+    /// What holds the sides behind the terms that are walked before them.
+    under: Under,
 }
 
 /// What the walked terms are put under, behind the terms that are walked before them.
@@ -31,14 +38,32 @@ pub enum Under {
     Let,
 }
 
-impl Question<'_> {
-    /// A symbol where the sides have one sort, else a let. `None` where the terms are not
-    /// sound or the sides are none of them.
-    pub fn under(&self) -> Option<Under> {
-        let terms = Tables::decode(Exact, self.file, |_| true).ok()?.terms;
-        let sort = |term: u32| terms.is_term(term).then(|| terms.get(term).sort);
-        let (left, right) = (sort(self.sides[0])?, sort(self.sides[1])?);
-        Some(if left == right { Under::Symbol(left.word()) } else { Under::Let })
+/// Whether the fixing entries that a stray variable asks for are put in.
+#[derive(Clone, Copy, Debug, PartialEq, Eq)]
+enum Scope {
+    Fixed,
+    AsGiven,
+}
+
+impl<'a> Question<'a> {
+    /// `None` where the tables or contexts are not sound, or there is no such context or term.
+    pub fn new(file: &'a [u8], context: u32, sides: [u32; 2]) -> Option<Self> {
+        let ([left, right], stray) = sides_in(file, context, sides)?;
+        let under = if left == right { Under::Symbol(left.word()) } else { Under::Let };
+        Some(Question { file, context, sides, stray: stray.members().collect(), under })
+    }
+
+    /// Whether a side has a free variable that the context does not mention.
+    pub fn is_stray(&self) -> bool {
+        !self.stray.is_empty()
+    }
+
+    /// The file's records with the fixing entries, and the context's number there.
+    fn sheet(&self, scope: Scope) -> Option<(Sheet, u32)> {
+        let mut sheet = Sheet::new(self.file)?;
+        let fixed = if scope == Scope::Fixed { &self.stray[..] } else { &[] };
+        sheet.fix_below_all(fixed);
+        Some((sheet, self.context + fixed.len() as u32))
     }
 
     /// Whether one of REFL's first forms takes it, given that the walk finds no difference:
@@ -52,19 +77,19 @@ impl Question<'_> {
 
     /// A file whose first step is the REFL that is asked about, and whose claim is another
     /// term's. `None` where it would pass a limit.
-    pub fn bare(&self) -> Option<Vec<u8>> {
-        let mut sheet = Sheet::new(self.file)?;
-        sheet.finish(self.context, self.sides)
+    fn bare(&self, scope: Scope) -> Option<Vec<u8>> {
+        let (mut sheet, context) = self.sheet(scope)?;
+        sheet.finish(context, self.sides)
     }
 
     /// The same with terms of so many pairs walked before, and a pair for what holds them
     /// together: `more` pairs in all, one at least.
-    pub fn padded(&self, under: Under, more: u32) -> Option<Vec<u8>> {
-        let mut sheet = Sheet::new(self.file)?;
+    fn padded(&self, scope: Scope, more: u32) -> Option<Vec<u8>> {
+        let (mut sheet, context) = self.sheet(scope)?;
         // The sides of one term would be taken without a walk: two names are told apart first.
         let named = self.sides[0] == self.sides[1];
         let filling = more.checked_sub(if named { 3 } else { 1 })?;
-        if filling == 0 && !named && under == Under::Let {
+        if filling == 0 && !named && self.under == Under::Let {
             return None; // a let has a variable
         }
         let filling = sheet.filling(filling);
@@ -74,8 +99,8 @@ impl Question<'_> {
             let names = sheet.differing(truth);
             parts.iter_mut().zip(names).for_each(|(parts, name)| parts.push(name));
         }
-        let sides = sheet.hold(under, parts, self.sides);
-        sheet.finish(self.context, sides)
+        let sides = sheet.hold(self.under, parts, self.sides);
+        sheet.finish(context, sides)
     }
 
     /// What a checker answers to such a file, `None` where there is none.
@@ -87,10 +112,9 @@ impl Question<'_> {
     /// The walk, as a checker's answers tell it: the least padding with which it is spent is
     /// looked for by halves. `None` where a file would pass a limit.
     pub fn measure(&self, check: Checker) -> Option<Result<Whole, u64>> {
-        let under = self.under()?;
         let spent = Refusal::at(Reason::Spent, 1).packed();
         let found = |ending, pairs| Some(Ok(Whole { ending, pairs }));
-        let bare = Self::ask(check, self.bare())?;
+        let bare = Self::ask(check, self.bare(Scope::Fixed))?;
         let ending = match bare {
             _ if bare == spent => return found(Ending::Spent, MOST_PAIRS),
             _ if number(bare) == 0 => Ending::Same,
@@ -107,7 +131,7 @@ impl Question<'_> {
         for asked in [least, high] {
             let answer = match asked {
                 0 => bare,
-                _ => Self::ask(check, self.padded(under, asked))?,
+                _ => Self::ask(check, self.padded(Scope::Fixed, asked))?,
             };
             if (answer == spent) != (asked == high) {
                 return Some(Err(answer));
@@ -115,7 +139,7 @@ impl Question<'_> {
         }
         while low + 1 < high {
             let middle = low.midpoint(high);
-            match Self::ask(check, self.padded(under, middle))? {
+            match Self::ask(check, self.padded(Scope::Fixed, middle))? {
                 answer if answer == spent => high = middle,
                 answer if answer == bare || ending == Ending::Same && number(answer) == 0 => {
                     low = middle;
@@ -128,32 +152,54 @@ impl Question<'_> {
 
     /// The files that are made of a walk of which this is known, and their answers: the walk
     /// alone where it finds no difference, or is spent; at the limit; and one pair past it.
-    pub fn expected(&self, under: Under, walk: Whole) -> Vec<(Vec<u8>, u64)> {
+    /// Where a side is stray, also the first and the last of them without the fixing entries.
+    pub fn expected(&self, walk: Whole) -> Vec<(Vec<u8>, u64)> {
         let refused = |reason| Refusal::at(reason, 1).packed();
         let mut files = Vec::new();
         let mut add = |file: Option<Vec<u8>>, answer| {
             files.extend(file.map(|file| (file, answer)));
         };
         match walk.ending {
-            Ending::Spent => add(self.bare(), refused(Reason::Spent)),
+            // One settled term would be taken without a walk.
+            Ending::Spent if self.sides[0] == self.sides[1] => {
+                add(self.padded(Scope::Fixed, 3), refused(Reason::Spent));
+            }
+            Ending::Spent => add(self.bare(Scope::Fixed), refused(Reason::Spent)),
             Ending::Same | Ending::Differs => {
                 let within = match walk.ending {
                     Ending::Same => MOST_PAIRS.into(),
                     _ => refused(Reason::Rule),
                 };
                 if walk.ending == Ending::Same {
-                    add(self.bare(), if self.stays() { 0 } else { walk.pairs.into() });
+                    let pairs = if self.stays() { 0 } else { walk.pairs.into() };
+                    add(self.bare(Scope::Fixed), pairs);
                 }
                 let more = MOST_PAIRS - walk.pairs;
                 if more == 0 {
-                    add(self.bare(), within);
+                    add(self.bare(Scope::Fixed), within);
                 } else {
-                    add(self.padded(under, more), within);
+                    add(self.padded(Scope::Fixed, more), within);
                 }
-                add(self.padded(under, more + 1), refused(Reason::Spent));
+                add(self.padded(Scope::Fixed, more + 1), refused(Reason::Spent));
+                if self.is_stray() {
+                    add(self.padded(Scope::AsGiven, more + 1), refused(Reason::Stray));
+                }
             }
         }
+        if self.is_stray() {
+            add(self.bare(Scope::AsGiven), refused(Reason::Stray));
+        }
         files
+    }
+
+    /// How many files there are where none would pass a limit.
+    pub fn all_files(&self, walk: Whole) -> usize {
+        let (fixed, stray) = match walk.ending {
+            Ending::Same => (3, 2),
+            Ending::Differs => (2, 2),
+            Ending::Spent => (1, 1),
+        };
+        fixed + if self.is_stray() { stray } else { 0 }
     }
 }
 
@@ -190,6 +236,17 @@ impl Sheet {
     fn add(&mut self, section: Section, record: &[u32]) -> u32 {
         self.sections[section as usize].extend(record);
         self.count(section)
+    }
+
+    /// Puts entries that fix these variables between the empty context and all others, whose
+    /// numbers rise by as many.
+    fn fix_below_all(&mut self, variables: &[u32]) {
+        let by = variables.len() as u32;
+        let contexts = &mut self.sections[Section::Contexts as usize];
+        let (records, _) = contexts.as_chunks_mut::<4>();
+        records.iter_mut().for_each(|[.., parent]| *parent += by);
+        let fixing = (0..).zip(variables).flat_map(|(parent, &variable)| [1, variable, 0, parent]);
+        contexts.splice(..0, fixing);
     }
 
     fn list(&mut self, values: &[u32]) -> u32 {

@@ -74,6 +74,11 @@ impl Set {
         Set(array::from_fn(|word| self.0[word] & !other.0[word]))
     }
 
+    /// Whether every variable of this set is in the other.
+    pub fn within(self, other: Set) -> bool {
+        self.without(other).is_empty()
+    }
+
     pub fn disjoint(self, other: Set) -> bool {
         self.intersection(other).is_empty()
     }
@@ -172,6 +177,8 @@ mod tests {
                 same(a.intersection(b), &one & &other);
                 same(a.without(b), &one - &other);
                 assert_eq!(a.disjoint(b), one.is_disjoint(&other));
+                assert_eq!(a.within(b), one.is_subset(&other));
+                assert!(a.intersection(b).within(a));
                 assert_eq!(a.is_empty(), one.is_empty());
                 assert_eq!(a == b, one == other);
                 for variable in 1..=LAST {

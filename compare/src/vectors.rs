@@ -106,8 +106,7 @@ impl Call {
             }
             Call::Links { step, file } => Some((counted((party.links)(file, *step)), None)),
             Call::Walk { context, sides, file } => {
-                let question = Question { file, context: *context, sides: *sides };
-                let walk = question.measure(party.check)?;
+                let walk = Question::new(file, *context, *sides)?.measure(party.check)?;
                 Some((walk.map_or_else(refused, |walk| walk.to_string()), None))
             }
         }
@@ -307,7 +306,7 @@ pub fn refusals(text: &str) -> Vec<u32> {
     let mut numbers: Vec<u32> = text
         .lines()
         .filter_map(|line| line.rsplit_once(" = refused ")?.1.split(' ').next()?.parse().ok())
-        .filter(|&number| number <= Reason::Spent.number())
+        .filter(|&number| number <= Reason::Stray.number())
         .collect();
     numbers.sort_unstable();
     numbers.dedup();

@@ -25,9 +25,12 @@ pub struct Context {
     pub parent: u32,
     /// The variables whose image is another term.
     moved: Set,
+    /// The variables that this entry or one towards the empty context fixes or replaces.
+    mentioned: Set,
 }
 
-const EMPTY: Context = Context { entry: Entry::Empty, parent: 0, moved: Set::EMPTY };
+const EMPTY: Context =
+    Context { entry: Entry::Empty, parent: 0, moved: Set::EMPTY, mentioned: Set::EMPTY };
 
 #[derive(Debug)]
 pub struct Contexts {
@@ -102,6 +105,15 @@ impl Contexts {
         self.contexts[context as usize].moved
     }
 
+    pub fn mentioned(&self, context: u32) -> Set {
+        self.contexts[context as usize].mentioned
+    }
+
+    /// What any context mentions. Only a fault asks for it.
+    pub fn mentioned_anywhere(&self) -> Set {
+        self.contexts.iter().fold(Set::EMPTY, |all, context| all.union(context.mentioned))
+    }
+
     /// Whether none of these variables is moved.
     pub fn settled<R: Rules>(&self, rules: R, context: u32, free: Set) -> bool {
         disjoint(rules, free, self.moved(context))
@@ -113,17 +125,25 @@ impl Contexts {
         let number = self.contexts.len();
         // Only a fault lets a context be its own parent: it then has the empty one.
         let above = if (parent as usize) < number { parent as usize } else { 0 };
-        let parent_moved = self.contexts[above].moved;
+        let Context { moved: parent_moved, mentioned: above_mentioned, .. } = self.contexts[above];
         self.images.extend_from_within(above * self.width..(above + 1) * self.width);
         let row = &mut self.images[number * self.width..];
         let mut moved = parent_moved;
+        let mut mentioned =
+            if rules.has(Fault::OwnEntryMentions) { Set::EMPTY } else { above_mentioned };
         let mut unsettled = 0;
         match entry {
             Entry::Empty => {}
-            Entry::Fixes(_) if rules.has(Fault::FixingHidesNothing) => {}
             Entry::Fixes(variable) => {
-                row[variable as usize - 1] = 0;
-                moved.remove(member(rules, variable));
+                if !rules.has(Fault::FixingHidesNothing) {
+                    row[variable as usize - 1] = 0;
+                    moved.remove(member(rules, variable));
+                }
+                if rules.has(Fault::FixingEndsMention) && mentioned.has(variable) {
+                    mentioned.remove(variable);
+                } else if !rules.has(Fault::FixedUnmentioned) {
+                    mentioned.insert(member(rules, variable));
+                }
             }
             Entry::Replaces { variables, terms } => {
                 let pairs = || tables.lists.values(variables).zip(tables.lists.values(terms));
@@ -134,25 +154,34 @@ impl Contexts {
                         term
                     };
                     let known = tables.terms.get(term);
+                    let own = known.term == Term::Variable(variable);
+                    let free = tables.terms.free(rules, term);
+                    if !(rules.has(Fault::ReplacedUnmentioned)
+                        || rules.has(Fault::FirstReplacedMentioned) && place > 1
+                        || rules.has(Fault::OwnTermUnmentioned) && own)
+                    {
+                        mentioned.insert(member(rules, variable));
+                    }
+                    if rules.has(Fault::ReplacementsMention) {
+                        mentioned = mentioned.union(free);
+                    }
                     let image = &mut row[variable as usize - 1];
                     if rules.has(Fault::OuterReplacementWins) && *image != 0 {
                         continue;
                     }
                     *image = term as u16;
-                    let own = known.term == Term::Variable(variable);
                     if own && !rules.has(Fault::OwnTermMoves) {
                         moved.remove(member(rules, variable));
                     } else {
                         moved.insert(member(rules, variable));
                     }
-                    let free = tables.terms.free(rules, term);
                     if unsettled == 0 && !disjoint(rules, free, parent_moved) {
                         unsettled = place;
                     }
                 }
             }
         }
-        self.contexts.push(Context { entry, parent, moved });
+        self.contexts.push(Context { entry, parent, moved, mentioned });
         unsettled
     }
 }

@@ -30,6 +30,7 @@ pub use whole::MOST_PAIRS;
 use crate::answer::{Accepted, Reason, Refusal, Whole};
 use crate::bundle::{Counts, SET_WORDS, Section, area_words, to_words};
 use crate::fault::{Exact, Fault, OLD_VARIABLES, Rules};
+use crate::set::Set;
 use contexts::Contexts;
 use lists::Classes;
 use terms::Key;
@@ -98,6 +99,21 @@ pub fn walk(file: &[u8], context: u32, sides: [u32; 2]) -> Option<Whole> {
     let there = context <= contexts.count() && sides.iter().all(|&term| tables.terms.is_term(term));
     let mut binders = Binders::default();
     there.then(|| whole::walk(Exact, &tables, &contexts, &mut binders, context, sides))
+}
+
+/// The sorts of two terms of a file, and their free variables that a context of it does not
+/// mention (Req 05). `None` where one of 1 to 11 refuses the file, or there is no such context
+/// or term.
+pub fn sides_in(file: &[u8], context: u32, sides: [u32; 2]) -> Option<([Sort; 2], Set)> {
+    let tables = Tables::decode(Exact, file, |_| true).ok()?;
+    let contexts = Contexts::decode(Exact, &tables).ok()?;
+    let Tables { terms, .. } = &tables;
+    let there = context <= contexts.count() && sides.iter().all(|&term| terms.is_term(term));
+    there.then(|| {
+        let [left, right] = sides.map(|term| terms.free(Exact, term));
+        let stray = left.union(right).without(contexts.mentioned(context));
+        (sides.map(|term| terms.get(term).sort), stray)
+    })
 }
 
 /// What precedes terms, decoded and found well formed.

@@ -1,4 +1,4 @@
-//! Steps (refusals 12 to 14, and 21) and the claim (15).
+//! Steps (refusals 12, 22, 21, 13 and 14, in this order) and the claim (15).
 
 use super::contexts::{Contexts, Entry};
 use super::terms::Term;
@@ -161,19 +161,74 @@ impl<'a, R: Rules> Checker<'a, R> {
     }
 
     fn step(&mut self, number: u32, step: Step) -> Result<(), Reason> {
+        if self.rules.has(Fault::StrayBeforeStep) && self.has_sides(&step) {
+            require(self.in_scope(&step), Reason::Stray)?;
+        }
         if !self.references_sound(number, &step) {
             return Err(Reason::Step);
         }
         self.steps[number as usize] = step;
+        if !self.in_scope(&step) && !self.stray_comes_later(&step) {
+            return Err(Reason::Stray);
+        }
+        self.follows(&step)
+    }
+
+    /// Refusals 21, 13 and 14.
+    fn follows(&mut self, step: &Step) -> Result<(), Reason> {
         match step.rule {
-            REFL => self.refl(&step),
+            REFL => self.refl(step),
             // Only `links` asks for the count: here the compiler may leave it out, as it
             // does in the proved library.
-            CONG => require(self.cong(&step).passes, Reason::Rule),
-            TRANS => self.trans(&step),
-            BIND => self.bind(&step),
-            _ => require(self.let_(&step), Reason::Rule),
+            CONG => require(self.cong(step).passes, Reason::Rule),
+            TRANS => self.trans(step),
+            BIND => self.bind(step),
+            _ => require(self.let_(step), Reason::Rule),
         }
+    }
+
+    fn has_sides(&self, step: &Step) -> bool {
+        let terms = &self.tables.terms;
+        step.context <= self.contexts.count()
+            && terms.is_term(step.left)
+            && terms.is_term(step.right)
+    }
+
+    /// Whether the context mentions every free variable of both sides (Req 05).
+    fn in_scope(&self, step: &Step) -> bool {
+        let Checker { rules, contexts, .. } = *self;
+        let left =
+            if rules.has(Fault::StrayLeftUnread) { Set::EMPTY } else { self.free(step.left) };
+        let right =
+            if rules.has(Fault::StrayRightUnread) { Set::EMPTY } else { self.free(step.right) };
+        let mentioned = if rules.has(Fault::AnyContextMentions) {
+            contexts.mentioned_anywhere()
+        } else {
+            contexts.mentioned(step.context)
+        };
+        let free = left.union(right);
+        if rules.has(Fault::StrayFirstWord) {
+            return free.words()[0] & !mentioned.words()[0] == 0;
+        }
+        free.within(mentioned)
+            || rules.has(Fault::StrayUnread)
+            || rules.has(Fault::StrayInReflOnly) && step.rule != REFL
+            || rules.has(Fault::EmptyContextNeverStray) && step.context == 0
+            || rules.has(Fault::StrayInEmptyContextOnly) && step.context != 0
+    }
+
+    /// Whether a fault has another refusal of a step come before 22.
+    fn stray_comes_later(&mut self, step: &Step) -> bool {
+        let before: &[Reason] = if self.rules.has(Fault::SpentBeforeStray) {
+            &[Reason::Spent]
+        } else if self.rules.has(Fault::RuleBeforeStray) {
+            &[Reason::Spent, Reason::Rule]
+        } else if self.rules.has(Fault::SideBeforeStray) {
+            &[Reason::Spent, Reason::Rule, Reason::Side]
+        } else {
+            return false;
+        };
+        self.follows(step).is_err_and(|reason| before.contains(&reason))
     }
 
     fn references_sound(&self, number: u32, step: &Step) -> bool {

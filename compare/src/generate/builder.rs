@@ -53,6 +53,8 @@ struct Context {
     /// The image's term by variable - 1, 0 where no entry replaces it.
     images: Vec<u32>,
     moved: Set,
+    /// What this entry and those towards the empty context fix or replace.
+    mentioned: Set,
     parent: u32,
 }
 
@@ -293,16 +295,18 @@ impl Builder {
             _ => self.contexts[parent as usize - 1].images.clone(),
         };
         images.resize(self.variables.len(), 0);
-        let mut moved = self.moved(parent);
+        let (mut moved, mut mentioned) = (self.moved(parent), self.mentioned(parent));
         let fields = match &entry {
             Entry::Fixes(variable) => {
                 images[*variable as usize - 1] = 0;
                 moved.remove(*variable);
+                mentioned.insert(*variable);
                 [Word(1), Word(*variable), Word(0), Word(parent)]
             }
             Entry::Replaces(variables, terms) => {
                 for (&variable, &term) in variables.iter().zip(terms) {
                     images[variable as usize - 1] = term;
+                    mentioned.insert(variable);
                     if *self.shape(term) == Shape::Variable(variable) {
                         moved.remove(variable);
                     } else {
@@ -312,7 +316,8 @@ impl Builder {
                 [Word(2), List(self.list(variables)), List(self.list(terms)), Word(parent)]
             }
         };
-        self.contexts.push(Context { entry: entry.clone(), fields, images, moved, parent });
+        let made = Context { entry: entry.clone(), fields, images, moved, mentioned, parent };
+        self.contexts.push(made);
         let number = self.contexts.len() as u32;
         self.known_contexts.insert((entry, parent), number);
         number
@@ -334,6 +339,23 @@ impl Builder {
 
     pub fn moved(&self, context: u32) -> Set {
         if context == 0 { Set::EMPTY } else { self.contexts[context as usize - 1].moved }
+    }
+
+    pub fn mentioned(&self, context: u32) -> Set {
+        if context == 0 { Set::EMPTY } else { self.contexts[context as usize - 1].mentioned }
+    }
+
+    /// Whether a context mentions every free variable of a term.
+    pub fn in_scope(&self, context: u32, term: u32) -> bool {
+        self.free(term).within(self.mentioned(context))
+    }
+
+    /// A context above this one that mentions the free variables of these terms, too: it fixes
+    /// those that were not mentioned, so that no image changes.
+    pub fn scope(&mut self, context: u32, terms: &[u32]) -> u32 {
+        let free = terms.iter().fold(Set::EMPTY, |free, &term| free.union(self.free(term)));
+        let stray = free.without(self.mentioned(context));
+        stray.members().fold(context, |context, variable| self.fix(variable, context))
     }
 
     /// The term that replaces a variable in a context.

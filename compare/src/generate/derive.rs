@@ -34,11 +34,13 @@ pub enum Slip {
     Claim,
     /// REFL to what is nearly the replaced term.
     Whole,
+    /// A free variable that no entry mentions.
+    Stray,
 }
 
 /// Wrong choices to be tried by themselves, and together where the order of
 /// refusals in a step decides.
-pub const SLIPS: [&[Slip]; 16] = [
+pub const SLIPS: [&[Slip]; 21] = [
     &[Slip::Refl],
     &[Slip::Image],
     &[Slip::Middle],
@@ -48,6 +50,7 @@ pub const SLIPS: [&[Slip]; 16] = [
     &[Slip::Name],
     &[Slip::Name],
     &[Slip::Bind],
+    &[Slip::Bind],
     &[Slip::Let],
     &[Slip::Replacement],
     &[Slip::Claim],
@@ -55,6 +58,10 @@ pub const SLIPS: [&[Slip]; 16] = [
     &[Slip::Name, Slip::Bind],
     &[Slip::Name, Slip::Bind],
     &[Slip::Middle, Slip::Trans],
+    &[Slip::Stray],
+    &[Slip::Stray, Slip::Whole],
+    &[Slip::Stray, Slip::Name],
+    &[Slip::Stray, Slip::Cong, Slip::Refl],
 ];
 
 /// How carefully a derivation is made.
@@ -73,7 +80,7 @@ pub const SELDOM: u32 = 6;
 
 /// The sections that a derivation adds to without asking.
 const GROWING: [Section; 4] = [Section::Terms, Section::Links, Section::Contexts, Section::Steps];
-const SMALL: [u32; 4] = [200, 400, 60, 150];
+const SMALL: [u32; 4] = [200, 400, 80, 150];
 
 #[derive(Debug)]
 pub struct Derivation<'a> {
@@ -439,7 +446,16 @@ impl<'a> Derivation<'a> {
         terms.windows(2).all(|pair| self.builder.sort(pair[0]) == self.builder.sort(pair[1]))
     }
 
-    /// A random entry above `parent`.
+    /// A context above this one that mentions the free variables of these terms.
+    fn scope(&mut self, context: u32, terms: &[u32]) -> u32 {
+        let within = terms.iter().all(|&term| self.builder.in_scope(context, term));
+        if within || self.slips(Slip::Stray) {
+            return context;
+        }
+        self.builder.scope(context, terms)
+    }
+
+    /// A random entry above `parent`, or above entries that fix what its terms have free.
     pub fn random_context(&mut self, parent: u32) -> u32 {
         let variable = self.builder.draw_variable();
         if self.chance(35) {
@@ -475,28 +491,53 @@ impl<'a> Derivation<'a> {
             }
             terms.push(term);
         }
+        let parent = self.scope(parent, &terms);
         self.builder.replace(&variables, &terms, parent)
+    }
+
+    /// Entries that mention some of the variables, all of them in place: fixed, or replaced by
+    /// their own terms.
+    fn ground(&mut self) -> u32 {
+        let mut context = 0;
+        for _ in 0..self.builder.rng.below(6) {
+            let variable = self.builder.draw_variable();
+            context = if self.chance(70) {
+                self.builder.fix(variable, context)
+            } else {
+                let term = self.builder.variable_term(variable);
+                self.builder.replace(&[variable], &[term], context)
+            };
+        }
+        context
     }
 
     /// Steps that the claim does not need, in contexts of all kinds.
     pub fn lemmas(&mut self, count: u32) {
         for _ in 0..count {
-            let mut context = self.builder.rng.below(self.builder.count(Section::Contexts) + 1);
+            let mut context = match self.builder.rng.below(10) {
+                0..3 => self.ground(),
+                _ => self.builder.rng.below(self.builder.count(Section::Contexts) + 1),
+            };
             for _ in 0..self.builder.rng.between(1, 4) {
                 context = self.random_context(context);
             }
             let sort = self.builder.rng.below(2);
             let term = self.builder.random_term(sort, 2);
+            let entry = self.builder.entry(context).clone();
+            let context = self.scope(context, &[term]);
             self.carry(context, term);
-            if let Entry::Replaces(variables, _) = self.builder.entry(context).clone() {
+            if let Entry::Replaces(variables, _) = entry {
                 let term = self.builder.variable_term(variables[0]);
                 self.carry(context, term);
             }
         }
     }
 
-    /// Ends the file with a step in the empty context.
+    /// Ends the file with a step in the empty context, from the term with its free variables
+    /// bound.
     pub fn claim(&mut self, term: u32) {
+        let closed = self.builder.in_scope(0, term);
+        let term = if closed || self.slips(Slip::Stray) { term } else { self.builder.close(term) };
         let found = if self.chance(85) { self.advance(0, term) } else { self.carry(0, term) };
         let step = match found {
             Some(step) => step,

@@ -49,7 +49,8 @@ pub fn long_lists(rng: Rng, arguments: usize, steps: u32) -> Vec<u32> {
     let tail = b.variable(ITEM);
     let tail_term = b.variable_term(tail);
     let a_term = b.apply(a, &[]);
-    let context = b.replace(&[tail], &[a_term], 0);
+    let fixing = heads.iter().fold(0, |parent, &head| b.fix(head, parent));
+    let context = b.replace(&[tail], &[a_term], fixing);
     let tail_step = b.add_step(REFL, context, tail_term, a_term, &[]);
     let mut last = (0, 0, 0);
     while b.count(Section::Steps) + 2 < steps || last.0 == 0 {

@@ -6,7 +6,7 @@ use crate::bundle::Section;
 use crate::rng::Rng;
 
 /// What a small derivation may still need, in the file's order of sections.
-const KEPT_FREE: [u32; 6] = [0, 24, 300, 600, 90, 220];
+const KEPT_FREE: [u32; 6] = [0, 24, 300, 600, 120, 220];
 
 /// A derivation in a file with some sections full: one, several or all; where
 /// `past`, one section has one record too many.

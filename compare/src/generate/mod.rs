@@ -9,6 +9,7 @@ pub mod large;
 pub mod limits;
 pub mod printing;
 pub mod replace;
+pub mod stray;
 mod terms;
 pub mod texts;
 pub mod whole;
@@ -35,6 +36,8 @@ pub enum Family {
     Large,
     /// REFL for whole terms, some of them damaged there.
     Whole,
+    /// Free variables that no entry mentions, or only just.
+    Stray,
     /// Document 01's examples, often damaged.
     Example,
     /// Random words of the right length, random bytes.
@@ -53,12 +56,13 @@ pub fn case(seed: u64, index: u64) -> Case {
     let family = match rng.below(1000) {
         0..190 => Family::Derivation,
         190..355 => Family::Careless,
-        355..680 => Family::Damaged,
-        680..800 => Family::Order,
-        800..900 => Family::Whole,
-        900..915 => Family::Limit,
-        915..925 => Family::Large,
-        925..950 => Family::Example,
+        355..655 => Family::Damaged,
+        655..770 => Family::Order,
+        770..870 => Family::Whole,
+        870..910 => Family::Stray,
+        910..925 => Family::Limit,
+        925..935 => Family::Large,
+        935..955 => Family::Example,
         _ => Family::Random,
     };
     let bytes = match family {
@@ -99,6 +103,13 @@ pub fn case(seed: u64, index: u64) -> Case {
             let mut draft = Draft::new(whole::any(rng.clone()));
             if rng.chance(25) {
                 draft.spoil_walk(&mut rng);
+            }
+            draft.bytes()
+        }
+        Family::Stray => {
+            let mut draft = Draft::new(stray::any(rng.clone()));
+            if rng.chance(15) {
+                draft.spoil_scope(&mut rng);
             }
             draft.bytes()
         }
@@ -151,10 +162,7 @@ fn attempt(mut rng: Rng, care: Care, whole: u32) -> (Vec<u32>, bool) {
     builder.random_signature();
     let depth = builder.rng.between(1, 6);
     let sort = builder.rng.one_of([TRUTH, TRUTH, TRUTH, TRUTH, TRUTH, ITEM]);
-    let mut term = builder.random_compound(sort, depth);
-    if builder.rng.chance(60) {
-        term = builder.close(term);
-    }
+    let term = builder.random_compound(sort, depth);
     let lemmas = if builder.rng.chance(50) { builder.rng.between(1, 5) } else { 0 };
     let mut derivation = Derivation::new(&mut builder, care).walking(whole);
     derivation.lemmas(lemmas);

@@ -153,7 +153,7 @@ impl Replacing<'_> {
         }
         if self.misses(Miss::Image) {
             self.made();
-            return if self.builder.rng.chance(40) { term } else { self.builder.random_leaf(sort) };
+            return if self.builder.rng.chance(40) { term } else { self.leaf(sort) };
         }
         if let Shape::Variable(next) = *self.builder.shape(image)
             && let Some(again) = self.builder.image(self.context, next)
@@ -174,6 +174,18 @@ impl Replacing<'_> {
             }
         }
         image
+    }
+
+    /// A leaf, one that is in scope where it can be.
+    fn leaf(&mut self, sort: u32) -> u32 {
+        let mut leaf = self.builder.random_leaf(sort);
+        for _ in 0..6 {
+            if self.builder.in_scope(self.context, leaf) {
+                break;
+            }
+            leaf = self.builder.random_leaf(sort);
+        }
+        leaf
     }
 
     /// Names in the copy for the variables of a binder: none that is free there in what the
@@ -261,7 +273,7 @@ impl Replacing<'_> {
         self.scope.truncate(outside);
         // A miss gave the only variable another sort.
         if sorts(self.builder, &names) != sorts(self.builder, variables) {
-            results = vec![self.builder.random_leaf(self.builder.variable_sort(names[0]))];
+            results = vec![self.leaf(self.builder.variable_sort(names[0]))];
         }
         if names.len() > 1 && self.misses(Miss::Order) {
             let before = names.clone();
@@ -280,7 +292,7 @@ impl Replacing<'_> {
                 results.pop();
             } else if !names.contains(&more) {
                 names.push(more);
-                results.push(self.builder.random_leaf(self.builder.variable_sort(more)));
+                results.push(self.leaf(self.builder.variable_sort(more)));
             } else {
                 // A let within the let's place is another term too.
                 result = self.builder.bind_let(&names, &results, result);

@@ -2,7 +2,7 @@
 //! shapes.
 
 use super::builder::{Builder, EXISTS, FOR_ALL, ITEM, TRUTH};
-use super::derive::{Care, Derivation, LET, REFL, Slip};
+use super::derive::{BIND, Care, Derivation, LET, REFL, Slip};
 use super::replace::{MISSES, Miss, replaced};
 use crate::bundle::Section;
 use crate::rng::Rng;
@@ -143,7 +143,7 @@ fn doubles(rng: Rng) -> Vec<u32> {
         }
         _ => {}
     }
-    b.add_step(REFL, context, left, right, &[]);
+    add_walk(&mut b, context, [left, right]);
     b.add_step(REFL, 0, a_term, a_term, &[]);
     b.claim_last()
 }
@@ -197,7 +197,8 @@ pub fn shared_binders(rng: Rng, depth: u32, every: u32) -> Vec<u32> {
     let atoms = [b.apply(p, &[one, two]), b.apply(p, &[three, four])];
     let mut term = atoms[0];
     for level in 0..depth - 1 {
-        if level % every == every - 1 {
+        // The four binders around an atom bind its variables.
+        if level % every == every - 1 && level + 4 < depth {
             let atom = b.rng.one_of(atoms);
             term = b.apply(4, &[atom, term]);
         }
@@ -248,8 +249,73 @@ fn deep(rng: Rng) -> Vec<u32> {
         }
         term
     });
-    b.add_step(REFL, context, sides[0], sides[1], &[]);
+    add_walk(&mut b, context, sides);
     b.add_step(REFL, 0, a_term, a_term, &[]);
+    b.claim_last()
+}
+
+/// A REFL in a context that mostly mentions all that is free in its sides.
+fn add_walk(b: &mut Builder, context: u32, [left, right]: [u32; 2]) {
+    let context = if b.rng.chance(90) { b.scope(context, &[left, right]) } else { context };
+    b.add_step(REFL, context, left, right, &[]);
+}
+
+/// A closed claim by BIND, and LET, over one REFL for a quantifier whose new name may be the
+/// outer binder's: it then takes the variable of an image.
+fn under_binders(rng: Rng) -> Vec<u32> {
+    let mut b = Builder::new(rng, 50);
+    let f = b.symbol(ITEM, &[ITEM]);
+    let p = b.symbol(TRUTH, &[ITEM, ITEM]);
+    let before = b.rng.one_of([0, 0, 3, 60, 63, 64, 127, 190, 250]);
+    (0..before).for_each(|_| _ = b.spare_variable(ITEM));
+    let mut names: [u32; 5] = std::array::from_fn(|_| b.variable(ITEM));
+    b.rng.shuffle(&mut names);
+    let [x, y, z, w, other] = names;
+    let new = b.rng.one_of([y, y, x, other]);
+    let [x_term, y_term, z_term, w_term, new_term] =
+        [x, y, z, w, new].map(|name| b.variable_term(name));
+    let [outer, inner] = [0; 2].map(|_| b.rng.one_of([FOR_ALL, EXISTS]));
+    let fixing = b.fix(y, 0);
+    let renaming = b.replace(&[x], &[y_term], fixing);
+    let premise = if b.rng.chance(50) {
+        let (left, right) = (b.apply(p, &[x_term, z_term]), b.apply(p, &[y_term, new_term]));
+        let (left, right) = (b.quantify(inner, z, left), b.quantify(inner, new, right));
+        b.add_step(REFL, renaming, left, right, &[])
+    } else {
+        // The same with a let between the two.
+        let (f_x, f_y) = (b.apply(f, &[x_term]), b.apply(f, &[y_term]));
+        let bound = b.add_step(REFL, renaming, f_x, f_y, &[]);
+        let replacing = b.replace(&[w], &[f_y], renaming);
+        let (left, right) = (b.apply(p, &[w_term, z_term]), b.apply(p, &[f_y, new_term]));
+        let (left, right) = (b.quantify(inner, z, left), b.quantify(inner, new, right));
+        let body = b.add_step(REFL, replacing, left, right, &[]);
+        let left = b.bind_let(&[w], &[f_x], left);
+        b.add_step(LET, renaming, left, right, &[bound, body])
+    };
+    let body = b.step(premise);
+    let (left, right) = (b.quantify(outer, x, body.left), b.quantify(outer, y, body.right));
+    b.add_step(BIND, 0, left, right, &[premise]);
+    b.claim_last()
+}
+
+/// A closed claim by one REFL: an atom of bound variables under a few binders whose names
+/// recur, so that a nearer one hides another on one side or both.
+fn recurring_names(rng: Rng) -> Vec<u32> {
+    let mut b = Builder::new(rng, 50);
+    let p = b.symbol(TRUTH, &[ITEM, ITEM]);
+    let names: [u32; 3] = std::array::from_fn(|_| b.variable(ITEM));
+    let kinds: Vec<u32> =
+        (0..b.rng.between(2, 3)).map(|_| b.rng.one_of([FOR_ALL, EXISTS])).collect();
+    let [left, right] = [0; 2].map(|_| {
+        let some: Vec<u32> = kinds.iter().map(|_| b.rng.one_of(names)).collect();
+        let leaves = [0; 2].map(|_| {
+            let name = b.rng.pick(&some).copied().unwrap_or(names[0]);
+            b.variable_term(name)
+        });
+        let atom = b.apply(p, &leaves);
+        kinds.iter().zip(some).fold(atom, |body, (&kind, name)| b.quantify(kind, name, body))
+    });
+    b.add_step(REFL, 0, left, right, &[]);
     b.claim_last()
 }
 
@@ -266,12 +332,14 @@ fn prepare(b: &mut Builder, miss: Option<Miss>) -> Option<(u32, u32)> {
     if z == w {
         return None;
     }
-    let context = b.replace(&[z], &[image], 0);
+    let parent = b.scope(0, &[image]);
+    let context = b.replace(&[z], &[image], parent);
     let (z_term, other) = (b.variable_term(z), b.random_leaf(sort));
     let symbol = if sort == TRUTH { b.rng.one_of([4, 5, 6, 7]) } else { 8 };
     let body = b.apply(symbol, &[z_term, other]);
     let kind = b.rng.one_of([FOR_ALL, EXISTS]);
-    Some((context, b.quantify(kind, w, body)))
+    let term = b.quantify(kind, w, body);
+    Some((b.scope(context, &[term]), term))
 }
 
 /// Walks of random terms in contexts of all kinds, each right or nearly so, and a claim that
@@ -313,8 +381,15 @@ fn random_walk(b: &mut Builder, context: u32, miss: Option<Miss>) {
     for _ in 0..8 {
         let sort = b.rng.one_of([TRUTH, TRUTH, ITEM]);
         let depth = b.rng.between(1, 5);
-        let term = b.random_compound(sort, depth);
-        if copy(b, context, term, miss) {
+        let mut term = b.random_compound(sort, depth);
+        let mut above = context;
+        if b.rng.chance(97) {
+            match context {
+                0 => term = b.close(term),
+                _ => above = b.scope(context, &[term]),
+            }
+        }
+        if copy(b, above, term, miss) {
             return;
         }
     }
@@ -334,8 +409,10 @@ fn copy(b: &mut Builder, context: u32, term: u32, miss: Option<Miss>) -> bool {
 /// A file about REFL for whole terms.
 pub fn any(mut rng: Rng) -> Vec<u32> {
     match rng.below(100) {
-        0..40 => walks(rng),
-        40..72 => {
+        0..38 => walks(rng),
+        38..41 => under_binders(rng),
+        41..43 => recurring_names(rng),
+        43..72 => {
             let near = rng.chance(50);
             let care = if near { Care::But(&[Slip::Whole]) } else { Care::Full };
             super::walking(rng, care)

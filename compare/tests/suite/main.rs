@@ -6,6 +6,7 @@ mod limits;
 mod long_texts;
 mod parties;
 mod reader;
+mod stray;
 mod teeth;
 mod variables;
 mod vectors;

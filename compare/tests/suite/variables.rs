@@ -146,7 +146,9 @@ fn free_sets_of_every_kind_of_term() {
             (g.b.bind_let(&[x, y], &[a, a], both), vec![]),
             (a, vec![]),
         ];
-        g.refl(0, both, both);
+        let context = g.b.scope(0, &[both]);
+        g.refl(context, both, both);
+        g.refl(0, a, a);
         let (answer, free) = held(&g.b.claim_last());
         assert_eq!(answer, (0, 0));
         for (term, variables) in terms {
@@ -200,18 +202,22 @@ fn renamed_by_bind() {
         let premise = g.cong(inner, one, other);
         g.bind(0, x, y, premise);
         assert_eq!(g.answer(), (0, 0), "{x} to {y}");
-        // The same where y is free.
-        let (mut g, [x_term, y_term, ..]) = given();
-        let inner = g.renaming(0, x, y);
-        let (one, other) = (g.refl(inner, x_term, y_term), g.refl(inner, y_term, y_term));
-        let premise = g.cong(inner, one, other);
-        g.bind(0, x, y, premise);
-        assert_eq!(g.answer(), (14, 4), "{x} to {y}, which is free");
+        // The same where y is free, and mentioned or not.
+        for (fixed, answer) in [(y, (14, 4)), (z, (22, 4))] {
+            let (mut g, [x_term, y_term, ..]) = given();
+            let outer = g.b.fix(fixed, 0);
+            let inner = g.renaming(outer, x, y);
+            let (one, other) = (g.refl(inner, x_term, y_term), g.refl(inner, y_term, y_term));
+            let premise = g.cong(inner, one, other);
+            g.bind(outer, x, y, premise);
+            assert_eq!(g.answer(), answer, "{x} to {y}, which is free, {fixed} fixed");
+        }
         // For all x. p(x, z) where z is replaced by f(y): not to y, but to w.
         for (new, answer) in [(y, (14, 4)), (w, (0, 0))] {
             let (mut g, [x_term, y_term, z_term, _]) = given();
             let (new_term, f_y) = (g.b.variable_term(new), g.f(y_term));
-            let outer = g.b.replace(&[z], &[f_y], 0);
+            let fixing = g.b.fix(y, 0);
+            let outer = g.b.replace(&[z], &[f_y], fixing);
             let inner = g.renaming(outer, x, new);
             let (one, other) = (g.refl(inner, x_term, new_term), g.refl(inner, z_term, f_y));
             let premise = g.cong(inner, one, other);
@@ -221,7 +227,7 @@ fn renamed_by_bind() {
     });
 }
 
-/// Let x = a in p(x, y) to p(a, y), and to p(a, x).
+/// Let x = a in p(x, y) to p(a, y), and to p(a, x), where y is fixed.
 #[test]
 fn let_bound() {
     for_edges(|[x, y, _, _]| {
@@ -229,13 +235,14 @@ fn let_bound() {
             let mut g = Given::new();
             let [x_term, y_term, image] = [x, y, image].map(|variable| g.b.variable_term(variable));
             let a = g.a;
-            let bound = g.refl(0, a, a);
-            let inner = g.b.replace(&[x], &[a], 0);
+            let outer = g.b.fix(y, 0);
+            let bound = g.refl(outer, a, a);
+            let inner = g.b.replace(&[x], &[a], outer);
             let (one, other) = (g.refl(inner, x_term, a), g.refl(inner, y_term, image));
             let last = g.cong(inner, one, other);
             let step = g.b.step(last);
             let left = g.b.bind_let(&[x], &[a], step.left);
-            g.b.add_step(LET, 0, left, step.right, &[bound, last]);
+            g.b.add_step(LET, outer, left, step.right, &[bound, last]);
             assert_eq!(g.answer(), answer, "{x} {y}");
         }
     });
@@ -245,17 +252,18 @@ fn let_bound() {
 #[test]
 fn moved_and_not() {
     for_edges(|[x, y, z, _]| {
-        // x is replaced by a, by itself, or fixed again; y is not mentioned.
+        // x is replaced by a, by itself, or fixed again; y is fixed.
         for (entry, holds_x) in [(0, false), (1, true), (2, true)] {
             for (variable, settled) in [(x, holds_x), (y, true)] {
                 let mut g = Given::new();
                 let (x_term, term) = (g.b.variable_term(x), g.b.variable_term(variable));
                 let a = g.a;
+                let fixing = g.b.fix(y, 0);
                 let context = match entry {
-                    0 => g.b.replace(&[x], &[a], 0),
-                    1 => g.b.replace(&[x], &[x_term], 0),
+                    0 => g.b.replace(&[x], &[a], fixing),
+                    1 => g.b.replace(&[x], &[x_term], fixing),
                     _ => {
-                        let outer = g.b.replace(&[x], &[a], 0);
+                        let outer = g.b.replace(&[x], &[a], fixing);
                         g.b.fix(x, outer)
                     }
                 };
@@ -287,7 +295,8 @@ fn moved_and_not() {
             let (a, z_term, middle_term) =
                 (b.apply(a, &[]), b.variable_term(z), b.variable_term(middle));
             let whole = b.apply(p, &[middle_term, middle_term]);
-            let outer = b.replace(&[z], &[whole], 0);
+            let fixing = b.fix(middle, 0);
+            let outer = b.replace(&[z], &[whole], fixing);
             let context = b.replace(&[x], &[a], outer);
             let image = b.image(context, middle).unwrap_or(middle_term);
             let result = b.apply(p, &[image, image]);
@@ -350,10 +359,13 @@ fn areas_of_four_words_a_term() {
     checkers.extend(library.as_ref().map(|library| library.check));
     let mut b = declared().0;
     for terms in [1, 2, 255, 1_024] {
+        // The first term is closed and claimed, the last one a variable.
+        let closed = b.apply(1, &[]);
         limits::fill(&mut b, Section::Terms, terms - 1);
-        let last = b.variable_term(terms.min(LAST));
+        let free: &[u32] = if terms == 1 { &[] } else { &[terms.min(LAST)] };
+        free.iter().for_each(|&variable| _ = b.variable_term(variable));
         assert_eq!(b.count(Section::Terms), terms);
-        b.add_step(REFL, 0, last, last, &[]);
+        b.add_step(REFL, 0, closed, closed, &[]);
         let file = to_bytes(&b.claim_last());
         for check in &checkers {
             for (length, answer) in
@@ -366,7 +378,7 @@ fn areas_of_four_words_a_term() {
                 } else {
                     assert!(area[4 * terms as usize..].iter().all(|&word| word == 0));
                     let start = 4 * terms as usize - 4;
-                    assert_eq!(area[start..start + 4], words_of(&[terms.min(LAST)]));
+                    assert_eq!(area[start..start + 4], words_of(free));
                 }
             }
         }

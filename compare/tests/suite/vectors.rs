@@ -9,13 +9,14 @@ use nezkaldo_compare::ffi::{self, Library};
 use nezkaldo_compare::vectors::{self, Party, Report};
 
 /// The last request that has landed.
-const LANDED: u32 = 4;
+const LANDED: u32 = 5;
 
 const MOVES: &str = include_str!("../../vectors/moves.txt");
 const REQ_01: &str = include_str!("../../vectors/req01.txt");
 const REQ_02: &str = include_str!("../../vectors/req02.txt");
 const REQ_03: &str = include_str!("../../vectors/req03.txt");
 const REQ_04: &str = include_str!("../../vectors/req04.txt");
+const REQ_05: &str = include_str!("../../vectors/req05.txt");
 
 fn held(name: &str, text: &str) -> Report {
     let moved = vectors::moves(MOVES, name, LANDED).unwrap();
@@ -80,7 +81,7 @@ fn vectors_of_req_01() {
 fn vectors_of_req_02() {
     with_stack(|| {
         let report = held("req02", REQ_02);
-        assert_eq!((report.cases, report.moved), (281, 0));
+        assert_eq!((report.cases, report.moved), (281, 36));
         assert_eq!(by_call(&report, ["check", "read", "sets", "write"]), [195, 17, 22, 47]);
     });
 }
@@ -88,7 +89,7 @@ fn vectors_of_req_02() {
 #[test]
 fn vectors_of_req_03() {
     let report = held("req03", REQ_03);
-    assert_eq!((report.cases, report.moved), (338, 0));
+    assert_eq!((report.cases, report.moved), (338, 20));
     assert_eq!(by_call(&report, ["check", "links"]), [185, 153]);
 }
 
@@ -96,8 +97,16 @@ fn vectors_of_req_03() {
 #[test]
 fn vectors_of_req_04() {
     let report = held("req04", REQ_04);
-    assert_eq!((report.cases, report.moved), (251, 0));
+    assert_eq!((report.cases, report.moved), (251, 48));
     assert_eq!(by_call(&report, ["check", "walk"]), [211, 40]);
     assert!(report.left_out.is_empty());
     assert_eq!(vectors::refusals(REQ_04), (1..=15).chain([21]).collect::<Vec<u32>>());
+}
+
+#[test]
+fn vectors_of_req_05() {
+    let report = held("req05", REQ_05);
+    assert_eq!((report.cases, report.moved), (249, 0));
+    assert_eq!(by_call(&report, ["check"]), [249]);
+    assert!(vectors::refusals(REQ_05).contains(&22));
 }

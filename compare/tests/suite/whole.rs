@@ -59,22 +59,32 @@ impl Terms {
         self.b.quantify(FOR_ALL, variable, body)
     }
 
-    /// The answer to a file with this REFL and a claim that takes no walk, and the walk as
-    /// the readings and the library tell it.
+    /// The walk as the readings and the library tell it, and the answer to a file with this
+    /// REFL and a claim that takes no walk: in a context that mentions all that is free in the
+    /// sides, and in the one that is given.
     fn walk(&self, context: u32, left: u32, right: u32) -> Whole {
-        let mut b = self.b.clone();
+        let mut scoped = self.b.clone();
+        let above = scoped.scope(context, &[left, right]);
+        let walk = self.walk_in(scoped, above, [left, right]);
+        assert_eq!(self.walk_in(self.b.clone(), context, [left, right]), walk);
+        walk
+    }
+
+    fn walk_in(&self, mut b: Builder, context: u32, [left, right]: [u32; 2]) -> Whole {
+        let stray = !(b.in_scope(context, left) && b.in_scope(context, right));
         b.add_step(REFL, context, left, right, &[]);
         b.add_step(REFL, 0, self.a_term, self.a_term, &[]);
         let file = to_bytes(&b.claim_last());
         let walk = check::walk(&file, context, [left, right]).unwrap();
         assert_eq!(naive::walk(&file, context, [left, right]), Some(walk));
-        let question = Question { file: &file, context, sides: [left, right] };
+        let question = Question::new(&file, context, [left, right]).unwrap();
         for check in checkers() {
             assert_eq!(question.measure(check), Some(Ok(walk)));
         }
         let answer = judge_bytes(&file).0;
         let stays = answer == (0, 0);
         match walk.ending {
+            _ if stray => assert_eq!(answer, (22, 1)),
             Ending::Same => assert!(stays || answer == (0, walk.pairs), "{answer:?}"),
             Ending::Differs => assert_eq!(answer, (13, 1)),
             Ending::Spent => assert_eq!(answer, (21, 1)),
@@ -193,7 +203,8 @@ fn capture_in_every_word() {
         let (x_term, y_term) = (b.variable_term(x), b.variable_term(y));
         let (left, right) = (b.apply(p, &[x_term, y_term]), b.apply(p, &[y_term, y_term]));
         let (left, right) = (b.quantify(FOR_ALL, x, left), b.quantify(FOR_ALL, y, right));
-        b.add_step(REFL, 0, left, right, &[]);
+        let context = b.fix(y, 0);
+        b.add_step(REFL, context, left, right, &[]);
         assert_eq!(judge(&b.claim_last()).0, (13, 1));
     }
 }
@@ -315,11 +326,13 @@ fn other_symbols_and_kinds() {
 #[test]
 fn the_first_forms_take_no_pairs() {
     let mut t = terms();
-    let context = t.b.replace(&[t.x], &[t.a_term], 0);
+    let fixing = t.b.fix(t.y, 0);
+    let context = t.b.replace(&[t.x], &[t.a_term], fixing);
     t.b.add_step(REFL, context, t.x_term, t.a_term, &[]);
     let term = t.atom(t.y_term, t.a_term);
     t.b.add_step(REFL, context, term, term, &[]);
-    t.b.add_step(REFL, 0, term, term, &[]);
+    let closed = t.for_all(t.y, term);
+    t.b.add_step(REFL, 0, closed, closed, &[]);
     assert_eq!(judge(&t.b.claim_last()).0, (0, 0));
     let mut t = terms();
     let context = t.b.replace(&[t.x], &[t.a_term], 0);
@@ -333,7 +346,8 @@ fn the_first_forms_take_no_pairs() {
 fn the_last_walk_counts() {
     for (order, expected) in [([0, 1], 3), ([1, 0], 4)] {
         let mut t = terms();
-        let context = t.b.replace(&[t.x], &[t.a_term], 0);
+        let fixing = t.b.fix(t.y, 0);
+        let context = t.b.replace(&[t.x], &[t.a_term], fixing);
         let (left, right) = (t.atom(t.y_term, t.x_term), t.atom(t.y_term, t.a_term));
         let (one, other) = (t.for_all(t.y, left), t.for_all(t.y, right));
         let walks = [(one, other), (left, right)];
@@ -400,7 +414,7 @@ fn doubled_terms() {
     assert_eq!(doubled(11, Some(1)), (13, 1));
 }
 
-/// 12 comes before 21, and a step that is spent before what follows it.
+/// 12 and 22 come before 21, and a step that is spent before what follows it.
 #[test]
 fn the_order_of_refusals() {
     let words = whole::one_walk(Rng::new(1), Length { pairs: 5_000, differs: false, binders: 0 });
@@ -414,20 +428,20 @@ fn the_order_of_refusals() {
     assert_eq!(changed(1, 1, counts[Section::Contexts] + 1), (12, 1));
     assert_eq!(changed(2, 0, 9), (21, 1));
     assert_eq!(changed(1, 0, CONG), (13, 1), "no other rule walks");
-    assert_eq!(changed(1, 1, 0), (13, 1), "not replaced");
+    assert_eq!(changed(1, 1, 0), (22, 1), "not mentioned");
 }
 
 /// A thousand binders in one another, within the stack that the header asks for.
 #[test]
 fn many_binders() {
     with_stack(|| {
-        for depth in [2, 100, 1_000] {
+        for depth in [5, 100, 1_000] {
             let words = whole::shared_binders(Rng::new(5), depth, 100);
             let ((number, pairs), _) = judge(&words);
             assert_eq!(number, 0);
             assert!(pairs > depth && pairs < depth + 80, "{pairs}");
             let plain = naive::load(&to_bytes(&words), MAX_SETS).unwrap();
-            if depth == 2 {
+            if depth == 5 {
                 claim_holds(&plain, 300, &mut Rng::new(1)).unwrap();
             }
         }
@@ -478,7 +492,7 @@ fn generated_walks_are_measured() {
         }
         for (context, sides) in compare_pairs::walks(&case.bytes, answer, index) {
             let Some(walk) = check::walk(&case.bytes, context, sides) else { continue };
-            let question = Question { file: &case.bytes, context, sides };
+            let question = Question::new(&case.bytes, context, sides).unwrap();
             for check in checkers() {
                 if let Some(found) = question.measure(check) {
                     assert_eq!(found, Ok(walk), "file {index}");

@@ -9,7 +9,7 @@ ghost use Rattle.logic.specs.Checks.{sectionsFault};
 ghost use Rattle.logic.specs.Free.{freeArea};
 ghost use Rattle.sorting.specs.Notes.{Sorted};
 ghost use Rattle.free_variables.specs.FreeSets.{FreeSets};
-ghost use Rattle.images.specs.ContextRows.{Images, MovedSets};
+ghost use Rattle.images.specs.ContextRows.{Images, Scopes};
 ghost use Rattle.steps.specs.Verdicts.{Found};
 ghost use Rattle.judgement.specs.Judge.{claimTests, lentFor, lateFault, faultOf, judge, areaAfter};
 use bundle::Bundle;
@@ -63,22 +63,22 @@ fn late_fault_in(
     free: &[u64],
     n: usize,
     images: &mut [u16],
-    moved: &mut [u64],
+    scopes: &mut [u64],
 ) -> Findings
     requires { ⌜ (let bundle = bundleAt (now file) b in
         Whole (now file) b × Sorted (now file) b (now sorts) × FreeSets (now free) n bundle × (b .variables ≤ 64 * n) × (b .variables * (b .contexts + 1) ≤
-        length (now images)) × (n * (b .contexts + 1) ≤ length (now moved)) × Images bundle (now images) 1 × MovedSets bundle (now moved) n 1 × (n ≤ setWords)) ⌝ }
+        length (now images)) × (2 * n * (b .contexts + 1) ≤ length (now scopes)) × Images bundle (now images) 1 × Scopes bundle (now scopes) n 1 × (n ≤ setWords)) ⌝ }
     ensures { λ r. ⌜ (let bundle = bundleAt (now (file .entry)) b in
         Found (lateFault bundle) bundle r) ⌝ }
 {
-    let in_contexts = contexts::contexts::contexts_fault(file, b, sorts, free, n, images, moved);
+    let in_contexts = contexts::contexts::contexts_fault(file, b, sorts, free, n, images, scopes);
     if in_contexts.number != 0 {
         return Findings {
             fault: in_contexts,
             pairs: 0,
         };
     }
-    let in_steps = steps::steps::steps_fault(file, b, free, n, images, moved);
+    let in_steps = steps::steps::steps_fault(file, b, free, n, images, scopes);
     let bad_step = in_steps.fault;
     if bad_step.number != 0 {
         return in_steps;
@@ -100,17 +100,17 @@ fn late_fault_wide(file: &[u8], b: Bundle, sorts: &[usize], free: &[u64], n: usi
 {
     if b.contexts < 8 {
         let mut few_images = [0u16; Bundle::VARIABLES * 8];
-        let mut few_moved = [0u64; Bundle::SET_WORDS * 8];
-        return late_fault_in(file, b, sorts, free, n, &mut few_images, &mut few_moved);
+        let mut few_scopes = [0u64; 2 * Bundle::SET_WORDS * 8];
+        return late_fault_in(file, b, sorts, free, n, &mut few_images, &mut few_scopes);
     }
     if b.contexts < 32 {
         let mut some_images = [0u16; Bundle::VARIABLES * 32];
-        let mut some_moved = [0u64; Bundle::SET_WORDS * 32];
-        return late_fault_in(file, b, sorts, free, n, &mut some_images, &mut some_moved);
+        let mut some_scopes = [0u64; 2 * Bundle::SET_WORDS * 32];
+        return late_fault_in(file, b, sorts, free, n, &mut some_images, &mut some_scopes);
     }
     let mut images = [0u16; Bundle::VARIABLES * (Bundle::CONTEXTS + 1)];
-    let mut moved = [0u64; Bundle::SET_WORDS * (Bundle::CONTEXTS + 1)];
-    late_fault_in(file, b, sorts, free, n, &mut images, &mut moved)
+    let mut scopes = [0u64; 2 * Bundle::SET_WORDS * (Bundle::CONTEXTS + 1)];
+    late_fault_in(file, b, sorts, free, n, &mut images, &mut scopes)
 }
 
 // The same with room of one of three sizes, the last for 64 variables in all contexts, or as above. The room is cleared first, so a file with few variables
@@ -126,13 +126,13 @@ fn late_fault(file: &[u8], b: Bundle, sorts: &[usize], free: &[u64], n: usize) -
     let words = n * rows;
     if (places <= 512) & (words <= 40) {
         let mut few_images = [0u16; 512];
-        let mut few_moved = [0u64; 40];
-        return late_fault_in(file, b, sorts, free, n, &mut few_images, &mut few_moved);
+        let mut few_scopes = [0u64; 80];
+        return late_fault_in(file, b, sorts, free, n, &mut few_images, &mut few_scopes);
     }
     if (places <= 8192) & (words <= 257) {
         let mut some_images = [0u16; 8192];
-        let mut some_moved = [0u64; 257];
-        return late_fault_in(file, b, sorts, free, n, &mut some_images, &mut some_moved);
+        let mut some_scopes = [0u64; 514];
+        return late_fault_in(file, b, sorts, free, n, &mut some_images, &mut some_scopes);
     }
     if places > 16448 {
         return late_fault_wide(file, b, sorts, free, n);
@@ -141,8 +141,8 @@ fn late_fault(file: &[u8], b: Bundle, sorts: &[usize], free: &[u64], n: usize) -
         return late_fault_wide(file, b, sorts, free, n);
     }
     let mut more_images = [0u16; 16448];
-    let mut more_moved = [0u64; 257];
-    late_fault_in(file, b, sorts, free, n, &mut more_images, &mut more_moved)
+    let mut more_scopes = [0u64; 514];
+    late_fault_in(file, b, sorts, free, n, &mut more_images, &mut more_scopes)
 }
 
 // What is wrong past the header, where the sorts of all terms are noted; number 0 where nothing is: the area then holds the free sets. While the file is

@@ -9,7 +9,7 @@ ghost use Rattle.bundle.specs.File.{Whole, bundleAt};
 ghost use Rattle.logic.specs.Contexts.{settled, contextRefers, replacementsSettled, contextFault, contextsFault};
 ghost use Rattle.sorting.specs.Notes.{Sorted};
 ghost use Rattle.free_variables.specs.FreeSets.{FreeSets};
-ghost use Rattle.images.specs.ContextRows.{Images, MovedSets};
+ghost use Rattle.images.specs.ContextRows.{Images, Scopes};
 use bundle::Bundle;
 use bundle::lists::all_numbers;
 use bundle::lists::first_link;
@@ -60,19 +60,19 @@ fn all_settled(
     b: Bundle,
     area: &[u64],
     n: usize,
-    moved: &[u64],
+    scopes: &[u64],
     context: usize,
     terms: usize,
 ) -> bool
     requires { ⌜ (let bundle = bundleAt (now file) b in
-        Whole (now file) b × FreeSets (now area) n bundle × MovedSets bundle (now moved) n (context + 1)) ⌝ }
+        Whole (now file) b × FreeSets (now area) n bundle × Scopes bundle (now scopes) n (context + 1)) ⌝ }
     ensures { λ r. ⌜ (let bundle = bundleAt (now (file .entry)) b in
         r ≡ each (settled bundle context) (items bundle terms)) ⌝ }
 {
     let mut i = first_link(b, terms);
     while i != 0 {
         let t = link_field(file, b, i, 0);
-        if !is_settled(b, area, n, moved, context, t) {
+        if !is_settled(b, area, n, scopes, 2 * n * context, t) {
             return false;
         }
         i = next_link(file, b, i);
@@ -86,18 +86,18 @@ fn replacements_settled(
     b: Bundle,
     area: &[u64],
     n: usize,
-    moved: &[u64],
+    scopes: &[u64],
     i: usize,
 ) -> bool
     requires { ⌜ (let bundle = bundleAt (now file) b in
-        Whole (now file) b × FreeSets (now area) n bundle × MovedSets bundle (now moved) n i × (contextRefers bundle i ≡ true)) ⌝ }
+        Whole (now file) b × FreeSets (now area) n bundle × Scopes bundle (now scopes) n i × (contextRefers bundle i ≡ true)) ⌝ }
     ensures { λ r. ⌜ r ≡ replacementsSettled (bundleAt (now (file .entry)) b) i ⌝ }
 {
     let kind = context_field(file, b, i, 0);
     let terms = context_field(file, b, i, 2);
     let parent = context_field(file, b, i, 3);
     if kind == REPLACES {
-        return all_settled(file, b, area, n, moved, parent, terms);
+        return all_settled(file, b, area, n, scopes, parent, terms);
     }
     true
 }
@@ -109,17 +109,17 @@ fn context_fault(
     sorts: &[usize],
     area: &[u64],
     n: usize,
-    moved: &[u64],
+    scopes: &[u64],
     i: usize,
 ) -> usize
     requires { ⌜ (let bundle = bundleAt (now file) b in
-        Whole (now file) b × Sorted (now file) b (now sorts) × FreeSets (now area) n bundle × MovedSets bundle (now moved) n i) ⌝ }
+        Whole (now file) b × Sorted (now file) b (now sorts) × FreeSets (now area) n bundle × Scopes bundle (now scopes) n i) ⌝ }
     ensures { λ r. ⌜ r ≡ contextFault (bundleAt (now (file .entry)) b) i ⌝ }
 {
     if !context_refers(file, b, sorts, i) {
         return 10;
     }
-    if !replacements_settled(file, b, area, n, moved, i) {
+    if !replacements_settled(file, b, area, n, scopes, i) {
         return 11;
     }
     0
@@ -133,23 +133,23 @@ pub fn contexts_fault(
     area: &[u64],
     n: usize,
     images: &mut [u16],
-    moved: &mut [u64],
+    scopes: &mut [u64],
 ) -> Fault
     requires { ⌜ (let bundle = bundleAt (now file) b in
         Whole (now file) b × Sorted (now file) b (now sorts) × FreeSets (now area) n bundle × (b .variables ≤ 64 * n) × (b .variables * (b .contexts + 1)
-        ≤ length (now images)) × (n * (b .contexts + 1) ≤ length (now moved)) × Images bundle (now images) 1 × MovedSets bundle (now moved) n 1) ⌝ }
+        ≤ length (now images)) × (2 * n * (b .contexts + 1) ≤ length (now scopes)) × Images bundle (now images) 1 × Scopes bundle (now scopes) n 1) ⌝ }
     ensures { λ r. ⌜ r ≡ contextsFault (bundleAt (now (file .entry)) b) ⌝ }
     ensures { λ r. ⌜ (let bundle = bundleAt (now (file .entry)) b in
-        (r .number ≡ 0 → Images bundle (now (images .exit)) (b .contexts + 1) × MovedSets bundle (now (moved .exit)) n (b .contexts + 1))) ⌝ }
+        (r .number ≡ 0 → Images bundle (now (images .exit)) (b .contexts + 1) × Scopes bundle (now (scopes .exit)) n (b .contexts + 1))) ⌝ }
 {
     let contexts = b.contexts;
     let mut i = 1;
     while i <= contexts {
-        let number = context_fault(file, b, sorts, area, n, moved, i);
+        let number = context_fault(file, b, sorts, area, n, scopes, i);
         if number != 0 {
             return Fault { number, record: i };
         }
-        enter(file, b, images, moved, n, i);
+        enter(file, b, images, scopes, n, i);
         i += 1;
     }
     no_fault()

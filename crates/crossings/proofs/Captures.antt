@@ -42,9 +42,6 @@ module _ (terms : ℕ) (w m : List ℕ) (n t : ℕ) (ys : List ℕ) (known : (y 
   unfolding settledIn freeIn
   no-captures d = d ∙ go (numbers terms t)
     where
-      start : n * 0 ≡ 0
-      start = omega arith
-
-      go : (p : Bool) → cond p (disjointOf w (n * (t - 1)) m (n * 0) n) true ≡ each (λ y. not (cond p (member w (n * (t - 1)) n y) false)) ys
-      go true = rw start (none-common w (n * (t - 1)) m n ys known (λ k. small (n * (t - 1) + k)))
+      go : (p : Bool) → cond p (disjointOf w (n * (t - 1)) m 0 n) true ≡ each (λ y. not (cond p (member w (n * (t - 1)) n y) false)) ys
+      go true = none-common w (n * (t - 1)) m n ys known (λ k. small (n * (t - 1) + k))
       go false = sym (has-each (λ y. true) ys (λ y h. refl))

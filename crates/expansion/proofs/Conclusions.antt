@@ -1,8 +1,8 @@
--- Steps that a visit appends: each is an instance of its rule.
+-- Steps that a visit appends: each is an instance of its rule, and its sides are in scope.
 --     Done, done-kept, done-says           step p carries term t to its result r in context c
 --     DoneAll, done-all-kept               the same of lists of terms, results and steps
 --     done-terms, done-results, done-sorts, done-steps, say-all     what follows for the lists
---     Visited, conclude                    THE LAW: what a visit leaves whose step is an instance, in every longer bundle
+--     Visited, conclude                    THE LAW: what a visit leaves whose step is an instance, in every longer bundle, and has its sides in scope
 use mathlib.Core.Path.{_≡_, refl, sym, ap, ap₂, _∙_, subst}
 use Prim.Native.Nat.{ℕ, suc, _≤_}
 use mathlib.Core.Logic.{inl}
@@ -13,9 +13,10 @@ use Rattle.bundle.specs.Bundle.{Bundle, Step, stepOf}
 use Rattle.bundle.specs.Links.{items}
 use Rattle.logic.specs.Lists.{All, Number}
 use Rattle.logic.specs.Terms.{gather, tree}
+use Rattle.logic.specs.Contexts.{Mentioned, InScope}
 use Rattle.logic.specs.Rules.{REFL, ruleOf}
 use Rattle.logic.specs.WellFormed.{sortOfTerm, Lower, TablesFormed, WellFormed}
-use Rattle.logic.specs.Instance.{Says, SayAll, Instance, ReflForm, PairsSuffice, StepHolds}
+use Rattle.logic.specs.Instance.{Says, SayAll, Instance, ReflForm, PairsSuffice, SidesInScope, StepHolds}
 use Rattle.logic.specs.Longer.{Longer, addList, listStart}
 use Rattle.logic.proofs.Longer.{longer-refl, sizes, list-added, steps-longer, step-added}
 use Rattle.logic.proofs.Kept.{step-kept, sort-tree-kept}
@@ -23,6 +24,7 @@ use Rattle.expansion.specs.Visit.{Visit, Visits, concluded}
 use Rattle.expansion.proofs.Grown.{concluded-longer}
 use Rattle.expansion.proofs.AppendedChecked.{Checked, list-checked, list-start, step-checked}
 use Rattle.expansion.proofs.Placement.{all-map}
+use Rattle.expansion.proofs.Mentioned.{scope-kept}
 use Rattle.expansion.proofs.Substitution.{Result, result-kept}
 
 -- ---- one term
@@ -98,10 +100,10 @@ pub record VisitedAll (N : ℕ → Type 0) (c : ℕ) (ts : List ℕ) (v : Visits
   pub done : DoneAll N (v .bundle) c ts (v .results) (v .steps)
 
 pub conclude : {N : ℕ → Type 0} (b : Bundle) (k c t r : ℕ) (ps : List ℕ) → Checked b → c ≤ length (b .contexts) → Number (length (b .terms)) t
-    → Result N b r → sortOfTerm b r ≡ sortOfTerm b t → All (Number (length (b .steps))) ps
+    → Result N b r → sortOfTerm b r ≡ sortOfTerm b t → InScope b c (tree b t) → ((x : ℕ) → N x → Mentioned b c x) → All (Number (length (b .steps))) ps
     → ((B : Bundle) → Longer b B → WellFormed B → Instance B (ruleOf k) c (tree B t) (tree B r) ps)
     → ((B : Bundle) → Longer b B → WellFormed B → ruleOf k ≡ REFL → ReflForm B c (tree B t) (tree B r)) → Visited N c t (concluded b k c t r ps)
-conclude b k c t r ps old hc nt res sorted before rule form = record {
+conclude b k c t r ps old hc nt res sorted scope allowed before rule form = record {
   checked = step-checked (addList b ps) s (list-checked b ps old) holds;
   done = record {
     term = nt;
@@ -141,6 +143,10 @@ conclude b k c t r ps old hc nt res sorted before rule form = record {
       start = subst (λ (x : Step). x .premises ≤ length (B .links)) (sym here) (list-start b ps listed);
       earlier = subst (λ (x : Step). All (Lower (suc (length (b .steps)))) (items B (x .premises))) (sym here)
           (rw li (all-map (λ p n. (n .0, omega (arith, n .1))) ps before));
+      scope = subst (SidesInScope B) (sym here) (
+        scope-kept longer (old .formed) c t hc (nt .1) scope,
+        scope-kept longer (old .formed) c r hc (res .is-term .1) (λ x f. allowed x (res .new x f)),
+      );
       «instance» = subst (λ (x : Step). Instance B (ruleOf (x .rule)) (x .context) (tree B (x .left)) (tree B (x .right)) (items B (x .premises))) (sym here)
           (subst (Instance B (ruleOf k) c (tree B t) (tree B r)) (sym li) (rule B longer well));
       pairs = subst (λ (x : Step). PairsSuffice B (ruleOf (x .rule)) x) (sym here) (λ e. inl (form B longer well e));

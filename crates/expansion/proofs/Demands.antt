@@ -86,6 +86,7 @@ module _ (f : List ℕ) (B : Bundle) (fit : Within (countsIn B)) (small : SmallB
     left = here .left;
     records = here .longer;
     plain = here .plain;
+    closed = here .closed;
     equal =
         let m : ℕ = setWords * countsOf (fileOf B) .terms in
         accepted-sound (fileOf B) m _ (file-accepted m (omega arith));

@@ -15,6 +15,7 @@ use Rattle.logic.specs.WellFormed.{TablesFormed, WellFormed}
 use Rattle.logic.specs.Instance.{StepHolds}
 use Rattle.logic.specs.Longer.{Longer}
 use Rattle.logic.proofs.Images.{image-empty}
+use Rattle.logic.proofs.Kept.{tree-kept}
 use Rattle.judgement.specs.Demands.{LastIsClaim}
 use Rattle.expansion.specs.Nodes.{Node, nodeAt}
 use Rattle.expansion.specs.Visit.{Visit, visit, visited, expanded, claiming}
@@ -27,17 +28,17 @@ use Rattle.expansion.proofs.Induction.{visit-visited}
 
 -- B is b with a derivation of B's claim appended
 pub record Derived (b B : Bundle) : Type 0 where
-  -- tables and contexts are well formed, each step is an instance of its rule, and the last is the claim,
+  -- tables and contexts are well formed, each step is an instance of its rule with its sides in scope, and the last is the claim,
   pub formed : WellFormed B
   pub steps : (k : ℕ) → Number (length (B .steps)) k → StepHolds B k
   pub claim : LastIsClaim B
   -- the job's records stand in it under their numbers, and its left is the job's,
   pub longer : Longer b B
   pub left : B .left ≡ b .left
-  -- its right is a closed term that holds no let.
+  -- its right is a term that holds no let, and both sides are closed.
   pub right : Number (length (B .terms)) (B .right)
   pub plain : holdsLet (tree B (B .right)) ≡ false
-  pub closed : Closed (tree B (B .right))
+  pub closed : Closed (tree B (B .left)) × Closed (tree B (B .right))
 
 -- a job: its tables are well formed, it has no contexts and no steps, and its left is a closed term
 module _ (b : Bundle) (tables : TablesFormed b) (contexts : b .contexts ≡ []) (steps : b .steps ≡ []) (left : Number (length (b .terms)) (b .left))
@@ -81,7 +82,7 @@ module _ (b : Bundle) (tables : TablesFormed b) (contexts : b .contexts ≡ []) 
     left = refl;
     right = done .result .is-term;
     plain = done .result .plain;
-    closed = done .result .new;
+    closed = (λ x f. closed x (rw (tree-kept (expanded-longer b) tables (b .left) (left .1)) at f), done .result .new);
   }
     where
       v : Visit

@@ -1,6 +1,7 @@
 -- THE INDUCTION: each visit leaves a checked bundle, a result and a step that carries the visited term to it.
 --     Open, not-open                       what may be free in a result is new, hence no variable of the job
 --     Covers, CoverAll                     every free variable of a tree, or of a list of trees, has an image in the context
+--     left-scope, open-scope               so a term that is covered is in scope, and what may be free in a result is mentioned
 --     refl-instance, leaf-visited          a variable
 --     cong-instance, node-visited          an application
 --     binder-opens, binder-covers, bind-instance, binder-visited     a quantifier: its new variable and contexts, its step
@@ -23,7 +24,7 @@ use Rattle.logic.specs.Terms.{Binder, Term, Terms, var, app, bind, letIn, none,
 use Rattle.logic.specs.Free.{Free, Frees}
 use Rattle.logic.specs.Lets.{holdsLet, holdLets}
 use Rattle.logic.specs.Sorts.{binderSort, sort}
-use Rattle.logic.specs.Contexts.{lookup, first, image, treeOfImage, imageTree, by-fixing}
+use Rattle.logic.specs.Contexts.{lookup, first, image, treeOfImage, imageTree, Mentioned, by-fixing, InScope}
 use Rattle.logic.specs.Rules.{REFL, ruleOf}
 use Rattle.logic.specs.WellFormed.{ListsFormed, WellFormed}
 use Rattle.logic.specs.Instance.{ReflForm, Instance, by-refl, by-cong, by-bind, by-let, Replaces}
@@ -31,6 +32,7 @@ use Rattle.logic.specs.Longer.{Longer, withVariables, addList, listStart}
 use Rattle.logic.proofs.Tests.{or-neither}
 use Rattle.logic.proofs.FreeSettled.{free-number}
 use Rattle.logic.proofs.ReflStep.{refl-forms}
+use Rattle.logic.proofs.Found.{given-mentioned}
 use Rattle.logic.proofs.Pairs.{refl-rule}
 use Rattle.logic.proofs.Longer.{longer-refl, longer-trans, sizes, variable-added, list-longer, list-added}
 use Rattle.logic.proofs.Kept.{variable-kept, tree-kept, image-kept}
@@ -43,7 +45,7 @@ use Rattle.expansion.proofs.Grown.{variable-longer, application-longer,
 use Rattle.expansion.proofs.Grown.{visit-longer, visitAll-longer}
 use Rattle.expansion.proofs.AppendedChecked.{Checked, list-checked, list-start, variable-checked}
 use Rattle.expansion.proofs.Placement.{all-map, all-snoc, gather-kept, PlacedAs, variable-placed, application-placed, binder-placed}
-use Rattle.expansion.proofs.Mentioned.{FixedIn}
+use Rattle.expansion.proofs.Mentioned.{mentioned-kept, scope-kept, FixedIn}
 use Rattle.expansion.proofs.Substitution.{Result, Substitutes, replaced-old, substitutes-kept, new-not-free, new-not-in-image, not-listed, not-new}
 use Rattle.expansion.proofs.Substitution.{lookup-covers, fixing-says, replacing-says, Opens, fixing-opens, replacing-opens}
 use Rattle.expansion.proofs.Conclusions.{done-says, done-kept, done-none, done-more, done-all-kept, done-results, done-sorts, done-steps, say-all}
@@ -70,6 +72,18 @@ CoverAll b c τs = (x : ℕ) → Frees x τs → (r : ℕ) × (image b c x ≡ G
 image-stays : {b b′ : Bundle} → Longer b b′ → WellFormed b → (c : ℕ) → c ≤ length (b .contexts) → (x : ℕ) {i : Image} → image b c x ≡ i → image b′ c x ≡ i
 image-stays longer well c h x e = ap (λ (f : ℕ → Image). f x) (image-kept longer well c h) ∙ e
 
+-- ---- in scope, in every longer bundle
+
+module _ {V₀ : ℕ} {N : ℕ → Type 0} {b B : Bundle} {c : ℕ} (old : Checked b) (s : Substitutes V₀ N b c) (later : Longer b B) where
+  -- a term whose free variables have images
+  left-scope : (t : ℕ) → t ≤ length (b .terms) → Covers b c (tree b t) → InScope B c (tree B t)
+  left-scope t h covers =
+      scope-kept later (old .formed) c t (s .here) h (λ x f. let (r, e) = covers x f in given-mentioned b (old .formed) c x r e)
+
+  -- what may be free in a result
+  open-scope : (x : ℕ) → N x → Mentioned B c x
+  open-scope x n = mentioned-kept later (old .formed) (s .here) (s .itself x n .mentioned)
+
 -- ---- a variable: REFL
 
 -- right is its image
@@ -92,7 +106,8 @@ leaf-visited {N = N} b c t x old s stands covers =
     let (r, given) = covers x (rw (stands .1) refl) in
     let (res, sorted) = s .gives x r given in
     subst (λ (i : Image). Visited N c t (concluded b 1 c t (imageTerm i t) [])) (sym given)
-    (conclude b 1 c t r [] old (s .here) (stands .0) res (sorted ∙ sym (ap (sort b) (stands .1))) tt
+    (conclude b 1 c t r [] old (s .here) (stands .0) res (sorted ∙ sym (ap (sort b) (stands .1)))
+    (left-scope old s (longer-refl b) t (stands .0 .1) covers) (open-scope old s (longer-refl b)) tt
     (refl-instance b c t x r (old .formed) (s .here) stands given) (λ B later well e. refl-form b c t x r (old .formed) (s .here) stands given B later well))
 
 -- the other rules are not REFL
@@ -115,7 +130,7 @@ gather-new N b (r ∷ rs) h x (inr f) = gather-new N b rs (h .1) x f
 
 -- term t is symbol f at the arguments ns; v is what the visits to these leave
 module _ {V₀ : ℕ} {N : ℕ → Type 0} (b : Bundle) (c t f : ℕ) (ns : Nodes) (old : Checked b) (s : Substitutes V₀ N b c) (stands : Stands V₀ b (node t f ns))
-    (v : Visits) (longer : Longer b (v .bundle)) (ih : VisitedAll N c (numbersOf ns) v) where
+    (covers : Covers b c (tree b t)) (v : Visits) (longer : Longer b (v .bundle)) (ih : VisitedAll N c (numbersOf ns) v) where
   abbrev applied : PlacedTerm
   applied = placeApplication (v .bundle) f (v .results)
 
@@ -160,6 +175,7 @@ module _ {V₀ : ℕ} {N : ℕ → Type 0} (b : Bundle) (c t f : ℕ) (ns : Node
         new = rw (applied-as .stands) (gather-new N (v .bundle) (v .results) results);
       }
       (ap (sort A) (applied-as .stands) ∙ sym (ap (sort A) (here .1)))
+      (left-scope old s since t (stands .0 .0 .1) covers) (open-scope old s since)
       (all-map (λ k n. (n .0, omega (arith, n .1, sizes to-applied .steps))) (v .steps) (done-steps (ih .done)))
       cong-instance (λ B later well. not-refl 2 (λ e. omega arith))
 
@@ -283,8 +299,8 @@ module _ {V₀ : ℕ} {N : ℕ → Type 0} (b : Bundle) (c x : ℕ) (old : Check
   -- ---- its result, and its step: BIND
 
   -- term t binds x in the body u; v is what the visit to the body leaves
-  module _ (t : ℕ) (q : Binder) (u : Node) (stands : Stands V₀ b (scope t q x u)) (v : Visit) (longer : Longer (openBinder b x c .bundle) (v .bundle))
-      (ih : Visited (And N y) (openBinder b x c .context) (number u) v) where
+  module _ (t : ℕ) (q : Binder) (u : Node) (stands : Stands V₀ b (scope t q x u)) (covers : Covers b c (tree b t)) (v : Visit)
+      (longer : Longer (openBinder b x c .bundle) (v .bundle)) (ih : Visited (And N y) (openBinder b x c .context) (number u) v) where
     abbrev result : PlacedTerm
     result = placeBinder (v .bundle) q y (v .result)
 
@@ -344,6 +360,7 @@ module _ {V₀ : ℕ} {N : ℕ → Type 0} (b : Bundle) (c x : ℕ) (old : Check
           new = rw (ok .stands) (λ z f. outer z (f .0) (ih .done .result .new z (f .1)));
         }
         (ap (sort R) (ok .stands) ∙ ap (binderSort q) same-sort ∙ sym (ap (sort R) (there R since .1)))
+        (left-scope old s since t (stands .0 .0 .1) covers) (open-scope old s since)
         ((ih .done .step .0, omega (arith, ih .done .step .1, sizes placed .steps)), tt)
         bind-instance (λ B later well. not-refl 4 (λ e. omega arith))
       where
@@ -390,7 +407,7 @@ module _ {V₀ : ℕ} {N : ℕ → Type 0} (b : Bundle) (c t l : ℕ) (vs : List
   -- ---- its step: LET
 
   -- w is what the visit to the body leaves
-  module _ (w : Visit) (on : Longer (bound .bundle) (w .bundle)) (body : Visited N (bound .context) (number u) w) where
+  module _ (covers : Covers b c (tree b t)) (w : Visit) (on : Longer (bound .bundle) (w .bundle)) (body : Visited N (bound .context) (number u) w) where
     from-bound : Longer (v .bundle) (w .bundle)
     from-bound = longer-trans (replacing-longer (v .bundle) l c (v .results)) on
 
@@ -414,6 +431,7 @@ module _ {V₀ : ℕ} {N : ℕ → Type 0} (b : Bundle) (c t l : ℕ) (vs : List
         conclude (w .bundle) 5 c t (w .result) (v .steps ++ (w .step ∷ [])) (body .checked) (omega (arith, s .here, sizes let-since .contexts))
         (let-there (w .bundle) let-since .0 .0) (body .done .result)
         (body .done .sorted ∙ sym (ap (sort (w .bundle)) (let-there (w .bundle) let-since .0 .1)))
+        (left-scope old s let-since t (stands .0 .0 .1) covers) (open-scope old s let-since)
         (all-snoc (Number (length (w .bundle .steps))) (v .steps) (w .step)
         (all-map (λ k n. (n .0, omega (arith, n .1, sizes from-bound .steps))) (v .steps) (done-steps (ih .done))) (body .done .step))
         let-instance (λ B later well. not-refl 5 (λ e. omega arith))
@@ -427,12 +445,12 @@ mutual
       → Covers b c (tree b (number τ)) → Visited N c (number τ) (visit τ c b)
   visit-visited (leaf t x) b c old s new stands covers = leaf-visited b c t x old s stands covers
   visit-visited (node t f ns) b c old s new stands covers =
-      node-visited b c t f ns old s stands (visitAll ns c b) (visitAll-longer ns c b)
+      node-visited b c t f ns old s stands covers (visitAll ns c b) (visitAll-longer ns c b)
       (visitAll-visited ns b c old s new (stands .1) (rw (stands .0 .1) at covers))
   visit-visited (scope t q x u) {V₀} b c old s new stands covers =
       let o = openBinder b x c in
       let opens = binder-opens b c x old s new (stands .1) in
-      binder-visited b c x old s new (stands .1) t q u stands (visit u (o .context) (o .bundle)) (visit-longer u (o .context) (o .bundle))
+      binder-visited b c x old s new (stands .1) t q u stands covers (visit u (o .context) (o .bundle)) (visit-longer u (o .context) (o .bundle))
       (visit-visited u (o .bundle) (o .context) (opens .checked) (opens .substitutes) (binder-open b c x old s new (stands .1))
       (stands-kept V₀ (open-longer b x c) (old .formed .tables) u (stands .2))
       (subst (Covers (o .bundle) (o .context)) (sym (tree-kept (open-longer b x c) (old .formed .tables) (number u) (stands-term V₀ b u (stands .2) .1)))
@@ -445,7 +463,7 @@ mutual
       let o = replacing (v .bundle) l c (v .results) in
       let opens = block-opens b c t l vs ns u old s new stands v longer ih in
       let since : Longer b (o .bundle) = longer-trans longer (replacing-longer (v .bundle) l c (v .results)) in
-      block-visited b c t l vs ns u old s new stands v longer ih (visit u (o .context) (o .bundle)) (visit-longer u (o .context) (o .bundle))
+      block-visited b c t l vs ns u old s new stands v longer ih covers (visit u (o .context) (o .bundle)) (visit-longer u (o .context) (o .bundle))
       (visit-visited u (o .bundle) (o .context) (opens .checked) (opens .substitutes) new (stands-kept V₀ since (old .formed .tables) u (stands .3))
       (subst (Covers (o .bundle) (o .context)) (sym (tree-kept since (old .formed .tables) (number u) (stands-term V₀ b u (stands .3) .1)))
       (block-covers b c t l vs ns u old s new stands v longer ih (gather (tree b) (numbersOf ns)) (tree b (number u)) all)))

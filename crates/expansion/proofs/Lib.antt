@@ -4,7 +4,7 @@
 --     Placement         terms looked up, and appended where they are not found
 --     Mentioned         variables that an entry of a context mentions
 --     Substitution      contexts of the visits: images are results, which hold no let and whose free variables are their own images
---     Conclusions       steps that a visit appends: each is an instance of its rule
+--     Conclusions       steps that a visit appends: each is an instance of its rule, its sides in scope
 --     Standing          nodes that stand for terms of a bundle
 --     Induction         THE INDUCTION: what each visit leaves
 --     Derived           THE WRITER'S THEOREM, on bundles

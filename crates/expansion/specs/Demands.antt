@@ -83,7 +83,9 @@ pub record WrittenWell (f g : List ℕ) : Type 0 where
   pub records : Longer (bundleOf f) (bundleOf g)
   -- its right holds no let,
   pub plain : holdsLet (tree (bundleOf g) (bundleOf g .right)) ≡ false
-  -- both have equal value in every world.
+  -- both are closed,
+  pub closed : Closed (tree (bundleOf g) (bundleOf g .left)) × Closed (tree (bundleOf g) (bundleOf g .right))
+  -- and have equal value in every world.
   pub equal : EqualValues (bundleOf g) (bundleOf g .left) (bundleOf g .right)
 
 -- Demand 3, its second half: for every well-formed closed job whose derivation fits, with long enough areas, a file is written, and it is as it is

@@ -1,21 +1,23 @@
--- Laws of the table of images and of the sets of moved variables.
---     moved-few                              what holds for contexts below c holds for fewer
+-- Laws of the table of images and of the sets of moved and of mentioned variables.
+--     scopes-few                             what holds for contexts below c holds for fewer
 --     mention-zero, mention-past, mention-some     a place of a row, and numbers that have none
 --     as-absent, as-fixed, as-replaced       what a place says
---     images-none, moved-none                zeros are what is known of the empty context
+--     images-none, scopes-none               zeros are what is known of the empty context
 --     untouched-refl, untouched-trans        what stays while one context is written
 --     record-below                           a record ends before a later one starts
 --     row-room                               room for a row, in the words of the code
---     row-kept, set-kept                     so the rows and sets of lower contexts do
+--     row-kept, moves-kept, mentions-kept    so the rows and sets of lower contexts do
 --     mention-set, entered-place             one place written
+--     told-place                             what is written says something
 --     Replacing, replacing-on                a list of variables replaced, side by side with a list of terms
 --     moved-inside                           only variables that there are can be moved
---     inherited, set-copied, agrees-copied   the row and the set of the parent
+--     inherited, sets-copied, agrees-copied  the row and the sets of the parent
 --     images-on, sets-on                     with the entry written over them, they are the context's own
---     apart-settled                          a term is settled where its free set and the moved set have nothing in common
+--     apart-settled, subset-in-scope         a term is settled where its free set and the moved set have nothing in common; in scope where its free set is a
+--                                            subset of that of the mentioned variables
 use mathlib.Core.Path.{_≡_, refl, sym, ap, _∙_}
 use mathlib.Core.Bool.{Bool, true, false, cond, not, _&&_, _||_, false≢true}
-use mathlib.Core.Logic.{inl}
+use mathlib.Core.Logic.{_⊎_, inl, inr}
 use mathlib.Core.List.{List, [], _∷_}
 use Prim.Native.Nat.{ℕ, zero, suc, _+_, _*_, _-_, _/_, _%_, _^_, _≤_, _<_}
 use native.Mathlib.Omega.{arith}
@@ -23,30 +25,37 @@ use native.Mathlib.Decide.{ℕ-discrete, decLe}
 use lib.ListN.{length, getD, set, replicate, length-set, length-replicate}
 use lib.Seq.{getD-set-same, getD-set-other}
 use lib.Dec.{eqb}
-use lib.Bits.{bitOr}
 use borrow.Author.Tests.{eqb-true, eq-eqb, ne-eqb}
 use Rattle.bundle.specs.declared.Bundle.{Bundle as Counts}
 use Rattle.bundle.specs.Bundle.{Bundle}
 use Rattle.bundle.specs.File.{bundleAt}
 use Rattle.bundle.specs.Lists.{numbers, has, different}
 use Rattle.bundle.proofs.Fields.{record-within, variables-length}
-use Rattle.sets.specs.Sets.{bitAt, holds, member, withBit, withoutBit, inserted, removed, cleared, united, disjointOf}
+use Rattle.sets.specs.Sets.{bitAt, holds, member, withBit, withoutBit, inserted, removed, copied, disjointOf, subsetOf}
 use Rattle.sets.proofs.Digits.{bit-none}
-use Rattle.sets.proofs.Members.{holds-small, member-inserted, member-removed, member-cleared, member-united, member-same, changed-length, changed-out}
-use Rattle.sets.proofs.Members.{filled-length, filled-out, disjoint-none, none-disjoint}
+use Rattle.sets.proofs.Members.{holds-small, member-inserted, member-removed, member-same, member-moved, changed-length, changed-out}
+use Rattle.sets.proofs.Members.{filled-length, filled-out, filled-in, disjoint-none, none-disjoint}
+use Rattle.sets.proofs.Subsets.{subset-member, member-subset}
 use Rattle.logic.specs.declared.Mention.{Mention}
 use Rattle.logic.specs.declared.Mention.the-variants.{Fixed, Replaced, Absent}
 use Rattle.logic.specs.declared.Image.{Image}
 use Rattle.logic.specs.Tests.{upTo}
 use Rattle.logic.specs.Free.{freeAt}
-use Rattle.logic.specs.Contexts.{lookup, orAbove, found, asImage, movedBy, moved, settledFor, settled}
+use Rattle.logic.specs.Contexts.{lookup, orAbove, found, asImage, movedBy, moved, settledFor, settled, mentionedBy, mentioned, inScope}
 use Rattle.logic.proofs.Found.{image-found, found-empty}
+use Rattle.logic.proofs.Trees.{free-known}
 use Rattle.logic.proofs.Tests.{numbers-in, numbers-of, and-left, and-right, both-ways, up-to, up-to-all}
 use Rattle.images.proofs.FreeWords.{numbers-past}
-use Rattle.images.specs.ContextRows.{fixedPlace, asMention, mentionAt, mentionIn, Images, MovedSets, RowRoom, Untouched, Agrees, Entered}
+use Rattle.images.specs.ContextRows.{fixedPlace, asMention, mentionAt, mentionIn, Images, movedAt, mentionedAt, Scopes, RowRoom, Untouched, SetsCopied, Agrees}
+use Rattle.images.specs.ContextRows.{Entered}
 
-pub moved-few : (b : Bundle) (m : List ℕ) (n c d : ℕ) → d ≤ c → n * d ≤ n * c → MovedSets b m n c → MovedSets b m n d
-moved-few b m n c d h g i = record { long = omega (arith, i .long); same = λ k x l. i .same k x (omega arith); few = λ k x l. i .few k x (omega arith) }
+pub scopes-few : (b : Bundle) (m : List ℕ) (n c d : ℕ) → d ≤ c → n * d ≤ n * c → Scopes b m n c → Scopes b m n d
+scopes-few b m n c d h g i = record {
+  long = omega (arith, i .long);
+  moves = λ k x l. i .moves k x (omega arith);
+  mentions = λ k x l. i .mentions k x (omega arith);
+  few = λ k x l. i .few k x (omega arith);
+}
 
 -- ---- a place of a row
 
@@ -109,20 +118,21 @@ images-none b m h = record {
     go x true = as-absent (getD (replicate m 0) (length (b .variables) * 0 + (x - 1)) 0) (zero-at m (length (b .variables) * 0 + (x - 1)))
     go x false = refl
 
-pub moved-none : (b : Bundle) (n m : ℕ) → n ≤ m → MovedSets b (replicate m 0) n 1
-unfolding member movedBy asImage
-moved-none b n m h = record {
+pub scopes-none : (b : Bundle) (n m : ℕ) → 2 * n ≤ m → Scopes b (replicate m 0) n 1
+unfolding member movedBy mentioned mentionedBy asImage
+scopes-none b n m h = record {
   long = omega (arith, length-replicate {A = ℕ} m 0);
-  same = λ k x l. let z : k ≡ 0 = omega arith in rw z (go x (holds n x) ∙ sym (still x));
+  moves = λ k x l. let z : k ≡ 0 = omega arith in rw z (go (movedAt n 0) x (holds n x) ∙ sym (still x));
+  mentions = λ k x l. let z : k ≡ 0 = omega arith in rw z (go (mentionedAt n 0) x (holds n x) ∙ sym (ap mentionedBy (found-empty b x)));
   few = λ k x l e. let z : k ≡ 0 = omega arith in absurd (false≢true (sym (still x) ∙ (rw z at e)));
 }
   where
     still : (x : ℕ) → moved b 0 x ≡ false
     still x = moved-found b 0 x ∙ ap (λ (m : Mention). movedBy b (asImage m) x) (found-empty b x)
 
-    go : (x : ℕ) (p : Bool) → cond p (bitAt (getD (replicate m 0) (n * 0 + (x - 1) / 64) 0) ((x - 1) % 64)) false ≡ false
-    go x true = ap (λ (y : ℕ). bitAt y ((x - 1) % 64)) (zero-at m (n * 0 + (x - 1) / 64)) ∙ bit-none ((x - 1) % 64)
-    go x false = refl
+    go : (at x : ℕ) (p : Bool) → cond p (bitAt (getD (replicate m 0) (at + (x - 1) / 64) 0) ((x - 1) % 64)) false ≡ false
+    go at x true = ap (λ (y : ℕ). bitAt y ((x - 1) % 64)) (zero-at m (at + (x - 1) / 64)) ∙ bit-none ((x - 1) % 64)
+    go at x false = refl
 
 -- the row of k copied from that of j
 pub row-copied : (b : Bundle) (w v : List ℕ) (k j count : ℕ) → length (b .variables) ≡ count
@@ -159,10 +169,15 @@ module _ (b : Bundle) (w m w′ m′ : List ℕ) (n k : ℕ) (kept : Untouched b
   pub row-kept : (j x : ℕ) → j < k → mentionIn b w′ j x ≡ mentionIn b w j x
   row-kept j x h = same-place b w′ w j j x (λ one low. kept .row (length (b .variables) * j + (x - 1)) (omega (arith, record-below (length (b .variables)) j k h)))
 
-  pub set-kept : (j x : ℕ) → j < k → member m′ (n * j) n x ≡ member m (n * j) n x
-  set-kept j x h =
-      let fits = record-below n j k h in
-      member-same m′ m (n * j) n (λ i l. kept .words (n * j + i) (omega (arith, fits))) x
+  -- both sets of context j stand below those of context k
+  set-kept : (at : ℕ) → at + n ≤ 2 * n * k → (x : ℕ) → member m′ at n x ≡ member m at n x
+  set-kept at fits x = member-same m′ m at n (λ i l. kept .words (at + i) (omega (arith, fits))) x
+
+  pub moves-kept : (j x : ℕ) → j < k → member m′ (movedAt n j) n x ≡ member m (movedAt n j) n x
+  moves-kept j x h = set-kept (movedAt n j) (omega (arith, record-below n j k h)) x
+
+  pub mentions-kept : (j x : ℕ) → j < k → member m′ (mentionedAt n j) n x ≡ member m (mentionedAt n j) n x
+  mentions-kept j x h = set-kept (mentionedAt n j) (omega (arith, record-below n j k h)) x
 
 -- ---- one place written
 
@@ -183,34 +198,55 @@ module _ (b : Bundle) (w : List ℕ) (k x t : ℕ) (one : 1 ≤ x) (few : x ≤ 
           rw (ne-eqb x y q)
           (same-place b (set w (length (b .variables) * k + (x - 1)) t) w k k y (λ first low. getD-set-other w (length (b .variables) * k + (x - 1)) (length (b .variables) * k + (y - 1)) t 0 (λ z. q (omega arith))))
 
-  module _ (m m′ : List ℕ) (n : ℕ) (words : n * k + n ≤ length m) (bits : length (b .variables) ≤ 64 * n) (agrees : Agrees b w m n k) (moves : Bool)
-      (same : moves ≡ movedBy b (asImage (asMention t)) x) where
+  module _ (m m₁ m′ : List ℕ) (n : ℕ) (words : 2 * n * k + 2 * n ≤ length m) (bits : length (b .variables) ≤ 64 * n) (agrees : Agrees b w m n k)
+      (moves : Bool) (same : moves ≡ movedBy b (asImage (asMention t)) x) (told : mentionedBy (asMention t) ≡ true) where
     held : holds n x ≡ true
     held = holds-small n x one (omega arith)
 
-    -- the set as the code leaves it
+    -- the sets as the code leaves them
+    abbrev with-mention : List ℕ
+    with-mention = inserted m (mentionedAt n k) n x
+
     abbrev left-set : Bool → List ℕ
-    left-set p = cond p (inserted m (n * k) n x) (removed m (n * k) n x)
+    left-set p = cond p (inserted with-mention (movedAt n k) n x) (removed with-mention (movedAt n k) n x)
 
-    in-set : (p : Bool) (y : ℕ) → member (left-set p) (n * k) n y ≡ cond (eqb y x) p (member m (n * k) n y)
-    in-set true y = member-inserted m (n * k) n x words held y ∙ go (eqb y x)
+    mention-long : length with-mention ≡ length m
+    mention-long = changed-length withBit m (mentionedAt n k) n x
+
+    fits : movedAt n k + n ≤ length with-mention
+    fits = omega (arith, words, mention-long)
+
+    -- the moved set is written after the other, and stands apart from it
+    before : (y : ℕ) → member with-mention (movedAt n k) n y ≡ member m (movedAt n k) n y
+    before y = member-same with-mention m (movedAt n k) n (λ i l. changed-out withBit m (mentionedAt n k) n x (movedAt n k + i) (inl (omega arith))) y
+
+    in-set : (p : Bool) (y : ℕ) → member (left-set p) (movedAt n k) n y ≡ cond (eqb y x) p (member m (movedAt n k) n y)
+    in-set true y = member-inserted with-mention (movedAt n k) n x fits held y ∙ ap (λ (q : Bool). eqb y x || q) (before y) ∙ go (eqb y x)
       where
-        go : (q : Bool) → (q || member m (n * k) n y) ≡ cond q true (member m (n * k) n y)
+        go : (q : Bool) → (q || member m (movedAt n k) n y) ≡ cond q true (member m (movedAt n k) n y)
         go true = refl
         go false = refl
-    in-set false y = member-removed m (n * k) n x words held y ∙ go (eqb y x)
+    in-set false y = member-removed with-mention (movedAt n k) n x fits held y ∙ ap (λ (q : Bool). not (eqb y x) && q) (before y) ∙ go (eqb y x)
       where
-        go : (q : Bool) → (not q && member m (n * k) n y) ≡ cond q false (member m (n * k) n y)
+        go : (q : Bool) → (not q && member m (movedAt n k) n y) ≡ cond q false (member m (movedAt n k) n y)
         go true = refl
         go false = refl
 
-    set-out : (p : Bool) (j : ℕ) → j < n * k → getD (left-set p) j 0 ≡ getD m j 0
-    set-out true j h = changed-out withBit m (n * k) n x j (inl h)
-    set-out false j h = changed-out withoutBit m (n * k) n x j (inl h)
+    past : (p : Bool) (j : ℕ) → (j < movedAt n k) ⊎ (mentionedAt n k ≤ j) → getD (left-set p) j 0 ≡ getD with-mention j 0
+    past true j h = changed-out withBit with-mention (movedAt n k) n x j h
+    past false j h = changed-out withoutBit with-mention (movedAt n k) n x j h
+
+    in-mentions : (p : Bool) (y : ℕ) → member (left-set p) (mentionedAt n k) n y ≡ (eqb y x || member m (mentionedAt n k) n y)
+    in-mentions p y =
+        member-same (left-set p) with-mention (mentionedAt n k) n (λ i l. past p (mentionedAt n k + i) (inr (omega arith))) y
+        ∙ member-inserted m (mentionedAt n k) n x (omega (arith, words)) held y
+
+    set-out : (p : Bool) (j : ℕ) → j < 2 * n * k → getD (left-set p) j 0 ≡ getD m j 0
+    set-out p j h = past p j (inl h) ∙ changed-out withBit m (mentionedAt n k) n x j (inl (omega arith))
 
     set-long : (p : Bool) → length (left-set p) ≡ length m
-    set-long true = changed-length withBit m (n * k) n x
-    set-long false = changed-length withoutBit m (n * k) n x
+    set-long true = changed-length withBit with-mention (movedAt n k) n x ∙ mention-long
+    set-long false = changed-length withoutBit with-mention (movedAt n k) n x ∙ mention-long
 
     entered-set : m′ ≡ left-set moves → Entered b w m (set w (length (b .variables) * k + (x - 1)) t) m′ n k (λ y m. cond (eqb x y) (asMention t) m)
     entered-set e = rw e (record {
@@ -221,17 +257,36 @@ module _ (b : Bundle) (w : List ℕ) (k x t : ℕ) (one : 1 ≤ x) (few : x ≤ 
         words = set-out moves;
       };
       mentions = mention-set;
-      agrees = λ y. in-set moves y ∙ agree y (ℕ-discrete x y);
+      agrees = record {
+        moves = λ y. in-set moves y ∙ agree y (ℕ-discrete x y);
+        mentions = λ y. in-mentions moves y ∙ tells y (ℕ-discrete x y);
+      };
     })
       where
-        agree : (y : ℕ) → Dec (x ≡ y) → cond (eqb y x) moves (member m (n * k) n y) ≡ movedBy b (asImage (mentionIn b (set w (length (b .variables) * k + (x - 1)) t) k y)) y
+        agree : (y : ℕ) → Dec (x ≡ y)
+            → cond (eqb y x) moves (member m (movedAt n k) n y) ≡ movedBy b (asImage (mentionIn b (set w (length (b .variables) * k + (x - 1)) t) k y)) y
         agree y (yes q) = rw (mention-set y, eq-eqb x y q, eq-eqb y x (sym q)) (same ∙ ap (movedBy b (asImage (asMention t))) q)
-        agree y (no q) = rw (mention-set y, ne-eqb x y q, ne-eqb y x (λ r. q (sym r))) (agrees y)
+        agree y (no q) = rw (mention-set y, ne-eqb x y q, ne-eqb y x (λ r. q (sym r))) (agrees .moves y)
 
-    -- the same of the place as the code has it
-    pub entered-place : {p : ℕ} → p ≡ length (b .variables) * k + (x - 1) → m′ ≡ left-set moves
+        tells : (y : ℕ) → Dec (x ≡ y)
+            → (eqb y x || member m (mentionedAt n k) n y) ≡ mentionedBy (mentionIn b (set w (length (b .variables) * k + (x - 1)) t) k y)
+        tells y (yes q) = rw (mention-set y, eq-eqb x y q, eq-eqb y x (sym q)) (sym told)
+        tells y (no q) = rw (mention-set y, ne-eqb x y q, ne-eqb y x (λ r. q (sym r))) (agrees .mentions y)
+
+    -- the same of the places as the code has them
+    pub entered-place : {p : ℕ} → p ≡ length (b .variables) * k + (x - 1) → m₁ ≡ with-mention
+        → m′ ≡ cond moves (inserted m₁ (movedAt n k) n x) (removed m₁ (movedAt n k) n x)
         → Entered b w m (set w p t) m′ n k (λ y m. cond (eqb x y) (asMention t) m)
-    entered-place q e = rw q (entered-set e)
+    entered-place q d e = rw q (entered-set (rw d at e))
+
+-- a term's number, or what stands for a fixed variable, says something
+pub told-place : (t : ℕ) → 1 ≤ t → mentionedBy (asMention t) ≡ true
+unfolding asMention mentionedBy
+told-place t h = rw (ne-eqb t 0 (λ z. omega arith)) (go (eqb t fixedPlace))
+  where
+    go : (p : Bool) → mentionedBy (cond p Fixed (Replaced t)) ≡ true
+    go true = refl
+    go false = refl
 
 -- ---- a list of variables replaced
 
@@ -292,43 +347,47 @@ moved-inside b w k x same e = go (ℕ-discrete x 0) (decLe x (length (b .variabl
     go (no q) (yes l) = (omega arith, l)
     go (no q) (no l) = never (mention-past (length (b .variables)) w k x (omega arith))
 
--- ---- a context: the row and the set of its parent, then its own entry
+-- ---- a context: the row and the sets of its parent, then its own entry
 
-module _ (b : Bundle) (w m w′ m₁ m₂ : List ℕ) (n k p : ℕ) (lower : p < k) (room : RowRoom b w m n k) where
-  own-words : n * p + n ≤ n * k
-  own-words = record-below n p k lower
+module _ (b : Bundle) (w m w′ m₁ : List ℕ) (n k p : ℕ) (lower : p < k) (room : RowRoom b w m n k) where
+  pub parent-words : 2 * n * p + 2 * n ≤ 2 * n * k
+  parent-words = omega (arith, record-below n p k lower)
 
-  pub parent-words : n * p + n ≤ n * k
-  parent-words = own-words
+  module _ (copy : m₁ ≡ copied m (2 * n * k) (2 * n * p) (2 * n)) where
+    pub inherited : length w′ ≡ length w → ((j : ℕ) → j < length (b .variables) * k → getD w′ j 0 ≡ getD w j 0) → Untouched b w m w′ m₁ n k
+    inherited long row = record {
+      long-row = long;
+      long-set = rw copy (filled-length (λ i. getD m (2 * n * p + i) 0) m (2 * n * k) (2 * n));
+      row = row;
+      words = λ j h. rw copy (filled-out (λ i. getD m (2 * n * p + i) 0) m (2 * n * k) (2 * n) j (inl h));
+    }
 
-  module _ (clear : m₁ ≡ cleared m (n * k) n) (unite : m₂ ≡ united m₁ (n * k) (n * p) n) where
-    long₁ : length m₁ ≡ length m
-    long₁ = rw clear (filled-length (λ i. 0) m (n * k) n)
+    -- word i of both sets
+    word : (i : ℕ) → i < 2 * n → getD m₁ (2 * n * k + i) 0 ≡ getD m (2 * n * p + i) 0
+    word i l = rw copy (filled-in (λ i. getD m (2 * n * p + i) 0) m (2 * n * k) (2 * n) i (room .words) l)
 
-    long₂ : length m₂ ≡ length m₁
-    long₂ = rw unite (filled-length (λ i. bitOr (getD m₁ (n * k + i) 0) (getD m₁ (n * p + i) 0)) m₁ (n * k) n)
+    pub sets-copied : SetsCopied m m₁ n k p
+    sets-copied = record {
+      moves = λ x. member-moved m₁ m (movedAt n k) (movedAt n p) n (λ i l. word i (omega arith)) x;
+      mentions =
+          λ x. member-moved m₁ m (mentionedAt n k) (mentionedAt n p) n
+          (λ i l.
+          let to : mentionedAt n k + i ≡ 2 * n * k + (n + i) = omega arith in
+          let from : mentionedAt n p + i ≡ 2 * n * p + (n + i) = omega arith in
+          rw (to, from) (word (n + i) (omega arith))) x;
+    }
 
-    out₁ : (j : ℕ) → j < n * k → getD m₁ j 0 ≡ getD m j 0
-    out₁ j h = rw clear (filled-out (λ i. 0) m (n * k) n j (inl h))
-
-    out₂ : (j : ℕ) → j < n * k → getD m₂ j 0 ≡ getD m₁ j 0
-    out₂ j h = rw unite (filled-out (λ i. bitOr (getD m₁ (n * k + i) 0) (getD m₁ (n * p + i) 0)) m₁ (n * k) n j (inl h))
-
-    pub inherited : length w′ ≡ length w → ((j : ℕ) → j < length (b .variables) * k → getD w′ j 0 ≡ getD w j 0) → Untouched b w m w′ m₂ n k
-    inherited long row = record { long-row = long; long-set = long₂ ∙ long₁; row = row; words = λ j h. out₂ j h ∙ out₁ j h }
-
-    pub set-copied : (x : ℕ) → member m₂ (n * k) n x ≡ member m (n * p) n x
-    set-copied x =
-        ap (λ (v : List ℕ). member v (n * k) n x) unite
-        ∙ member-united m₁ (n * k) (n * p) n (omega (arith, room .words, long₁)) x
-        ∙ ap (λ (q : Bool). q || member m₁ (n * p) n x) (ap (λ (v : List ℕ). member v (n * k) n x) clear ∙ member-cleared m (n * k) n (room .words) x)
-        ∙ member-same m₁ m (n * p) n (λ i h. out₁ (n * p + i) (omega (arith, own-words))) x
-
-module _ (b : Bundle) (w m w′ m′ : List ℕ) (n k p : ℕ) (lower : p < k) (images : Images b w k) (sets : MovedSets b m n k)
+module _ (b : Bundle) (w m w′ m′ : List ℕ) (n k p : ℕ) (lower : p < k) (images : Images b w k) (sets : Scopes b m n k)
     (copied : (x : ℕ) → mentionIn b w′ k x ≡ mentionIn b w p x) where
-  pub agrees-copied : ((x : ℕ) → member m′ (n * k) n x ≡ member m (n * p) n x) → Agrees b w′ m′ n k
-  agrees-copied same x =
-      same x ∙ sets .same p x lower ∙ moved-found b p x ∙ ap (λ (m : Mention). movedBy b (asImage m) x) (sym (copied x ∙ images .same p x lower))
+  pub agrees-copied : SetsCopied m m′ n k p → Agrees b w′ m′ n k
+  unfolding mentioned
+  agrees-copied same = record {
+    moves = λ x. same .moves x ∙ sets .moves p x lower ∙ moved-found b p x ∙ ap (λ (m : Mention). movedBy b (asImage m) x) (row x);
+    mentions = λ x. same .mentions x ∙ sets .mentions p x lower ∙ ap mentionedBy (row x);
+  }
+    where
+      row : (x : ℕ) → found b p x ≡ mentionIn b w′ k x
+      row x = sym (copied x ∙ images .same p x lower)
 
   module _ (w″ m″ : List ℕ) (room : RowRoom b w m n k) (kept : Untouched b w m w′ m′ n k) (f : ℕ → Mention → Mention)
       (entered : Entered b w′ m′ w″ m″ n k f) (own : (x : ℕ) → f x (found b p x) ≡ found b k x) where
@@ -345,34 +404,41 @@ module _ (b : Bundle) (w m w′ m′ : List ℕ) (n k p : ℕ) (lower : p < k) (
         go j x (yes q) h = rw q (here x)
         go j x (no q) h = row-kept b w m w″ m″ n k all j x (omega arith) ∙ images .same j x (omega arith)
 
-    pub sets-on : MovedSets b m″ n (k + 1)
+    pub sets-on : Scopes b m″ n (k + 1)
+    unfolding mentioned
     sets-on = record {
       long = omega (arith, room .words, all .long-set, distrib n k);
-      same = λ j x h. go j x (ℕ-discrete j k) h;
+      moves = λ j x h. go j x (ℕ-discrete j k) h;
+      mentions = λ j x h. told j x (ℕ-discrete j k) h;
       few = λ j x h. inside j x (ℕ-discrete j k) h;
     }
       where
-        distrib : (n k : ℕ) → n * (k + 1) ≡ n * k + n
+        distrib : (n k : ℕ) → 2 * n * (k + 1) ≡ 2 * n * k + 2 * n
         distrib n k = omega arith
 
-        go : (j x : ℕ) → Dec (j ≡ k) → j < k + 1 → member m″ (n * j) n x ≡ moved b j x
-        go j x (yes q) h = rw q (entered .agrees x ∙ ap (λ (m : Mention). movedBy b (asImage m) x) (here x) ∙ sym (moved-found b k x))
-        go j x (no q) h = set-kept b w m w″ m″ n k all j x (omega arith) ∙ sets .same j x (omega arith)
+        go : (j x : ℕ) → Dec (j ≡ k) → j < k + 1 → member m″ (movedAt n j) n x ≡ moved b j x
+        go j x (yes q) h = rw q (entered .agrees .moves x ∙ ap (λ (m : Mention). movedBy b (asImage m) x) (here x) ∙ sym (moved-found b k x))
+        go j x (no q) h = moves-kept b w m w″ m″ n k all j x (omega arith) ∙ sets .moves j x (omega arith)
+
+        told : (j x : ℕ) → Dec (j ≡ k) → j < k + 1 → member m″ (mentionedAt n j) n x ≡ mentionedBy (found b j x)
+        told j x (yes q) h = rw q (entered .agrees .mentions x ∙ ap mentionedBy (here x))
+        told j x (no q) h = mentions-kept b w m w″ m″ n k all j x (omega arith) ∙ sets .mentions j x (omega arith)
 
         inside : (j x : ℕ) → Dec (j ≡ k) → j < k + 1 → moved b j x ≡ true → (1 ≤ x) × (x ≤ length (b .variables))
         inside j x (yes q) h e = moved-inside b w″ k x (here x) (rw q at e)
         inside j x (no q) h e = sets .few j x (omega arith) e
 
--- ---- settled terms
+-- ---- settled terms, and terms in scope
 
-module _ (b : Bundle) (w m : List ℕ) (at n k t : ℕ) (free : (x : ℕ) → member w at n x ≡ freeAt b t x) (sets : MovedSets b m n (k + 1)) where
-  pub apart-settled : ((j : ℕ) → getD w (at + j) 0 < 2 ^ 64) → disjointOf w at m (n * k) n ≡ settled b k t
+module _ (b : Bundle) (w m : List ℕ) (at n k t : ℕ) (free : (x : ℕ) → member w at n x ≡ freeAt b t x) (sets : Scopes b m n (k + 1))
+    (words : (j : ℕ) → getD w (at + j) 0 < 2 ^ 64) where
+  pub apart-settled : disjointOf w at m (movedAt n k) n ≡ settled b k t
   unfolding settled settledFor
-  apart-settled words =
-      both-ways (disjointOf w at m (n * k) n) (settled b k t)
+  apart-settled =
+      both-ways (disjointOf w at m (movedAt n k) n) (settled b k t)
       (λ e. up-to-all (length (b .variables)) (λ x. not (freeAt b t x) || not (moved b k x))
-      (λ x one few. apart (freeAt b t x) (moved b k x) (rw (← free x, ← sets .same k x (omega arith)) (disjoint-none w at m (n * k) n e x))))
-      (λ e. none-disjoint w at m (n * k) n words (λ u. rw (free u, sets .same k u (omega arith)) (common e u (freeAt b t u) refl (moved b k u) refl)))
+      (λ x one few. apart (freeAt b t x) (moved b k x) (rw (← free x, ← sets .moves k x (omega arith)) (disjoint-none w at m (movedAt n k) n e x))))
+      (λ e. none-disjoint w at m (movedAt n k) n words (λ u. rw (free u, sets .moves k u (omega arith)) (common e u (freeAt b t u) refl (moved b k u) refl)))
     where
       apart : (p q : Bool) → (p && q) ≡ false → (not p || not q) ≡ true
       apart true true e = absurd (false≢true (sym e))
@@ -386,3 +452,28 @@ module _ (b : Bundle) (w m : List ℕ) (at n k t : ℕ) (free : (x : ℕ) → me
           absurd (false≢true (rw (d, f) at (up-to (length (b .variables)) (λ x. not (freeAt b t x) || not (moved b k x)) e u (h .0) (h .1))))
       common e u true d false f = refl
       common e u false d q f = refl
+
+  pub subset-in-scope : subsetOf w at m (mentionedAt n k) n ≡ inScope b k t
+  unfolding inScope
+  subset-in-scope =
+      both-ways (subsetOf w at m (mentionedAt n k) n) (inScope b k t)
+      (λ e. up-to-all (length (b .variables)) here
+      (λ x one few. or-of (freeAt b t x) (mentioned b k x) (λ f. sym (sets .mentions k x (omega arith)) ∙ subset-member w at m (mentionedAt n k) n e x (free x ∙ f))))
+      (λ e. member-subset w at m (mentionedAt n k) n words (λ u h. sets .mentions k u (omega arith) ∙ stands e u (sym (free u) ∙ h)))
+    where
+      here : ℕ → Bool
+      here x = not (freeAt b t x) || mentioned b k x
+
+      or-of : (p q : Bool) → (p ≡ true → q ≡ true) → (not p || q) ≡ true
+      or-of true q h = h refl
+      or-of false q h = refl
+
+      of-or : (p q : Bool) → (not p || q) ≡ true → p ≡ true → q ≡ true
+      of-or true q h e = h
+      of-or false q h e = absurd (false≢true e)
+
+      -- a free variable is one of the file's
+      stands : upTo (length (b .variables)) here ≡ true → (u : ℕ) → freeAt b t u ≡ true → mentioned b k u ≡ true
+      stands e u f =
+          let n = numbers-of (length (b .variables)) u (free-known b t u f) in
+          of-or (freeAt b t u) (mentioned b k u) (up-to (length (b .variables)) here e u (n .0) (n .1)) f

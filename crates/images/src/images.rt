@@ -1,11 +1,12 @@
-// Mentions and images of variables in contexts, free variables, settled terms: as the lent memory has them, whatever it holds.
+// Mentions and images of variables in contexts, free variables, settled terms, terms in scope: as the lent memory has them, whatever it holds.
 ghost use mathlib.Core.Path.{_≡_};
+ghost use mathlib.Core.Bool.{_&&_};
 ghost use Prim.Native.Nat.{_+_, _*_, _≤_};
 ghost use lib.ListN.{length};
 ghost use Rattle.bundle.specs.File.{Whole, bundleAt};
 ghost use Rattle.logic.specs.Contexts.{isVariable};
-ghost use Rattle.images.specs.ContextRows.{mentionAt, imageAt};
-ghost use Rattle.images.specs.LentReading.{freeIn, settledIn};
+ghost use Rattle.images.specs.ContextRows.{mentionAt, imageAt, mentionedAt};
+ghost use Rattle.images.specs.LentReading.{freeIn, settledIn, inScopeIn};
 use bundle::Bundle;
 use bundle::halves::wide;
 use bundle::records::term_field;
@@ -75,17 +76,10 @@ pub fn is_free(b: Bundle, area: &[u64], n: usize, t: usize, v: usize) -> bool
     sets::member(area, n * (t - 1), n, v)
 }
 
-// Whether term t is settled in the context: no free variable of it is moved there.
-pub fn is_settled(
-    b: Bundle,
-    area: &[u64],
-    n: usize,
-    moved: &[u64],
-    context: usize,
-    t: usize,
-) -> bool
-    requires { ⌜ (n * b .terms ≤ length (now area)) × (n * (context + 1) ≤ length (now moved)) ⌝ }
-    ensures { λ r. ⌜ r ≡ settledIn (b .terms) (now (area .entry)) (now (moved .entry)) n context t ⌝ }
+// Whether term t is settled where the set at `at` is that of the moved variables: it has none of them free.
+pub fn is_settled(b: Bundle, area: &[u64], n: usize, moved: &[u64], at: usize, t: usize) -> bool
+    requires { ⌜ (n * b .terms ≤ length (now area)) × (at + n ≤ length (now moved)) ⌝ }
+    ensures { λ r. ⌜ r ≡ settledIn (b .terms) (now (area .entry)) (now (moved .entry)) n at t ⌝ }
 {
     if t == 0 {
         return true;
@@ -93,5 +87,26 @@ pub fn is_settled(
     if t > b.terms {
         return true;
     }
-    sets::disjoint(area, n * (t - 1), moved, n * context, n)
+    sets::disjoint(area, n * (t - 1), moved, at, n)
+}
+
+// Whether two terms are in scope in a context: each free variable of theirs is mentioned there.
+pub fn both_in_scope(
+    b: Bundle,
+    area: &[u64],
+    n: usize,
+    scopes: &[u64],
+    context: usize,
+    left: usize,
+    right: usize,
+) -> bool
+    requires { ⌜ (n * b .terms ≤ length (now area)) × (2 * n * (context + 1) ≤ length (now scopes))
+        × (1 ≤ left) × (left ≤ b .terms) × (1 ≤ right) × (right ≤ b .terms) ⌝ }
+    ensures { λ r. ⌜ (let scope = inScopeIn (b .terms) (now (area .entry)) (now (scopes .entry)) n (mentionedAt n context) in
+        r ≡ (scope left && scope right)) ⌝ }
+{
+    let mentioned = &scopes[2 * n * context + n..];
+    let first = &area[n * (left - 1)..];
+    let second = &area[n * (right - 1)..];
+    sets::both_subsets(first, second, mentioned, n)
 }

@@ -3,6 +3,7 @@
 --     accepted-unless-fails     a file is accepted exactly where no check fails
 --     accepted-exactly          the same, in document 01's words
 --     accepted-sound            accepted, both sides of the claim have equal values
+--     accepted-closed           accepted, both sides of the claim are closed
 --     accepted-pairs            the answer gives the pairs of the last REFL walked, at most 4,096
 --     accepted-distinct         accepted, different numbers stand for different terms
 --     area-left                 accepted, the free sets stand in the area; refused, zeros
@@ -19,11 +20,14 @@ use Rattle.logic.proofs.Formed.{well-formed-exactly}
 use Rattle.logic.proofs.Distinct.{terms-distinct}
 use Rattle.logic.proofs.Instances.{steps-exactly}
 use Rattle.logic.proofs.Pairs.{last-pairs, last-pairs-at-most}
+use Rattle.logic.specs.Terms.{tree}
+use Rattle.logic.specs.Free.{Closed}
 use Rattle.logic.proofs.Sound.{claim-sound}
+use Rattle.logic.proofs.Scopes.{claim-closed}
 use Rattle.judgement.specs.declared.Acceptance.{Acceptance}
 use Rattle.judgement.specs.Judge.{areaFor, areaAfter}
 use Rattle.judgement.specs.Order.{allChecks}
-use Rattle.judgement.specs.Demands.{LastIsClaim, RefusedExactly, AcceptedUnlessFails, AcceptedExactly, AcceptedSound, AcceptedPairs, AcceptedDistinct, AreaLeft}
+use Rattle.judgement.specs.Demands.{LastIsClaim, RefusedExactly, AcceptedUnlessFails, AcceptedExactly, AcceptedSound, AcceptedClosed, AcceptedPairs, AcceptedDistinct, AreaLeft}
 use Rattle.judgement.proofs.Order.{first-fails, fails-first, none-fails, all-hold, failing-number, checks-find}
 use Rattle.judgement.proofs.Accepting.{nothing-exactly, accepted-where, refused-where}
 use Rattle.judgement.proofs.Areas.{sets-left}
@@ -53,6 +57,16 @@ accepted-sound f m a e =
     subst₂ (EqualValues (bundleOf f)) (last .left ∙ sym (ap (λ (x : Acceptance). x .left) (h .1)))
     (last .right ∙ sym (ap (λ (x : Acceptance). x .right) (h .1)))
     (claim-sound (bundleOf f) (h .0 .formed) (h .0 .steps) (length (bundleOf f .steps)) (last .some, omega arith) (last .context))
+
+pub accepted-closed : AcceptedClosed
+accepted-closed f m a e =
+    let h = accepted-exactly f m a .0 e in
+    let b = bundleOf f in
+    let last : LastIsClaim b = h .0 .claim in
+    let closed = claim-closed b (length (b .steps)) (h .0 .steps (length (b .steps)) (last .some, omega arith)) (last .context) in (
+      subst (λ (t : ℕ). Closed (tree b t)) (last .left ∙ sym (ap (λ (x : Acceptance). x .left) (h .1))) (closed .0),
+      subst (λ (t : ℕ). Closed (tree b t)) (last .right ∙ sym (ap (λ (x : Acceptance). x .right) (h .1))) (closed .1),
+    )
 
 pub accepted-pairs : AcceptedPairs
 accepted-pairs f m a e =

@@ -69,7 +69,7 @@ module _ (f : List ℕ) (whole : Whole f (countsOf f)) where
       (section-small (contextFault b) (λ i. failing-le (contextTests b i) (omega arith, (omega arith, tt))) (length (b .contexts))
       (omega (arith, contexts-length f (countsOf f), whole .within .contexts)))
       (next-small (stepsFault b) claim
-      (section-small (stepFault b) (λ i. failing-le (stepTests b i) (omega arith, (omega arith, (omega arith, (omega arith, tt))))) (length (b .steps))
+      (section-small (stepFault b) (λ i. failing-le (stepTests b i) (omega arith, (omega arith, (omega arith, (omega arith, (omega arith, tt)))))) (length (b .steps))
       (omega (arith, steps-length f (countsOf f), whole .within .steps)))
       (else-small (firstFailing (claimTests b)) 0 (fault 0 0) (failing-le (claimTests b) (omega arith, tt)) (omega arith) none-small))
     where

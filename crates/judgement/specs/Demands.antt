@@ -9,7 +9,7 @@ use Rattle.bundle.specs.Limits.{setWords}
 use Rattle.bundle.specs.File.{countsOf, bundleOf}
 use Rattle.logic.specs.Lists.{All, Number}
 use Rattle.logic.specs.Terms.{tree}
-use Rattle.logic.specs.Free.{Free}
+use Rattle.logic.specs.Free.{Free, Closed}
 use Rattle.logic.specs.Distinct.{Distinct}
 use Rattle.logic.specs.WellFormed.{HeaderFormed, WellFormed}
 use Rattle.logic.specs.Instance.{StepHolds}
@@ -39,7 +39,7 @@ pub record LastIsClaim (b : Bundle) : Type 0 where
   pub right : stepOf b (length (b .steps)) .right ≡ b .right
 
 -- What document 01 asks of a file f and of the m words that are lent: a header of version 1 with counts within the limits and the exact length,
--- an area that is long enough, well-formed tables and contexts, each step an instance of its rule, and the last step the claim.
+-- an area that is long enough, well-formed tables and contexts, each step an instance of its rule with its sides in scope, and the last step the claim.
 pub record Acceptable (f : List ℕ) (m : ℕ) : Type 0 where
   pub header : HeaderFormed f
   pub area : setWords * countsOf f .terms ≤ m
@@ -55,6 +55,11 @@ AcceptedExactly =
 -- Demand 3, its first half: accepted, both sides of the claim have equal value in every finite world, under every valuation.
 abbrev pub AcceptedSound : Type 0
 AcceptedSound = (f : List ℕ) (m : ℕ) (a : Acceptance) → judge f m ≡ Accepted a → EqualValues (bundleOf f) (a .left) (a .right)
+
+-- An accepted claim is closed, both sides (Req 05). So "under every valuation" above says no more than "in every world" of it.
+abbrev pub AcceptedClosed : Type 0
+AcceptedClosed =
+    (f : List ℕ) (m : ℕ) (a : Acceptance) → judge f m ≡ Accepted a → Closed (tree (bundleOf f) (a .left)) × Closed (tree (bundleOf f) (a .right))
 
 -- The answer gives the number of pairs of the last REFL walked of all steps, 0 if none was; it is at most 4,096.
 abbrev pub AcceptedPairs : Type 0

@@ -4,6 +4,8 @@
 --     found-fixes, found-replaces        in a context of kind 1 or 2 whose parent is lower: by its entry, and what is found in the parent
 --     mentioned-found, found-mentioned   in a well-formed bundle something is found of the variables that an entry mentions, and of no others
 --     absent-exactly                     THE LAW: none mentions a variable exactly where it is found absent
+--     mentioned-exactly                  so the test says what the proposition says
+--     given-mentioned                    a variable that has a term for image is mentioned
 use mathlib.Core.Path.{_≡_, refl, sym, ap, _∙_, fun-ext}
 use Prim.Native.Nat.{ℕ, zero, suc, _<_}
 use native.Mathlib.Omega.{arith}
@@ -17,10 +19,11 @@ use Rattle.bundle.specs.Links.{items}
 use Rattle.logic.specs.declared.Mention.{Mention}
 use Rattle.logic.specs.declared.Mention.the-variants.{Fixed, Replaced, Absent}
 use Rattle.logic.specs.declared.Image.{Image}
+use Rattle.logic.specs.declared.Image.the-variants.{Gives}
 use Rattle.logic.specs.Lists.{Among}
 use Rattle.logic.specs.Table.{table, below}
 use Rattle.logic.specs.Contexts.{Entry, fixing, replacing, noEntry, entryOf, lookup, mentionAs, mention, first, imageBy, ownImage, image, orAbove}
-use Rattle.logic.specs.Contexts.{foundAs, foundBy, notFound, found, asImage, Mentioned, by-fixing, by-replacing, by-parent}
+use Rattle.logic.specs.Contexts.{foundAs, foundBy, notFound, found, asImage, Mentioned, by-fixing, by-replacing, by-parent, mentionedBy, mentioned}
 use Rattle.logic.specs.WellFormed.{sortOfTerm, ContextFormed, fixes, replaces, WellFormed}
 use Rattle.logic.proofs.Tables.{table-below, table-step, table-map, everywhere}
 use Rattle.logic.proofs.Images.{formed-context, parent-lower}
@@ -99,6 +102,18 @@ told? : (m : Mention) → Told m ⊎ (m ≡ Absent)
 told? Fixed = inl told-fixed
 told? (Replaced t) = inl (told-replaced t)
 told? Absent = inr refl
+
+told-test : (m : Mention) → (mentionedBy m ≡ true) ↔ Told m
+unfolding mentionedBy
+told-test Fixed = (λ e. told-fixed, λ h. refl)
+told-test (Replaced t) = (λ e. told-replaced t, λ h. refl)
+told-test Absent = (λ e. absurd (false≢true e), λ h. absurd (h refl))
+
+told-image : (m : Mention) (t : ℕ) → asImage m ≡ Gives t → Told m
+unfolding asImage
+told-image Fixed t e = told-fixed
+told-image (Replaced u) t e = told-replaced u
+told-image Absent t e = absurd (let z : _≡_ {A = ℕ} 0 1 = cc in omega arith)
 
 above-first : (m n : Mention) → Told m → Told (orAbove m n)
 unfolding orAbove
@@ -208,3 +223,10 @@ module _ (b : Bundle) (wf : WellFormed b) where
       go : (Mentioned b c x → ⊥) → Told (found b c x) ⊎ (found b c x ≡ Absent) → found b c x ≡ Absent
       go n (inl h) = absurd (n (found-mentioned c x h))
       go n (inr e) = e
+
+  pub mentioned-exactly : (c x : ℕ) → (mentioned b c x ≡ true) ↔ Mentioned b c x
+  unfolding mentioned
+  mentioned-exactly c x = (λ e. found-mentioned c x (told-test (found b c x) .0 e), λ m. told-test (found b c x) .1 (mentioned-found m))
+
+  pub given-mentioned : (c x t : ℕ) → image b c x ≡ Gives t → Mentioned b c x
+  given-mentioned c x t e = found-mentioned c x (told-image (found b c x) t (sym (image-found b c x) ∙ e))

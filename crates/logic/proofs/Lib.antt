@@ -21,13 +21,15 @@
 --     ReflExactly      THE THEOREM: the walk ends with no difference exactly at the capture-avoiding replacement, up to names
 --     Replacements     laws of capture-avoiding replacement; THE LAW: terms that are the same up to names
 --     ReflStep         a REFL step: the two forms, then the walk; THE THEOREM: the forms are replacements
---     Instances        THE THEOREMS: a step passes 12 to 14 exactly where it is an instance of its rule with its premises
+--     Images           equations of images, from what a context's record says
+--     Found            images from what the entries of a context say; THE LAW: they say nothing exactly of variables that none mentions
+--     Scopes           THE THEOREMS: a term is in scope exactly where its test passes; both sides of a step in context 0 are closed
+--     Instances        THE THEOREMS: a step passes 12 to 14, 21 and 22 exactly where it is an instance of its rule with its premises, its sides in scope
+--     Strays           THE THEOREM: 22 exactly where a free variable of a side is mentioned by no entry
 --     Pairs            THE THEOREMS: 21 exactly where the walk visits more; the last REFL walked, and that its pairs are at most 4,096
 --     CongWalk         THE THEOREMS: CONG's test reads at most, and where it passes exactly, the links of its three lists
 --     LetSide          THE THEOREM: LET's printed side holds of every instance in a well-formed bundle
 --     Values           laws of values: domains, quantifiers, valuations; a value depends on the free variables only
---     Images           equations of images, from what a context's record says
---     Found            images from what the entries of a context say; THE LAW: they say nothing exactly of variables that none mentions
 --     ReplacementSound THE THEOREM: a term seen through a context has the value of its capture-avoiding replacement
 --     Sound            THE THEOREMS: where every step holds, both sides of a step in context 0 have equal values in every world
 --     CounterExample   document 01's counter-example: with BIND's printed condition alone a step leads from false to true
@@ -68,13 +70,15 @@ pub mod ReflWalk
 pub mod ReflExactly
 pub mod Replacements
 pub mod ReflStep
+pub mod Images
+pub mod Found
+pub mod Scopes
 pub mod Instances
+pub mod Strays
 pub mod Pairs
 pub mod CongWalk
 pub mod LetSide
 pub mod Values
-pub mod Images
-pub mod Found
 pub mod ReplacementSound
 pub mod Sound
 pub mod CounterExample

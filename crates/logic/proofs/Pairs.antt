@@ -21,7 +21,7 @@ use Rattle.logic.specs.Terms.{tree}
 use Rattle.logic.specs.Free.{freeAt}
 use Rattle.logic.specs.Contexts.{image}
 use Rattle.logic.specs.Rules.{Rule, REFL, CONG, TRANS, BIND, LET, noRule, ruleOf, reflHolds, reflSuffices, sufficesAs, suffices, matches, sides}
-use Rattle.logic.specs.Rules.{stepRefers, stepTests, stepFault, stepsFault, walked, walkedPairs, lastPairs}
+use Rattle.logic.specs.Rules.{stepRefers, scoped, stepTests, stepFault, stepsFault, walked, walkedPairs, lastPairs}
 use Rattle.logic.specs.WellFormed.{WellFormed}
 use Rattle.logic.specs.ReflWalk.{reflWalk, pairLimit}
 use Rattle.logic.specs.Instance.{ReflForm}
@@ -33,6 +33,7 @@ use Rattle.logic.proofs.TermNumbers.{IsTerm}
 use Rattle.logic.proofs.ReflWalk.{walk-some}
 use Rattle.logic.proofs.ReflStep.{form-exactly}
 use Rattle.logic.proofs.Instances.{refers-exactly}
+use Rattle.logic.proofs.Scopes.{scoped-exactly}
 
 -- ---- rule 1 is REFL
 
@@ -89,30 +90,31 @@ not-held false h out = refl
 -- ---- 21
 
 pub spent-exactly : SpentExactly
-unfolding stepFault suffices
-spent-exactly b well k = (λ e. there (stepRefers b k) refl (suffices b k) refl (matches b k) (sides b k) e, back)
+unfolding stepFault scoped suffices
+spent-exactly b well k = (λ e. there (stepRefers b k) refl (scoped b k) refl (suffices b k) refl (matches b k) (sides b k) e, back)
   where
     s : Step
     s = stepOf b k
 
-    fault : Bool → Bool → Bool → Bool → ℕ
-    fault p q m t = cond p (cond q (cond m (cond t 0 14) 13) 21) 12
+    fault : Bool → Bool → Bool → Bool → Bool → ℕ
+    fault p z q m t = cond p (cond z (cond q (cond m (cond t 0 14) 13) 21) 22) 12
 
     forms : stepRefers b k ≡ true → (reflHolds b s ≡ true) ↔ ReflForm b (s .context) (tree b (s .left)) (tree b (s .right))
     forms refers = let refs = refers-exactly b well k .0 refers in form-exactly b well s (refs .1) (refs .2)
 
-    there : (p : Bool) → stepRefers b k ≡ p → (q : Bool) → suffices b k ≡ q → (m t : Bool) → fault p q m t ≡ 21 → Spent b k
-    there false refers q enough m t e = absurd (omega arith)
-    there true refers false enough m t e =
+    there : (p : Bool) → stepRefers b k ≡ p → (z : Bool) → scoped b k ≡ z → (q : Bool) → suffices b k ≡ q → (m t : Bool) → fault p z q m t ≡ 21 → Spent b k
+    there false refers z scope q enough m t e = absurd (omega arith)
+    there true refers false scope q enough m t e = absurd (omega arith)
+    there true refers true scope false enough m t e =
         let (is, no-form, over) = suffices-false b s (s .rule) enough in
-        record { refers = refers; is-refl = is; no-form = λ f. false≢true (sym no-form ∙ forms refers .1 f); over = over }
-    there true refers true enough true true e = absurd (omega arith)
-    there true refers true enough true false e = absurd (omega arith)
-    there true refers true enough false t e = absurd (omega arith)
+        record { refers = refers; scope = scoped-exactly b well s .0 scope; is-refl = is; no-form = λ f. false≢true (sym no-form ∙ forms refers .1 f); over = over }
+    there true refers true scope true enough true true e = absurd (omega arith)
+    there true refers true scope true enough true false e = absurd (omega arith)
+    there true refers true scope true enough false t e = absurd (omega arith)
 
-    back : Spent b k → fault (stepRefers b k) (suffices b k) (matches b k) (sides b k) ≡ 21
+    back : Spent b k → fault (stepRefers b k) (scoped b k) (suffices b k) (matches b k) (sides b k) ≡ 21
     back h =
-        rw (h .refers, false-suffices b s (s .rule) (h .is-refl) (not-held (reflHolds b s) (forms (h .refers)) (h .no-form)) (h .over))
+        rw (h .refers, scoped-exactly b well s .1 (h .scope), false-suffices b s (s .rule) (h .is-refl) (not-held (reflHolds b s) (forms (h .refers)) (h .no-form)) (h .over))
 
 -- ---- the last REFL walked
 
@@ -176,7 +178,7 @@ last-pairs-at-most b e = go (last-pairs b (length (b .steps)))
         s = stepOf b k
 
         enough : sufficesAs b (ruleOf (s .rule)) s ≡ true
-        enough = failing-none (stepTests b k) refl (none-bad (stepFault b) (length (b .steps)) e k (n .0) (n .1)) .1 .0
+        enough = failing-none (stepTests b k) refl (none-bad (stepFault b) (length (b .steps)) e k (n .0) (n .1)) .1 .1 .0
 
         is-walked : (eqb (s .rule) 1 ≡ true) × (not (reflHolds b s) ≡ true)
         is-walked = (and-left (eqb (s .rule) 1) (not (reflHolds b s)) w, and-right (eqb (s .rule) 1) (not (reflHolds b s)) w)

@@ -1,4 +1,5 @@
--- Contexts: images of variables, mentioned variables, moved variables, settled terms (image, moved, settled are document 01's words), and checks 10 and 11.
+-- Contexts: images of variables, mentioned variables, moved variables, settled terms (image, moved, settled are document 01's words), terms in scope, and
+-- checks 10 and 11.
 use Prim.Native.Nat.{ℕ}
 use mathlib.Core.Path.{_≡_}
 use mathlib.Core.Bool.{Bool, true, false, cond, not, _&&_, _||_}
@@ -105,6 +106,16 @@ pub data Mentioned (b : Bundle) : ℕ → ℕ → Type 0 where
   by-replacing : {c x : ℕ} → contextOf b c .kind ≡ 2 → Among x (items b (contextOf b c .a)) → Mentioned b c x
   by-parent : {c x : ℕ} → Mentioned b (contextOf b c .parent) x → Mentioned b c x
 
+-- the same as a test: something is found of x
+unfoldable pub mentionedBy : Mention → Bool
+mentionedBy Fixed = true
+mentionedBy (Replaced t) = true
+mentionedBy Absent = false
+
+unfoldable pub mentioned : Bundle → ℕ → ℕ → Bool
+unfolding mentionedBy found
+mentioned b c x = mentionedBy (found b c x)
+
 -- ---- images as trees
 
 -- the image as a tree
@@ -126,6 +137,12 @@ Moved b c x = imageTree b c x ≡ var x → ⊥
 -- document 01's settled: none of its free variables is moved
 abbrev pub Settled : Bundle → ℕ → Term → Type 0
 Settled b c t = (x : ℕ) → Free x t → imageTree b c x ≡ var x
+
+-- ---- in scope, in propositions (Req 05)
+
+-- Each free variable of a term is mentioned by an entry, fixed or replaced. Standing inside a replacement is not being mentioned.
+abbrev pub InScope : Bundle → ℕ → Term → Type 0
+InScope b c t = (x : ℕ) → Free x t → Mentioned b c x
 
 -- ---- the same as tests on numbers
 
@@ -149,6 +166,11 @@ settledFor b s c = upTo (length (b .variables)) (λ x. not (s x) || not (moved b
 unfoldable pub settled : Bundle → ℕ → ℕ → Bool
 unfolding freeAt settledFor
 settled b c t = settledFor b (freeAt b t) c
+
+-- each free variable of term t is mentioned in context c
+unfoldable pub inScope : Bundle → ℕ → ℕ → Bool
+unfolding upTo freeAt mentioned
+inScope b c t = upTo (length (b .variables)) (λ x. not (freeAt b t x) || mentioned b c x)
 
 -- ---- checks 10 and 11
 

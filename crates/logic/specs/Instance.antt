@@ -10,7 +10,7 @@ use Rattle.bundle.specs.Links.{items}
 use Rattle.logic.specs.Lists.{All, Number}
 use Rattle.logic.specs.Terms.{Binder, Term, Terms, var, app, bind, letIn, none, more, gather, tree}
 use Rattle.logic.specs.Free.{Free}
-use Rattle.logic.specs.Contexts.{imageTree, Settled}
+use Rattle.logic.specs.Contexts.{imageTree, Settled, InScope}
 use Rattle.logic.specs.Replacement.{Replacement}
 use Rattle.logic.specs.ReflWalk.{reflWalk, pairLimit}
 use Rattle.logic.specs.Rules.{Rule, REFL, CONG, TRANS, BIND, LET, ruleOf}
@@ -97,17 +97,23 @@ abbrev pub PairsSuffice : Bundle → Rule → Step → Type 0
 PairsSuffice b rule s =
     rule ≡ REFL → ReflForm b (s .context) (tree b (s .left)) (tree b (s .right)) ⊎ (reflWalk b s .pairs ≤ pairLimit)
 
+-- Each free variable of both sides of a step is mentioned by an entry of its context (Req 05).
+abbrev pub SidesInScope : Bundle → Step → Type 0
+SidesInScope b s = InScope b (s .context) (tree b (s .left)) × InScope b (s .context) (tree b (s .right))
+
 -- both sides of step p are terms
 abbrev pub SidesAreTerms : Bundle → ℕ → Type 0
 SidesAreTerms b p = Number (length (b .terms)) (stepOf b p .left) × Number (length (b .terms)) (stepOf b p .right)
 
--- Step: rule, context, left, right, list of premises, which are earlier steps; and it is an instance of its rule, within the pairs of a walk.
+-- Step: rule, context, left, right, list of premises, which are earlier steps; its sides are in scope, and it is an instance of its rule, within the pairs
+-- of a walk.
 pub record StepHolds (b : Bundle) (k : ℕ) : Type 0 where
   pub context : stepOf b k .context ≤ length (b .contexts)
   pub left : Number (length (b .terms)) (stepOf b k .left)
   pub right : Number (length (b .terms)) (stepOf b k .right)
   pub start : StartsList b (stepOf b k .premises)
   pub earlier : All (Lower k) (items b (stepOf b k .premises))
+  pub scope : SidesInScope b (stepOf b k)
   pub «instance» : Instance b (ruleOf (stepOf b k .rule)) (stepOf b k .context) (tree b (stepOf b k .left)) (tree b (stepOf b k .right))
       (items b (stepOf b k .premises))
   pub pairs : PairsSuffice b (ruleOf (stepOf b k .rule)) (stepOf b k)

@@ -1,4 +1,4 @@
--- The five rules as tests on record numbers, and checks 12, 21, 13 and 14 of a step. A test whose name ends in `By` is over a reading, of which it
+-- The five rules as tests on record numbers, and checks 12, 22, 21, 13 and 14 of a step. A test whose name ends in `By` is over a reading, of which it
 -- takes what it needs; under the plain name stands the same test at the bundle's own reading.
 use Prim.Native.Nat.{ℕ, zero, suc, _+_, _-_}
 use mathlib.Core.Bool.{Bool, true, false, cond, not, _&&_, _||_}
@@ -16,7 +16,7 @@ use Rattle.logic.specs.Tests.{passed, upTo, Test, test, firstFailing, fi
 use Rattle.logic.specs.Terms.{isBinder}
 use Rattle.logic.specs.Free.{freeAt}
 use Rattle.logic.specs.Checks.{startsList}
-use Rattle.logic.specs.Contexts.{image, isVariable, settled}
+use Rattle.logic.specs.Contexts.{image, isVariable, settled, inScope}
 use Rattle.logic.specs.Readings.{Reading, readingOf}
 use Rattle.logic.specs.ReflWalk.{pairWalkBy, reflWalkBy, pairLimit}
 
@@ -297,6 +297,18 @@ unfoldable pub stepRefers : Bundle → ℕ → Bool
 unfolding refersBy
 stepRefers b k = refersBy b (k - 1) (stepOf b k)
 
+-- 22, stray: a free variable of its left or right is mentioned by no entry of its context
+unfoldable pub scopedBy : (ℕ → ℕ → Bool) → Step → Bool
+scopedBy scope s = scope (s .context) (s .left) && scope (s .context) (s .right)
+
+unfoldable pub scopedAs : Bundle → Step → Bool
+unfolding scopedBy inScope
+scopedAs b = scopedBy (inScope b)
+
+unfoldable pub scoped : Bundle → ℕ → Bool
+unfolding scopedAs
+scoped b k = scopedAs b (stepOf b k)
+
 -- 21, spent: a REFL is walked over more pairs than there may be
 unfoldable pub sufficesBy : Reading → Bundle → Rule → Step → Bool
 unfolding reflSufficesBy
@@ -356,8 +368,11 @@ abbrev pub ruleTestsBy : Reading → Bundle → Step → List Test
 ruleTestsBy g b s =
     test 21 (sufficesBy g b (ruleOf (s .rule)) s) ∷ test 13 (matchesBy g b (ruleOf (s .rule)) s) ∷ test 14 (sidesBy g b (ruleOf (s .rule)) s) ∷ []
 
+abbrev pub scopedTestsBy : Reading → Bundle → Step → List Test
+scopedTestsBy g b s = test 22 (scopedBy (g .in-scope) s) ∷ ruleTestsBy g b s
+
 abbrev pub stepTestsBy : Reading → Bundle → ℕ → Step → List Test
-stepTestsBy g b n s = test 12 (refersBy b n s) ∷ ruleTestsBy g b s
+stepTestsBy g b n s = test 12 (refersBy b n s) ∷ scopedTestsBy g b s
 
 unfoldable pub stepFaultBy : Reading → Bundle → ℕ → Step → ℕ
 unfolding firstFailing refersBy
@@ -365,10 +380,10 @@ stepFaultBy g b n s = firstFailing (stepTestsBy g b n s)
 
 -- the same of step k
 abbrev pub stepTests : Bundle → ℕ → List Test
-stepTests b k = test 12 (stepRefers b k) ∷ test 21 (suffices b k) ∷ test 13 (matches b k) ∷ test 14 (sides b k) ∷ []
+stepTests b k = test 12 (stepRefers b k) ∷ test 22 (scoped b k) ∷ test 21 (suffices b k) ∷ test 13 (matches b k) ∷ test 14 (sides b k) ∷ []
 
 unfoldable pub stepFault : Bundle → ℕ → ℕ
-unfolding stepFaultBy firstFailing stepRefers suffices matches sides
+unfolding stepFaultBy firstFailing stepRefers scoped suffices matches sides
 stepFault b k = firstFailing (stepTests b k)
 
 -- what is wrong with a step that comes after all those of a bundle

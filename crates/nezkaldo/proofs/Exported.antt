@@ -8,6 +8,7 @@
 --     expand-fits, read-fits        both answers fit a word of 64 bits
 --     leaves-exactly                what it leaves is said by the four clauses of its contract, and by no more
 --     exported-zeros, exported-read-zeros     what both leave in the areas besides the file or job: zeros
+--     exported-closed               an accepted claim is closed
 --     exported-demand-three         demand 3 over these numbers
 --     exported-read-expanded        the three calls in a row
 use Prim.Native.Nat.{ℕ, _+_, _*_, _/_, _%_, _≤_, _<_}
@@ -25,7 +26,7 @@ use Rattle.judgement.specs.declared.Answer.the-variants.{Accepted, Refused}
 use Rattle.judgement.specs.Judge.{judge}
 use Rattle.judgement.proofs.Sizes.{lastNumber, refused-small}
 use Rattle.judgement.proofs.Accepting.{refused-where}
-use Rattle.judgement.proofs.Demands.{refused-exactly, accepted-exactly, accepted-sound, accepted-pairs}
+use Rattle.judgement.proofs.Demands.{refused-exactly, accepted-exactly, accepted-sound, accepted-closed, accepted-pairs}
 use Rattle.expansion.specs.declared.Answer.{Answer as Reply}
 use Rattle.expansion.specs.declared.Answer.the-variants.{Written, Refused as Denied}
 use Rattle.expansion.specs.Visit.{expanded}
@@ -41,7 +42,7 @@ use Rattle.reading.proofs.Demands.{read-exactly, refused-exactly as refused-tex
 use Rattle.reader.proofs.ReadSizes.{refused-reading-small, job-short}
 use Rattle.nezkaldo.specs.Packed.{packed, packedReply}
 use Rattle.nezkaldo.specs.Exported.{Tells, TellsOne, CheckSays, CheckNumber, ExpandSays, ExpandNumber, Leaves, LeavesExactly, Zeros, ExportedZeros}
-use Rattle.nezkaldo.specs.Exported.{ReadSays, ReadNumber, ExportedReadZeros, ExportedEqual, ExportedAccepted, ExportedDemandThree, ExportedReadExpanded}
+use Rattle.nezkaldo.specs.Exported.{ReadSays, ReadNumber, ExportedReadZeros, ExportedEqual, ExportedClosed, ExportedAccepted, ExportedDemandThree, ExportedReadExpanded}
 
 -- ---- number · 2^32 + record
 
@@ -257,6 +258,10 @@ exported-read-zeros f text out words sets out′ words′ sets′ r =
 exported-equal : ExportedEqual
 exported-equal file free r e low =
     accepted-sound file _ _ (accepted-exactly file (length free) _ .1 (check-number file _ .accepted .0 (omega (arith, e, low)), refl))
+
+pub exported-closed : ExportedClosed
+exported-closed file free r e low =
+    accepted-closed file _ _ (accepted-exactly file (length free) _ .1 (check-number file _ .accepted .0 (omega (arith, e, low)), refl))
 
 -- an accepted file's number is that of its pairs
 accepted-low : (f : List ℕ) (m : ℕ) (s : Acceptance) (a : ℕ) → judge f m ≡ Accepted s → a ≡ packed (judge f m) → a < 4294967296

@@ -133,6 +133,12 @@ ExportedEqual =
     (file free : List ℕ) (r : ℕ) → r ≡ packed (judge file (length free)) → r < 4294967296
     → EqualValues (bundleOf file) (bundleOf file .left) (bundleOf file .right)
 
+-- Where it does, both sides of the claim are closed (Req 05).
+abbrev pub ExportedClosed : Type 0
+ExportedClosed =
+    (file free : List ℕ) (r : ℕ) → r ≡ packed (judge file (length free)) → r < 4294967296
+    → Closed (tree (bundleOf file) (bundleOf file .left)) × Closed (tree (bundleOf file) (bundleOf file .right))
+
 -- For every well-formed closed job whose derivation fits, with long enough areas, whatever stood in them (out, words, sets): if `nezkaldo_expand`
 -- answers `r` and leaves out′, words′ and sets′, then r is less than 2^32, `nezkaldo_check` accepts the first r bytes of out′ with an area for
 -- their T: its answer is less than 2^32; and they are as they are to be: left is the rule, right holds no let, both have equal value in every world.

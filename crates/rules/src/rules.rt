@@ -59,18 +59,18 @@ pub fn refl_holds(
     area: &[u64],
     n: usize,
     images: &[u16],
-    moved: &[u64],
+    scopes: &[u64],
     s: StepWords,
 ) -> bool
-    requires { ⌜ Whole (now file) b × Lent b (now area) (now images) (now moved) n × (s .context ≤ b .contexts) ⌝ }
-    ensures { λ r. ⌜ r ≡ reflHoldsBy (allSettledIn b (now (area .entry)) (now (moved .entry)) n) (imagesIn b (now (images .entry)))
+    requires { ⌜ Whole (now file) b × Lent b (now area) (now images) (now scopes) n × (s .context ≤ b .contexts) ⌝ }
+    ensures { λ r. ⌜ r ≡ reflHoldsBy (allSettledIn b (now (area .entry)) (now (scopes .entry)) n) (imagesIn b (now (images .entry)))
         (bundleAt (now (file .entry)) b) (asStep s) ⌝ }
 {
     let context = s.context;
     let left = s.left;
     let right = s.right;
     if left == right {
-        if is_settled(b, area, n, moved, context, left) {
+        if is_settled(b, area, n, scopes, 2 * n * context, left) {
             return true;
         }
     }
@@ -106,19 +106,19 @@ pub fn trans_side(
     b: Bundle,
     area: &[u64],
     n: usize,
-    moved: &[u64],
+    scopes: &[u64],
     bed: &[u32],
     s: StepWords,
 ) -> bool
-    requires { ⌜ Whole (now file) b × (n * b .terms ≤ length (now area)) × (n * (b .contexts + 1) ≤ length (now moved)) × (s .context ≤ b .contexts) ⌝ }
+    requires { ⌜ Whole (now file) b × (n * b .terms ≤ length (now area)) × (2 * n * (b .contexts + 1) ≤ length (now scopes)) × (s .context ≤ b .contexts) ⌝ }
     ensures { λ r. ⌜ (let bundle = bundleAt (now (file .entry)) b in
-        r ≡ transSideBy (allSettledIn b (now (area .entry)) (now (moved .entry)) n) (stepIn bundle (now (bed .entry))) bundle (asStep s)) ⌝ }
+        r ≡ transSideBy (allSettledIn b (now (area .entry)) (now (scopes .entry)) n) (stepIn bundle (now (bed .entry))) bundle (asStep s)) ⌝ }
 {
     let context = s.context;
     let premises = s.premises;
     let first = first_item(file, b, premises);
     let middle = taken_field(file, b, bed, first, 3);
-    is_settled(b, area, n, moved, context, middle)
+    is_settled(b, area, n, scopes, 2 * n * context, middle)
 }
 
 // ---- BIND

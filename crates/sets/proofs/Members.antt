@@ -6,7 +6,7 @@
 --     member-bit          bit j of word k of the set is number 64 k + 1 + j
 --     disjoint-none, none-disjoint     two sets are disjoint exactly if no u is a member of both
 --     filled-front        the first word written, then the rest; `filled-same`: words that agree
---     changed-out, filled-out     words outside the set are as they were; `member-same`: so is membership in another set
+--     changed-out, filled-out     words outside the set are as they were; `member-moved`, `member-same`: so is membership in another set
 use mathlib.Core.Path.{_≡_, refl, sym, ap, _∙_}
 use mathlib.Core.Logic.{_⊎_, inl, inr, ⊎-elim}
 use mathlib.Core.List.{List}
@@ -122,15 +122,19 @@ changed-out g w at n v j out = go (holds n v) refl
         (⊎-elim (λ l. omega arith) (λ l. omega arith) out)
     go false e = refl
 
--- membership goes by the words of the set alone
-pub member-same : (w x : List ℕ) (at n : ℕ) → ((k : ℕ) → k < n → getD w (at + k) 0 ≡ getD x (at + k) 0) → (u : ℕ) → member w at n u ≡ member x at n u
+-- membership goes by the words of the set alone, wherever they stand
+pub member-moved : (w x : List ℕ) (at from n : ℕ) → ((k : ℕ) → k < n → getD w (at + k) 0 ≡ getD x (from + k) 0) → (u : ℕ)
+    → member w at n u ≡ member x from n u
 unfolding member
-member-same w x at n same u = go (holds n u) refl
+member-moved w x at from n same u = go (holds n u) refl
   where
     go : (p : Bool) → holds n u ≡ p
-        → cond p (bitAt (getD w (at + (u - 1) / 64) 0) ((u - 1) % 64)) false ≡ cond p (bitAt (getD x (at + (u - 1) / 64) 0) ((u - 1) % 64)) false
+        → cond p (bitAt (getD w (at + (u - 1) / 64) 0) ((u - 1) % 64)) false ≡ cond p (bitAt (getD x (from + (u - 1) / 64) 0) ((u - 1) % 64)) false
     go true e = ap (λ (y : ℕ). bitAt y ((u - 1) % 64)) (same ((u - 1) / 64) (held n u e .1))
     go false e = refl
+
+pub member-same : (w x : List ℕ) (at n : ℕ) → ((k : ℕ) → k < n → getD w (at + k) 0 ≡ getD x (at + k) 0) → (u : ℕ) → member w at n u ≡ member x at n u
+member-same w x at n = member-moved w x at at n
 
 -- ---- whole sets written
 

@@ -57,7 +57,17 @@ cleared = filled (λ k. 0)
 abbrev pub united : List ℕ → ℕ → ℕ → ℕ → List ℕ
 united w to from n = filled (λ k. bitOr (getD w (to + k) 0) (getD w (from + k) 0)) w to n
 
+-- the set at `to`, made that at `from`
+abbrev pub copied : List ℕ → ℕ → ℕ → ℕ → List ℕ
+copied w to from n = filled (λ k. getD w (from + k) 0) w to n
+
 -- no word of the set at `first` of the words w has a bit in common with that word of the set at `second` of the words v
 unfoldable pub disjointOf : List ℕ → ℕ → List ℕ → ℕ → ℕ → Bool
 disjointOf w first v second zero = true
 disjointOf w first v second (suc k) = eqb (bitAnd (getD w (first + k) 0) (getD v (second + k) 0)) 0 && disjointOf w first v second k
+
+-- each word of the set at `first` of the words w has no bits but those of that word of the set at `second` of the words v
+unfoldable pub subsetOf : List ℕ → ℕ → List ℕ → ℕ → ℕ → Bool
+subsetOf w first v second zero = true
+subsetOf w first v second (suc k) =
+    eqb (bitAnd (getD w (first + k) 0) (getD v (second + k) 0)) (getD w (first + k) 0) && subsetOf w first v second k

@@ -1,8 +1,9 @@
 // Sets of variables in lent words, for any number of words a set. Laws of membership are in proofs/Members.antt.
 ghost use mathlib.Core.Path.{_≡_};
+ghost use mathlib.Core.Bool.{_&&_};
 ghost use Prim.Native.Nat.{_+_, _^_, _≤_, _<_};
 ghost use lib.ListN.{length};
-ghost use Rattle.sets.specs.Sets.{bitAt, withBit, withoutBit, member, inserted, removed, cleared, united, disjointOf, LeastBit};
+ghost use Rattle.sets.specs.Sets.{bitAt, withBit, withoutBit, member, inserted, removed, cleared, united, copied, disjointOf, subsetOf, LeastBit};
 
 // ---- One word
 
@@ -146,6 +147,44 @@ pub fn disjoint(area: &[u64], first: usize, other: &[u64], second: usize, n: usi
         if (x & y) != 0 {
             return false;
         }
+    }
+    true
+}
+
+// Copies the set at `from` to `to`, which stands above it.
+pub fn copy(area: &mut [u64], to: usize, from: usize, n: usize)
+    requires { ⌜ (from + n ≤ to) × (to + n ≤ length (now area)) ⌝ }
+    ensures { λ _. ⌜ now (area .exit) ≡ copied (now (area .entry)) to from n ⌝ }
+{
+    let mut k = 0;
+    while k < n {
+        let x = area[from + k];
+        area[to + k] = x;
+        k += 1;
+    }
+}
+
+// Whether all members of two sets are members of a third: a word of each at a time, the first without a loop.
+pub fn both_subsets(first: &[u64], second: &[u64], all: &[u64], n: usize) -> bool
+    requires { ⌜ (n ≤ length (now first)) × (n ≤ length (now second)) × (n ≤ length (now all)) ⌝ }
+    ensures { λ r. ⌜ r ≡ (subsetOf (now (first .entry)) 0 (now (all .entry)) 0 n && subsetOf (now (second .entry)) 0 (now (all .entry)) 0 n) ⌝ }
+{
+    if n == 0 {
+        return true;
+    }
+    let either = first[0] | second[0];
+    let among = all[0];
+    if (either & among) != either {
+        return false;
+    }
+    let mut k = 1;
+    while k < n {
+        let x = first[k] | second[k];
+        let y = all[k];
+        if (x & y) != x {
+            return false;
+        }
+        k += 1;
     }
     true
 }

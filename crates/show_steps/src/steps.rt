@@ -1,6 +1,7 @@
-// What a refusal by 12 to 15 or 21 means, in one sentence, and the sentence for every number.
+// What a refusal by 12 to 15, 21 or 22 means, in one sentence, and the sentence for every number.
 // Each function goes through the tests of its check, up to the first that fails; where only one is left, it is that one.
 ghost use Rattle.bundle.specs.File.{Whole};
+use super::strays::stray_step;
 use bundle::Bundle;
 use bundle::lists::all_numbers;
 use bundle::records::step_field;
@@ -107,6 +108,7 @@ pub fn sentence(file: &[u8], b: Bundle, left: usize, right: usize, number: usize
         14 => failed_side(file, b, record),
         15 => other_claim(file, b, left, right),
         21 => spent_step(file, b, record),
+        22 => stray_step(file, b, record),
         _ => out::text(b"the area lent to the checker is too short"),
     }
 }

@@ -7,7 +7,7 @@ use bundle::records::symbol_field;
 use bundle::records::variable_sort;
 use show_text::out;
 
-// The words are document 01's, as it prints them, and document 02's for 21.
+// The words are document 01's, as it prints them, and document 02's for 21 and 22.
 pub fn word(number: usize) {
     match number {
         1 => out::text(b"short"),
@@ -25,6 +25,7 @@ pub fn word(number: usize) {
         13 => out::text(b"false step"),
         14 => out::text(b"captured"),
         21 => out::text(b"spent"),
+        22 => out::text(b"stray"),
         _ => out::text(b"other claim"),
     }
 }

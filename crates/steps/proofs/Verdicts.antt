@@ -4,7 +4,8 @@
 --     other-judged              of another rule: no pairs
 --     images-here               the images read in a context
 --     leaves-at-most            a walk leaves no more pairs than there were
---     after-refers, after-rule  with check 12
+--     scope-read, stray-judged, in-scope-judged   with check 22
+--     after-refers, after-rule  and with check 12
 --     last-later                the pairs of the last REFL walked, step by step
 use mathlib.Core.Path.{_≡_, refl, sym, ap, _∙_, subst}
 use mathlib.Core.Bool.{Bool, true, false, cond, not, _&&_, _||_}
@@ -27,14 +28,14 @@ use Rattle.logic.specs.Contexts.{asImage}
 use Rattle.logic.specs.Tests.{passed, firstFailing}
 use Rattle.logic.specs.Readings.{Reading}
 use Rattle.logic.specs.ReflWalk.{PairWalk, reflWalkBy, withinBy, pairLimit, limit, ended}
-use Rattle.logic.specs.Rules.{Rule, ruleOf, reflHoldsBy, reflMatchesBy, reflSufficesBy, sufficesBy, matchesBy, sidesBy, refersWhere, ruleTestsBy}
+use Rattle.logic.specs.Rules.{Rule, ruleOf, reflHoldsBy, reflMatchesBy, reflSufficesBy, scopedBy, sufficesBy, matchesBy, sidesBy, refersWhere, ruleTestsBy, scopedTestsBy}
 use Rattle.logic.specs.Rules.{stepFaultBy, walkedBy, pairsBy, walkedPairs, lastPairs}
 use Rattle.logic.proofs.ReflWalk.{limit-fits, limit-over, pair-walk-limited}
 use Rattle.logic.proofs.Pairs.{last-more, last-same}
-use Rattle.images.specs.ContextRows.{mentionAt, imageAt}
-use Rattle.images.specs.LentReading.{imagesIn}
+use Rattle.images.specs.ContextRows.{mentionAt, imageAt, mentionedAt}
+use Rattle.images.specs.LentReading.{imagesIn, inScopeIn, allInScopeIn, readingIn}
 use Rattle.steps.specs.declared.Verdict.{Verdict}
-use Rattle.steps.specs.Verdicts.{LeavesAtMost, verdict, walkVerdict, Judged, JudgedAfter, later}
+use Rattle.steps.specs.Verdicts.{LeavesAtMost, verdict, walkVerdict, Judged, JudgedScoped, JudgedAfter, later}
 use Rattle.steps.proofs.RuleOf.{fault-refers, fault-rule, no-pairs, refl-tests}
 
 -- ---- what a walk says
@@ -111,7 +112,28 @@ other-judged g b s r k not e n = record {
   pairs = λ z. ap (λ (x : Verdict). x .pairs) e ∙ rw (ne-eqb (s .rule) 1 not);
 }
 
--- ---- with check 12
+-- ---- with check 22
+
+-- what the code asks of the sides is what the reading asks
+pub scope-read : (f : List ℕ) (c : Counts) (w : List ℕ) (n : ℕ) (images scopes bed : List ℕ) (s : Step) → s .context ≤ c .contexts
+    → (inScopeIn (c .terms) w scopes n (mentionedAt n (s .context)) (s .left) && inScopeIn (c .terms) w scopes n (mentionedAt n (s .context)) (s .right))
+    ≡ scopedBy (readingIn f c w n images scopes bed .in-scope) s
+unfolding scopedBy readingIn allInScopeIn
+scope-read f c w n images scopes bed s h = rw (le-leb (s .context) (c .contexts) h)
+
+module _ (g : Reading) (b : Bundle) (s : Step) (r : Verdict) {p : Bool} (scope : p ≡ scopedBy (g .in-scope) s) where
+  pub stray-judged : r ≡ verdict 22 0 → p ≡ false → JudgedScoped g b s r
+  unfolding firstFailing
+  stray-judged e h = record {
+    number = ap (λ (x : Verdict). x .number) e ∙ rw (← scope, h);
+    pairs = λ z. absurd (let n : r .number ≡ 22 = ap (λ (x : Verdict). x .number) e in omega (arith, n, z));
+  }
+
+  pub in-scope-judged : p ≡ true → Judged g b s r → JudgedScoped g b s r
+  unfolding firstFailing
+  in-scope-judged h j = record { number = j .number ∙ rw (← scope, h); pairs = j .pairs }
+
+-- ---- and with check 12
 
 module _ (g : Reading) (b : Bundle) (s : Step) (n : ℕ) (s′ : Step) (same : s ≡ s′) (p : Bool) (walked : p ≡ each (numbers n) (items b (s .premises))) where
   pub after-refers : (r : Verdict) → r ≡ verdict 12 0 → passed (refersWhere p b s) ≡ false → JudgedAfter g b n s′ r
@@ -120,7 +142,7 @@ module _ (g : Reading) (b : Bundle) (s : Step) (n : ℕ) (s′ : Step) (same : s
     pairs = λ z. absurd (let n : r .number ≡ 12 = ap (λ (x : Verdict). x .number) e in omega (arith, n, z));
   }
 
-  pub after-rule : (r : Verdict) → passed (refersWhere p b s) ≡ true → Judged g b s r → JudgedAfter g b n s′ r
+  pub after-rule : (r : Verdict) → passed (refersWhere p b s) ≡ true → JudgedScoped g b s r → JudgedAfter g b n s′ r
   after-rule r refers j = record {
     number = fault-rule g b s n s′ same p walked (r .number) refers (j .number);
     pairs = λ z. j .pairs z ∙ ap (pairsBy g b) same;

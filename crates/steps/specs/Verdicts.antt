@@ -11,7 +11,7 @@ use Rattle.logic.specs.declared.Limited.the-variants.{Same, Different, Spent}
 use Rattle.logic.specs.Tests.{firstFailing}
 use Rattle.logic.specs.Readings.{Reading}
 use Rattle.logic.specs.ReflWalk.{pairLimit}
-use Rattle.logic.specs.Rules.{ruleTestsBy, stepFaultBy, pairsBy, lastPairs}
+use Rattle.logic.specs.Rules.{ruleTestsBy, scopedTestsBy, stepFaultBy, pairsBy, lastPairs}
 use Rattle.steps.specs.declared.Verdict.{Verdict}
 use Rattle.steps.specs.declared.Findings.{Findings}
 
@@ -35,7 +35,12 @@ pub record Judged (g : Reading) (b : Bundle) (s : Step) (r : Verdict) : Type 0 w
   pub number : r .number ≡ firstFailing (ruleTestsBy g b s)
   pub pairs : r .number ≡ 0 → r .pairs ≡ pairsBy g b s
 
--- the same with 12, after n other steps
+-- the same with 22 before them
+pub record JudgedScoped (g : Reading) (b : Bundle) (s : Step) (r : Verdict) : Type 0 where
+  pub number : r .number ≡ firstFailing (scopedTestsBy g b s)
+  pub pairs : r .number ≡ 0 → r .pairs ≡ pairsBy g b s
+
+-- and with 12, after n other steps
 pub record JudgedAfter (g : Reading) (b : Bundle) (n : ℕ) (s : Step) (r : Verdict) : Type 0 where
   pub number : r .number ≡ stepFaultBy g b n s
   pub pairs : r .number ≡ 0 → r .pairs ≡ pairsBy g b s

@@ -1,4 +1,4 @@
-// The checks 12, 21, 13 and 14: every step of a file, or one that comes after those taken.
+// The checks 12, 22, 21, 13 and 14: every step of a file, or one that comes after those taken.
 use logic::Fault;
 
 pub mod steps; // steps.rt: the checks of a step

@@ -48,7 +48,7 @@ late-fault-in-requires c κs =
     let places = a .b .variables * (a .b .contexts + 1) in
     let words = a .n * (a .b .contexts + 1) in
     let fits = c .before .before .if1 .taken in
-    asks (a .file .now) (a .b) (a .n) 512 40 (p .0) (p .1) (p .2) (p .4) (p .3) (row-fits places words 512 40 fits) (set-fits places words 512 40 fits)
+    asks (a .file .now) (a .b) (a .n) 512 80 (p .0) (p .1) (p .2) (p .4) (p .3) (row-fits places words 512 40 fits) (omega (arith, set-fits places words 512 40 fits))
 
 returns : tie.Need-returns
 returns c = c .before .before .late-fault-in .ensures
@@ -66,7 +66,8 @@ late-fault-in-requires-2 c κs =
     let places = a .b .variables * (a .b .contexts + 1) in
     let words = a .n * (a .b .contexts + 1) in
     let fits = c .before .before .if2 .taken in
-    asks (a .file .now) (a .b) (a .n) 8192 257 (p .0) (p .1) (p .2) (p .4) (p .3) (row-fits places words 8192 257 fits) (set-fits places words 8192 257 fits)
+    asks (a .file .now) (a .b) (a .n) 8192 514 (p .0) (p .1) (p .2) (p .4) (p .3) (row-fits places words 8192 257 fits)
+    (omega (arith, set-fits places words 8192 257 fits))
 
 returns-2 : tie.Need-returns-2
 returns-2 c = c .before .before .late-fault-in2 .ensures
@@ -93,7 +94,7 @@ late-fault-in-requires-3 : tie.Need-late-fault-in-requires-3
 late-fault-in-requires-3 c κs =
     let a = c .before .before .before .before .before .before .before .before .before .before .before .args in
     let p = c .before .before .before .before .before .before .before .before .before .before .before .pre in
-    asks (a .file .now) (a .b) (a .n) 16448 257 (p .0) (p .1) (p .2) (p .4) (p .3) (omega (arith, c .before .before .before .if3 .left)) (omega (arith, c .before .before .if4 .left))
+    asks (a .file .now) (a .b) (a .n) 16448 514 (p .0) (p .1) (p .2) (p .4) (p .3) (omega (arith, c .before .before .before .if3 .left)) (omega (arith, c .before .before .if4 .left))
 
 returns-5 : tie.Need-returns-5
 returns-5 c = c .before .before .late-fault-in3 .ensures

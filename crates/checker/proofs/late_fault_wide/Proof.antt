@@ -17,7 +17,7 @@ late-fault-in-requires : tie.Need-late-fault-in-requires
 late-fault-in-requires c κs =
     let a = c .before .before .before .before .before .before .before .args in
     let p = c .before .before .before .before .before .before .before .pre in
-    asks (a .file .now) (a .b) (a .n) (limits .variables * 8) (setWords * 8) (p .0) (p .1) (p .2) (p .4) (p .3)
+    asks (a .file .now) (a .b) (a .n) (limits .variables * 8) (2 * setWords * 8) (p .0) (p .1) (p .2) (p .4) (p .3)
     (places-in (a .b) (a .n) 8 (p .0 .within) (p .3) (c .before .before .if1 .taken)) (words-in (a .b) (a .n) 8 (p .0 .within) (p .3) (c .before .before .if1 .taken))
 
 returns : tie.Need-returns
@@ -33,7 +33,7 @@ late-fault-in-requires-2 : tie.Need-late-fault-in-requires-2
 late-fault-in-requires-2 c κs =
     let a = c .before .before .before .before .before .before .before .before .before .args in
     let p = c .before .before .before .before .before .before .before .before .before .pre in
-    asks (a .file .now) (a .b) (a .n) (limits .variables * 32) (setWords * 32) (p .0) (p .1) (p .2) (p .4) (p .3)
+    asks (a .file .now) (a .b) (a .n) (limits .variables * 32) (2 * setWords * 32) (p .0) (p .1) (p .2) (p .4) (p .3)
     (places-in (a .b) (a .n) 32 (p .0 .within) (p .3) (c .before .before .if2 .taken)) (words-in (a .b) (a .n) 32 (p .0 .within) (p .3) (c .before .before .if2 .taken))
 
 returns-2 : tie.Need-returns-2
@@ -49,7 +49,7 @@ late-fault-in-requires-3 : tie.Need-late-fault-in-requires-3
 late-fault-in-requires-3 c κs =
     let a = c .before .before .before .before .before .before .before .before .before .args in
     let p = c .before .before .before .before .before .before .before .before .before .pre in
-    asks (a .file .now) (a .b) (a .n) (limits .variables * (limits .contexts + 1)) (setWords * (limits .contexts + 1)) (p .0) (p .1) (p .2) (p .4) (p .3)
+    asks (a .file .now) (a .b) (a .n) (limits .variables * (limits .contexts + 1)) (2 * setWords * (limits .contexts + 1)) (p .0) (p .1) (p .2) (p .4) (p .3)
     (places-in (a .b) (a .n) (limits .contexts + 1) (p .0 .within) (p .3) (omega (arith, p .0 .within .contexts))) (words-in (a .b) (a .n) (limits .contexts + 1) (p .0 .within) (p .3) (omega (arith, p .0 .within .contexts)))
 
 returns-3 : tie.Need-returns-3

@@ -16,11 +16,11 @@ use Rattle.contexts.proofs.contexts.all_settled.Statement.{statement}
 use Rattle.contexts.proofs.contexts.all_settled.Tie as tie
 
 abbrev Inv-loop : tie.InvT-loop
-Inv-loop file b area n moved context terms i₀ i = (i ≤ b .links)
+Inv-loop file b area n scopes context terms i₀ i = (i ≤ b .links)
     × (each (settled (bundleAt file b) context) (items (bundleAt file b) terms) ≡ each (settled (bundleAt file b) context) (items (bundleAt file b) i))
 
 abbrev μ-loop : tie.MeasureT-loop
-μ-loop file b area n moved context terms i₀ i = length (items (bundleAt file b) i)
+μ-loop file b area n scopes context terms i₀ i = length (items (bundleAt file b) i)
 
 first-link-requires : tie.Need-first-link-requires Inv-loop μ-loop
 first-link-requires c κs = search needs
@@ -34,11 +34,17 @@ loop-holds c =
 link-field-requires : tie.Need-link-field-requires Inv-loop μ-loop
 link-field-requires c κs = (c .before .before .before .before .before .before .pre .0, omega arith)
 
+mul-is-settled : tie.Need-mul-is-settled Inv-loop μ-loop
+mul-is-settled c = omega (arith, c .before .before .before .before .before .before .before .pre .2 .long)
+
+mul-is-settled-2 : tie.Need-mul-is-settled-2 Inv-loop μ-loop
+mul-is-settled-2 c = omega (arith, c .before .before .before .before .before .before .before .pre .2 .long)
+
 is-settled-requires : tie.Need-is-settled-requires Inv-loop μ-loop
 is-settled-requires c κs =
     let a = c .before .before .before .before .before .before .before .args in
     let p = c .before .before .before .before .before .before .before .pre in
-    (free-long (a .file .now) (a .b) (a .area .now) (a .n) (p .1), p .2 .long)
+    (free-long (a .file .now) (a .b) (a .area .now) (a .n) (p .1), omega (arith, p .2 .long))
 
 returns : tie.Need-returns Inv-loop μ-loop
 unfolding each
@@ -51,7 +57,7 @@ returns c =
       walk-some (a .file .now) (a .b) (l .i) (c .before .before .before .loop-test .taken) (l .inv .0),
       ← c .before .before .link-field .ensures,
       ← (c .before .is-settled .ensures ∙ settled-right (a .file .now) (a .b) (a .area .now) (a .n) (p .1)
-          (λ j. omega (arith, c .before .before .before .before .before .before .before .shared-slice-known2 .given j)) (a .moved .now) (a .context)
+          (λ j. omega (arith, c .before .before .before .before .before .before .before .shared-slice-known2 .given j)) (a .scopes .now) (a .context)
           (c .before .before .link-field .result) (p .2)),
       not-true (c .before .is-settled .result) (c .if1 .taken),
     )
@@ -83,7 +89,7 @@ loop-again c =
         walk-cons (a .file .now) (a .b) (l .i) (t .result) (r .result) (c .before .before .before .before .loop-test .taken) (l .inv .0) (t .ensures)
             (r .ensures),
         ← (c .before .before .is-settled .ensures ∙ settled-right (a .file .now) (a .b) (a .area .now) (a .n) (p .1)
-            (λ j. omega (arith, c .before .before .before .before .before .before .before .before .shared-slice-known2 .given j)) (a .moved .now) (a .context)
+            (λ j. omega (arith, c .before .before .before .before .before .before .before .before .shared-slice-known2 .given j)) (a .scopes .now) (a .context)
             (t .result) (p .2)),
         not-false (c .before .before .is-settled .result) (c .before .if1 .left),
       ),
@@ -104,6 +110,8 @@ all-settled-spec =
     first-link-requires
     loop-holds
     link-field-requires
+    mul-is-settled
+    mul-is-settled-2
     is-settled-requires
     returns
     next-link-requires

@@ -9,7 +9,7 @@ use Rattle.bundle.specs.File.{bundleAt}
 use Rattle.bundle.proofs.Fields.{variables-length, contexts-length}
 use Rattle.logic.specs.Contexts.{contextFault, contextsFault}
 use Rattle.logic.proofs.Firsts.{restFault, rest-start, rest-on, rest-here, rest-end}
-use Rattle.images.specs.ContextRows.{Images, MovedSets}
+use Rattle.images.specs.ContextRows.{Images, Scopes}
 use Rattle.logic.proofs.EntryFacts.{refers-passed}
 use Rattle.images.proofs.FreeWords.{known-room}
 use Rattle.images.proofs.ContextRows.{record-below}
@@ -17,17 +17,17 @@ use Rattle.contexts.proofs.contexts.contexts_fault.Statement.{statement
 use Rattle.contexts.proofs.contexts.contexts_fault.Tie as tie
 
 abbrev Inv-loop : tie.InvT-loop
-Inv-loop file b sorts area n images₀ moved₀ contexts i₀ images moved i =
+Inv-loop file b sorts area n images₀ scopes₀ contexts i₀ images scopes i =
     (i ≤ contexts + 1)
     × (contextsFault (bundleAt file b) ≡ restFault (contextFault (bundleAt file b)) contexts i)
     × (1 ≤ i)
     × (length images ≡ length images₀)
-    × (length moved ≡ length moved₀)
+    × (length scopes ≡ length scopes₀)
     × Images (bundleAt file b) images i
-    × MovedSets (bundleAt file b) moved n i
+    × Scopes (bundleAt file b) scopes n i
 
 abbrev μ-loop : tie.MeasureT-loop
-μ-loop file b sorts area n images₀ moved₀ contexts i₀ images moved i = contexts + 1 - i
+μ-loop file b sorts area n images₀ scopes₀ contexts i₀ images scopes i = contexts + 1 - i
 
 loop-holds : tie.Need-loop-holds Inv-loop μ-loop
 unfolding contextsFault

@@ -10,7 +10,7 @@ use Rattle.bundle.specs.Bundle.{Bundle, Context}
 use Rattle.logic.specs.Contexts.{entryOf, fixing, noEntry, replacementsSettledAs, replacementsSettled}
 use Rattle.logic.proofs.Entries.{entry-rest}
 use Rattle.logic.proofs.EntryFacts.{lower-parent}
-use Rattle.images.proofs.ContextRows.{moved-few}
+use Rattle.images.proofs.ContextRows.{scopes-few}
 use borrow.Author.Needs.{needs}
 use Rattle.contexts.proofs.contexts.replacements_settled.Statement.{statement}
 use Rattle.contexts.proofs.contexts.replacements_settled.Tie as tie
@@ -42,8 +42,8 @@ all-settled-requires c κs =
     rw (p .ensures) (omega (arith, lower-parent b (a .i) (c .before .before .before .before .before .before .before .pre .3))) in (
       c .before .before .before .before .before .before .before .pre .0,
       c .before .before .before .before .before .before .before .pre .1,
-      moved-few b
-          (a .moved .now) (a .n) (a .i) (p .result + 1) low (mul-le-mul-left (a .n) low) (c .before .before .before .before .before .before .before .pre .2),
+      scopes-few b
+          (a .scopes .now) (a .n) (a .i) (p .result + 1) low (mul-le-mul-left (a .n) low) (c .before .before .before .before .before .before .before .pre .2),
     )
 
 returns : tie.Need-returns

@@ -2,7 +2,7 @@
 use native.Mathlib.Omega.{arith}
 use mathlib.Core.Path.{sym, _∙_}
 use lib.ListN.{length}
-use Rattle.images.proofs.FreeWords.{settled-zero, settled-past, settled-some, set-within, row-within}
+use Rattle.images.proofs.FreeWords.{settled-zero, settled-past, settled-some, set-within}
 use borrow.Author.Needs.{needs}
 use Rattle.images.proofs.images.is_settled.Statement.{statement}
 use Rattle.images.proofs.images.is_settled.Tie as tie
@@ -25,15 +25,10 @@ mul-disjoint c =
           (c .before .before .if1 .left) (c .if2 .left),
     )
 
-mul-disjoint-2 : tie.Need-mul-disjoint-2
-mul-disjoint-2 c =
-    let a = c .before .before .before .before .before .args in
-    omega (arith, row-within (a .n) (a .context) (length (a .moved .now)) (c .before .before .before .before .before .pre .1))
-
 disjoint-requires : tie.Need-disjoint-requires
 disjoint-requires c κs =
     let p = c .before .before .before .before .before .pre in
-    (set-within _ _ _ _ (p .0) (c .before .before .if1 .left) (c .if2 .left), row-within _ _ _ (p .1))
+    (set-within _ _ _ _ (p .0) (c .before .before .if1 .left) (c .if2 .left), p .1)
 
 returns-3 : tie.Need-returns-3
 returns-3 c = c .disjoint .ensures ∙ sym (settled-some _ _ _ _ _ _ (c .before .before .before .if1 .left) (c .before .if2 .left))
@@ -46,6 +41,5 @@ is-settled-spec =
     returns-2
     sub-disjoint
     mul-disjoint
-    mul-disjoint-2
     disjoint-requires
     returns-3)

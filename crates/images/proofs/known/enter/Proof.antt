@@ -60,14 +60,15 @@ set-image-requires c κs =
     rw (c .before .before .before .before .before .before .before .before .before .before .before .before .context-field2 .ensures)
     (omega (arith, f .1, v)) in (
       c .before .before .before .before .before .before .before .before .before .before .before .before .before .before .before .before .before .pre .0,
-      room-on b (a .images .now) (a .moved .now) (i .last .1 .1 .0) (i .last .1 .1 .1 .0) (a .n) (a .k) (i .ensures .0)
+      room-on b (a .images .now) (a .scopes .now) (i .last .1 .1 .0) (i .last .1 .1 .1 .0) (a .n) (a .k) (i .ensures .0)
           (c .before .before .before .before .before .before .before .before .before .before .before .before .before .before .before .before .before .pre .3),
       one,
       few,
       c .before .before .before .before .before .before .before .before .before .before .before .before .before .before .before .before .before .pre .4,
       omega arith,
+      omega arith,
       refl,
-      agrees-copied b (a .images .now) (a .moved .now) (i .last .1 .1 .0) (i .last .1 .1 .1 .0) (a .n) (a .k)
+      agrees-copied b (a .images .now) (a .scopes .now) (i .last .1 .1 .0) (i .last .1 .1 .1 .0) (a .n) (a .k)
           (c .before .before .before .before .before .before .before .before .before .before .context-field4 .result) low
           (c .before .before .before .before .before .before .before .before .before .before .before .before .before .before .before .before .before .pre .1)
           (c .before .before .before .before .before .before .before .before .before .before .before .before .before .before .before .before .before .pre .2)
@@ -102,13 +103,13 @@ replace-requires c κs =
     let ds : different (items b (c .before .before .before .before .before .before .before .before .before .before .before .before .context-field2 .result))
     ≡ true = rw (c .before .before .before .before .before .before .before .before .before .before .before .before .context-field2 .ensures) (f .2) in (
       c .before .before .before .before .before .before .before .before .before .before .before .before .before .before .before .before .before .pre .0,
-      room-on b (a .images .now) (a .moved .now) (i .last .1 .1 .0) (i .last .1 .1 .1 .0) (a .n) (a .k) (i .ensures .0)
+      room-on b (a .images .now) (a .scopes .now) (i .last .1 .1 .0) (i .last .1 .1 .1 .0) (a .n) (a .k) (i .ensures .0)
           (c .before .before .before .before .before .before .before .before .before .before .before .before .before .before .before .before .before .pre .3),
       c .before .before .before .before .before .before .before .before .before .before .before .before .before .before .before .before .before .pre .4,
       vs,
       ts,
       ds,
-      agrees-copied b (a .images .now) (a .moved .now) (i .last .1 .1 .0) (i .last .1 .1 .1 .0) (a .n) (a .k)
+      agrees-copied b (a .images .now) (a .scopes .now) (i .last .1 .1 .0) (i .last .1 .1 .1 .0) (a .n) (a .k)
           (c .before .before .before .before .before .before .before .before .before .before .context-field4 .result) low
           (c .before .before .before .before .before .before .before .before .before .before .before .before .before .before .before .before .before .pre .1)
           (c .before .before .before .before .before .before .before .before .before .before .before .before .before .before .before .before .before .pre .2)
@@ -137,7 +138,7 @@ returns c =
     .before .before .before .before .pre .5)) in (
       s .ensures .lower .long-row ∙ i .ensures .0 .long-row,
       s .ensures .lower .long-set ∙ i .ensures .0 .long-set,
-      images-on b (a .images .now) (a .moved .now) (i .last .1 .1 .0) (i .last .1 .1 .1 .0) (a .n) (a .k) (p .result) low
+      images-on b (a .images .now) (a .scopes .now) (i .last .1 .1 .0) (i .last .1 .1 .1 .0) (a .n) (a .k) (p .result) low
           (c .before .before .before .before .before .before .before .before .before .before .before .before .before .before .before .before .before .before
           .before .before .before .before .pre .1)
           (c .before .before .before .before .before .before .before .before .before .before .before .before .before .before .before .before .before .before
@@ -155,7 +156,7 @@ returns c =
           (lower-parent b (a .k)
           (c .before .before .before .before .before .before .before .before .before .before .before .before .before .before .before .before .before .before
           .before .before .before .before .pre .5)) x))),
-      sets-on b (a .images .now) (a .moved .now) (i .last .1 .1 .0) (i .last .1 .1 .1 .0) (a .n) (a .k) (p .result) low
+      sets-on b (a .images .now) (a .scopes .now) (i .last .1 .1 .0) (i .last .1 .1 .1 .0) (a .n) (a .k) (p .result) low
           (c .before .before .before .before .before .before .before .before .before .before .before .before .before .before .before .before .before .before
           .before .before .before .before .pre .1)
           (c .before .before .before .before .before .before .before .before .before .before .before .before .before .before .before .before .before .before
@@ -203,7 +204,7 @@ returns-2 c =
     .context-field .ensures ∙ e)) in (
       s .ensures .lower .long-row ∙ i .ensures .0 .long-row,
       s .ensures .lower .long-set ∙ i .ensures .0 .long-set,
-      images-on b (a .images .now) (a .moved .now) (i .last .1 .1 .0) (i .last .1 .1 .1 .0) (a .n) (a .k) (p .result) low
+      images-on b (a .images .now) (a .scopes .now) (i .last .1 .1 .0) (i .last .1 .1 .1 .0) (a .n) (a .k) (p .result) low
           (c .before .before .before .before .before .before .before .before .before .before .before .before .before .before .before .before .before .before
           .before .before .before .before .pre .1)
           (c .before .before .before .before .before .before .before .before .before .before .before .before .before .before .before .before .before .before
@@ -221,7 +222,7 @@ returns-2 c =
           (lower-parent b (a .k)
           (c .before .before .before .before .before .before .before .before .before .before .before .before .before .before .before .before .before .before
           .before .before .before .before .pre .5)) x))),
-      sets-on b (a .images .now) (a .moved .now) (i .last .1 .1 .0) (i .last .1 .1 .1 .0) (a .n) (a .k) (p .result) low
+      sets-on b (a .images .now) (a .scopes .now) (i .last .1 .1 .0) (i .last .1 .1 .1 .0) (a .n) (a .k) (p .result) low
           (c .before .before .before .before .before .before .before .before .before .before .before .before .before .before .before .before .before .before
           .before .before .before .before .pre .1)
           (c .before .before .before .before .before .before .before .before .before .before .before .before .before .before .before .before .before .before

@@ -1,8 +1,8 @@
--- `known::inherit` meets its contract: a row copied, and a set cleared and united with the parent's.
+-- `known::inherit` meets its contract: a row copied, and both sets at once.
 use native.Mathlib.Omega.{arith}
 use Rattle.bundle.specs.File.{bundleAt}
 use Rattle.bundle.proofs.Fields.{variables-length}
-use Rattle.images.proofs.ContextRows.{record-below, row-room, row-copied, parent-words, inherited, set-copied}
+use Rattle.images.proofs.ContextRows.{record-below, row-room, row-copied, parent-words, inherited, sets-copied}
 use borrow.Author.Needs.{needs}
 use Rattle.images.proofs.known.inherit.Statement.{statement}
 use Rattle.images.proofs.known.inherit.Tie as tie
@@ -14,54 +14,45 @@ mul-copy-row c =
     omega (
       arith,
       record-below (a .b .variables) (a .parent) (a .k) (p .2),
-      row-room (a .file .now) (a .b) (a .images .now) (a .moved .now) (a .n) (a .k) (p .1),
+      row-room (a .file .now) (a .b) (a .images .now) (a .scopes .now) (a .n) (a .k) (p .1),
     )
 
 mul-copy-row-2 : tie.Need-mul-copy-row-2
 mul-copy-row-2 c =
     let a = c .before .before .before .before .args in
-    omega (arith, row-room (a .file .now) (a .b) (a .images .now) (a .moved .now) (a .n) (a .k) (c .before .before .before .before .pre .1))
+    omega (arith, row-room (a .file .now) (a .b) (a .images .now) (a .scopes .now) (a .n) (a .k) (c .before .before .before .before .pre .1))
 
 copy-row-requires : tie.Need-copy-row-requires
 copy-row-requires c κs =
     let a = c .before .before .before .before .args in
     let p = c .before .before .before .before .pre in (
       record-below (a .b .variables) (a .parent) (a .k) (p .2),
-      omega (arith, row-room (a .file .now) (a .b) (a .images .now) (a .moved .now) (a .n) (a .k) (p .1)),
+      omega (arith, row-room (a .file .now) (a .b) (a .images .now) (a .scopes .now) (a .n) (a .k) (p .1)),
     )
 
-mul-clear : tie.Need-mul-clear
-mul-clear c = omega (arith, c .before .before .before .before .before .before .before .before .pre .1 .words)
+mul-copy : tie.Need-mul-copy
+mul-copy c = search needs
 
-clear-requires : tie.Need-clear-requires
-clear-requires c κs = c .before .before .before .before .before .before .before .before .pre .1 .words
+mul-copy-2 : tie.Need-mul-copy-2
+mul-copy-2 c = search needs
 
-mul-unite : tie.Need-mul-unite
-mul-unite c = omega (arith, c .before .before .before .before .before .before .before .before .before .before .before .before .pre .1 .words)
+mul-copy-3 : tie.Need-mul-copy-3
+mul-copy-3 c = search needs
 
-mul-unite-2 : tie.Need-mul-unite-2
-mul-unite-2 c =
-    let a = c .before .before .before .before .before .before .before .before .before .before .before .before .args in
-    omega (
-      arith,
-      c .before .before .before .before .before .before .before .before .before .before .before .before .pre .1 .words,
-      parent-words
-          (bundleAt (a .file .now) (a .b)) (a .images .now) (a .moved .now) (a .images .now) (a .moved .now) (a .moved .now) (a .n) (a .k) (a .parent)
-          (c .before .before .before .before .before .before .before .before .before .before .before .before .pre .2)
-          (c .before .before .before .before .before .before .before .before .before .before .before .before .pre .1),
-    )
+mul-copy-4 : tie.Need-mul-copy-4
+mul-copy-4 c =
+    let a = c .before .before .before .before .before .before .before .before .args in
+    omega (arith, c .before .before .before .before .before .before .before .before .pre .1 .words, record-below (a .n) (a .parent) (a .k) (c .before .before .before .before .before .before .before .before .pre .2))
 
-unite-requires : tie.Need-unite-requires
-unite-requires c κs =
-    let a = c .before .before .before .before .before .before .before .before .before .before .before .before .args in (
-      parent-words (bundleAt (a .file .now) (a .b)) (a .images .now) (a .moved .now) (a .images .now) (a .moved .now) (a .moved .now) (a .n) (a .k) (a .parent)
-          (c .before .before .before .before .before .before .before .before .before .before .before .before .pre .2)
-          (c .before .before .before .before .before .before .before .before .before .before .before .before .pre .1),
-      omega (
-        arith,
-        c .before .before .before .before .before .before .before .before .before .before .before .before .pre .1 .words,
-        c .before .before .before .clear .kept .0,
-      ),
+mul-copy-5 : tie.Need-mul-copy-5
+mul-copy-5 c = search needs
+
+copy-requires : tie.Need-copy-requires
+copy-requires c κs =
+    let a = c .before .before .before .before .before .before .before .before .args in (
+      parent-words (bundleAt (a .file .now) (a .b)) (a .images .now) (a .scopes .now) (a .images .now) (a .scopes .now) (a .n) (a .k) (a .parent)
+          (c .before .before .before .before .before .before .before .before .pre .2) (c .before .before .before .before .before .before .before .before .pre .1),
+      c .before .before .before .before .before .before .before .before .pre .1 .words,
     )
 
 same-length : tie.Need-same-length
@@ -72,21 +63,15 @@ same-length-2 c = search needs
 
 returns : tie.Need-returns
 returns c =
-    let a = c .before .before .before .before .before .before .before .before .before .before .before .before .before .before .before .args in
-    let b = bundleAt (a .file .now) (a .b) in
-    let r = c .before .before .before .before .before .before .before .before .before .before .copy-row in (
-      inherited b (a .images .now) (a .moved .now) (r .last .0) (c .before .before .before .before .before .before .clear .last .0)
-          (c .before .before .unite .last .0) (a .n) (a .k) (a .parent)
-          (c .before .before .before .before .before .before .before .before .before .before .before .before .before .before .before .pre .2)
-          (c .before .before .before .before .before .before .before .before .before .before .before .before .before .before .before .pre .1)
-          (c .before .before .before .before .before .before .clear .ensures) (c .before .before .unite .ensures) (r .ensures .0)
-          (λ j h. r .ensures .2 j (rw (variables-length (a .file .now) (a .b)) at h)),
-      row-copied b (r .last .0) (a .images .now) (a .k) (a .parent) (a .b .variables) (variables-length (a .file .now) (a .b)) (r .ensures .1),
-      set-copied b (a .images .now) (a .moved .now) (r .last .0) (c .before .before .before .before .before .before .clear .last .0)
-          (c .before .before .unite .last .0) (a .n) (a .k) (a .parent)
-          (c .before .before .before .before .before .before .before .before .before .before .before .before .before .before .before .pre .2)
-          (c .before .before .before .before .before .before .before .before .before .before .before .before .before .before .before .pre .1)
-          (c .before .before .before .before .before .before .clear .ensures) (c .before .before .unite .ensures),
+    let a = c .before .before .before .before .before .before .before .before .before .before .before .args in
+    let b = bundleAt (a .file .now) (a .b) in (
+      inherited b (a .images .now) (a .scopes .now) (c .before .before .before .before .before .before .copy-row .last .0) (c .before .before .copy .last .0) (a .n) (a .k) (a .parent)
+          (c .before .before .before .before .before .before .before .before .before .before .before .pre .2) (c .before .before .before .before .before .before .before .before .before .before .before .pre .1) (c .before .before .copy .ensures) (c .before .before .before .before .before .before .copy-row .ensures .0)
+          (λ j h. c .before .before .before .before .before .before .copy-row .ensures .2 j (rw (variables-length (a .file .now) (a .b)) at h)),
+      row-copied b (c .before .before .before .before .before .before .copy-row .last .0) (a .images .now) (a .k) (a .parent) (a .b .variables) (variables-length (a .file .now) (a .b))
+          (c .before .before .before .before .before .before .copy-row .ensures .1),
+      sets-copied b (a .images .now) (a .scopes .now) (c .before .before .before .before .before .before .copy-row .last .0) (c .before .before .copy .last .0) (a .n) (a .k) (a .parent)
+          (c .before .before .before .before .before .before .before .before .before .before .before .pre .2) (c .before .before .before .before .before .before .before .before .before .before .before .pre .1) (c .before .before .copy .ensures),
     )
 
 pub inherit-spec : {M : Type 1} → statement M
@@ -96,11 +81,12 @@ inherit-spec =
     mul-copy-row
     mul-copy-row-2
     copy-row-requires
-    mul-clear
-    clear-requires
-    mul-unite
-    mul-unite-2
-    unite-requires
+    mul-copy
+    mul-copy-2
+    mul-copy-3
+    mul-copy-4
+    mul-copy-5
+    copy-requires
     same-length
     same-length-2
     returns)

@@ -27,11 +27,11 @@ unfolding each
 each-rest n x xs e = and-right (numbers n x) (each (numbers n) xs) e
 
 abbrev Inv-loop : tie.InvT-loop
-Inv-loop file b images₀ moved₀ n k variables terms i₀ j₀ images moved i j =
+Inv-loop file b images₀ scopes₀ n k variables terms i₀ j₀ images scopes i j =
     (i ≤ b .links)
     × (j ≤ b .links)
-    × Untouched (bundleAt file b) images₀ moved₀ images moved n k
-    × Agrees (bundleAt file b) images moved n k
+    × Untouched (bundleAt file b) images₀ scopes₀ images scopes n k
+    × Agrees (bundleAt file b) images scopes n k
     × ((y : ℕ) → orAbove (lookup (items (bundleAt file b) i) (items (bundleAt file b) j) y) (mentionIn (bundleAt file b) images k y) ≡ orAbove
     (lookup (items (bundleAt file b) variables) (items (bundleAt file b) terms) y) (mentionIn (bundleAt file b) images₀ k y))
     × (each (numbers (b .variables)) (items (bundleAt file b) i) ≡ true)
@@ -39,7 +39,7 @@ Inv-loop file b images₀ moved₀ n k variables terms i₀ j₀ images moved i 
     × (different (items (bundleAt file b) i) ≡ true)
 
 abbrev μ-loop : tie.MeasureT-loop
-μ-loop file b images₀ moved₀ n k variables terms i₀ j₀ images moved i j = length (items (bundleAt file b) i)
+μ-loop file b images₀ scopes₀ n k variables terms i₀ j₀ images scopes i j = length (items (bundleAt file b) i)
 
 first-link-requires : tie.Need-first-link-requires Inv-loop μ-loop
 first-link-requires c κs = search needs
@@ -57,7 +57,7 @@ loop-holds c =
     let j = walk-start (a .file .now) (a .b) (a .terms) (s .result) (s .ensures) in (
       walk-start-le (a .file .now) (a .b) (a .variables) (r .result) (r .ensures),
       walk-start-le (a .file .now) (a .b) (a .terms) (s .result) (s .ensures),
-      untouched-refl (bundleAt (a .file .now) (a .b)) (a .images .now) (a .moved .now) (a .n) (a .k),
+      untouched-refl (bundleAt (a .file .now) (a .b)) (a .images .now) (a .scopes .now) (a .n) (a .k),
       p .6,
       (λ y. rw (i, j)),
       rw i at (p .3),
@@ -108,10 +108,11 @@ set-image-requires c κs =
     let v = each-head (a .b .variables) (x .result) _ (rw i at (l .inv .5)) in
     let u = each-head (a .b .terms) (t .result) _ (rw j at (l .inv .6)) in (
       p .0,
-      room-on b (a .images .now) (a .moved .now) (l .images) (l .moved) (a .n) (a .k) (l .inv .2) (p .1),
+      room-on b (a .images .now) (a .scopes .now) (l .images) (l .scopes) (a .n) (a .k) (l .inv .2) (p .1),
       v .0,
       v .1,
       p .2,
+      u .0,
       omega (arith, u .1, p .0 .within .terms),
       ap not (c .before .before .is-variable .ensures) ∙ sym
           (ap (λ m. movedBy b (asImage m) (x .result)) (as-replaced (t .result) (λ z. omega (arith, u .0)) (λ z. omega (arith, u .1, p .0 .within .terms)))),
@@ -166,7 +167,7 @@ loop-again c =
     let some = as-replaced (t .result) (λ z. omega (arith, u .0)) (λ z. omega (arith, u .1, few)) in (
       walk-le (a .file .now) (a .b) (l .i) (r .result) (r .ensures),
       walk-le (a .file .now) (a .b) (l .j) (s .result) (s .ensures),
-      untouched-trans b (a .images .now) (a .moved .now) (l .images) (l .moved) _ _ (a .n) (a .k) (l .inv .2) (set .ensures .lower),
+      untouched-trans b (a .images .now) (a .scopes .now) (l .images) (l .scopes) _ _ (a .n) (a .k) (l .inv .2) (set .ensures .lower),
       set .ensures .agrees,
       (λ y. replacing-on (x .result) (t .result) vs ts (mentionIn b (l .images) (a .k)) _ seven some (set .ensures .mentions) y ∙ (rw (i, j) at (l .inv .4 y))),
       each-rest (a .b .variables) (x .result) vs five,

@@ -22,7 +22,7 @@ returns c =
     let a = c .before .before .before .before .before .before .before .before .args in
     let p = c .before .before .before .before .before .before .before .before .pre in
     let b = bundleAt (a .file .now) (a .b) in
-    let g = readingIn (a .file .now) (a .b) (a .area .now) (a .n) (a .images .now) (a .moved .now) (a .bed .now) in
+    let g = readingIn (a .file .now) (a .b) (a .area .now) (a .n) (a .images .now) (a .scopes .now) (a .bed .now) in
     let held = c .before .before .refl-holds in
     form-judged g b (asStep (a .s)) (p .3) _ (c .unwalked .ensures) (sym (held .ensures) ∙ c .before .if1 .taken)
 
@@ -40,7 +40,7 @@ returns-2 c =
     let a = c .before .before .before .before .before .before .before .before .before .args in
     let p = c .before .before .before .before .before .before .before .before .before .pre in
     let b = bundleAt (a .file .now) (a .b) in
-    let g = readingIn (a .file .now) (a .b) (a .area .now) (a .n) (a .images .now) (a .moved .now) (a .bed .now) in
+    let g = readingIn (a .file .now) (a .b) (a .area .now) (a .n) (a .images .now) (a .scopes .now) (a .bed .now) in
     walk-judged g b (asStep (a .s)) (p .3) (c .before .pair-walk .result) _ (images-here (a .b) (a .images .now) (a .s .context) (p .2))
     (c .before .pair-walk .ensures) (sym (c .before .before .before .refl-holds .ensures) ∙ c .before .before .if1 .left) _ (c .walk-verdict .ensures)
 

@@ -18,12 +18,12 @@ use Rattle.steps.proofs.steps.steps_fault_in.Statement.{statement}
 use Rattle.steps.proofs.steps.steps_fault_in.Tie as tie
 
 abbrev Inv-loop : tie.InvT-loop
-Inv-loop file b area n images moved earlier₀ steps none pairs₀ k₀ earlier pairs k =
+Inv-loop file b area n images scopes earlier₀ steps none pairs₀ k₀ earlier pairs k =
     (1 ≤ k) × (k ≤ steps + 1) × (stepsFault (bundleAt file b) ≡ restFault (stepFault (bundleAt file b)) steps k)
     × LowerNoted file b (k - 1) earlier × (length earlier ≡ length earlier₀) × (pairs ≡ lastPairs (bundleAt file b) (k - 1))
 
 abbrev μ-loop : tie.MeasureT-loop
-μ-loop file b area n images moved earlier₀ steps none pairs₀ k₀ earlier pairs k = steps + 1 - k
+μ-loop file b area n images scopes earlier₀ steps none pairs₀ k₀ earlier pairs k = steps + 1 - k
 
 loop-holds : tie.Need-loop-holds Inv-loop μ-loop
 unfolding stepsFault lastPairs
@@ -49,11 +49,12 @@ step-fault-requires c κs =
     let l = c .before .before .before .loop in (
       p .0,
       lent-right (a .file .now) (a .b) (a .area .now) (a .n) (p .1)
-          (λ j. omega (arith, c .before .before .before .before .before .before .before .shared-slice-known2 .given j)) (a .moved .now) (a
+          (λ j. omega (arith, c .before .before .before .before .before .before .before .shared-slice-known2 .given j)) (a .scopes .now) (a
           .images .now) (p .2)
           (p .3) (p .4) (p .5),
       l .inv .3,
       l .inv .0,
+      omega arith,
     )
 
 same-length : tie.Need-same-length Inv-loop μ-loop
@@ -68,7 +69,7 @@ returns c =
     (λ j. omega (
       arith,
       c .before .before .before .before .before .before .before .before .before .before .before .shared-slice-known2 .given j,
-    )) (a .moved .now)
+    )) (a .scopes .now)
     (a .images .now) (p .2) (p .3) _ (omega arith) (l .k) in
     record {
       fault = sym (l .inv .2 ∙ rest-here _ _ _ right (c .before .before .before .before .before .before .loop-test .taken) (c .if1 .taken));
@@ -91,10 +92,10 @@ loop-again c =
     let l = c .before .before .before .before .before .before .before .before .loop in
     let s = c .before .before .before .before .step-fault in
     let known = c .before .before .before .before .before .before .before .before .before .before .before .before .shared-slice-known2 .given in
-    let right = s .ensures .0 .number ∙ fault-right (a .file .now) (a .b) (a .area .now) (a .n) (p .1) (λ j. omega (arith, known j)) (a .moved .now)
+    let right = s .ensures .0 .number ∙ fault-right (a .file .now) (a .b) (a .area .now) (a .n) (p .1) (λ j. omega (arith, known j)) (a .scopes .now)
     (a .images .now) (p .2) (p .3) _ (omega arith) (l .k) in
     let walk = s .ensures .0 .pairs (c .before .if1 .left) ∙ pairs-right (a .file .now) (a .b) (a .area .now) (a .n) (p .1) (λ j. omega (arith, known j))
-    (a .moved .now) (a .images .now) (p .2) (p .3) _ (omega arith) (l .k) in (
+    (a .scopes .now) (a .images .now) (p .2) (p .3) _ (omega arith) (l .k) in (
       omega arith,
       omega arith,
       l .inv .2 ∙ rest-on _ _ _ right (c .before .before .before .before .before .before .before .loop-test .taken) (c .before .if1 .left),
