@@ -94,11 +94,10 @@ part-second-end c = search needs
 both-subsets-requires : tie.Need-both-subsets-requires
 both-subsets-requires c κs =
     let a = c .before .before .before .before .before .args in
-    let p = c .before .before .before .before .before .pre in (
-      omega (arith, set-within (a .n) (a .b .terms) (a .left) (length (a .area .now)) (p .0) (λ z. omega (arith, p .2)) (p .3)),
-      omega (arith, set-within (a .n) (a .b .terms) (a .right) (length (a .area .now)) (p .0) (λ z. omega (arith, p .4)) (p .5)),
-      omega (arith, p .1),
-    )
+    let p = c .before .before .before .before .before .pre in
+    let first = set-within (a .n) (a .b .terms) (a .left) (length (a .area .now)) (p .0) (λ z. omega (arith, p .2)) (p .3) in
+    let second = set-within (a .n) (a .b .terms) (a .right) (length (a .area .now)) (p .0) (λ z. omega (arith, p .4)) (p .5) in
+    (omega (arith, first, second), omega (arith, first, second), omega (arith, p .1))
 
 returns : tie.Need-returns
 returns c =

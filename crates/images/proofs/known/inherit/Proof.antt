@@ -49,11 +49,11 @@ mul-copy-5 c = search needs
 
 copy-requires : tie.Need-copy-requires
 copy-requires c κs =
-    let a = c .before .before .before .before .before .before .before .before .args in (
-      parent-words (bundleAt (a .file .now) (a .b)) (a .images .now) (a .scopes .now) (a .images .now) (a .scopes .now) (a .n) (a .k) (a .parent)
-          (c .before .before .before .before .before .before .before .before .pre .2) (c .before .before .before .before .before .before .before .before .pre .1),
-      c .before .before .before .before .before .before .before .before .pre .1 .words,
-    )
+    let a = c .before .before .before .before .before .before .before .before .args in
+    let apart =
+    parent-words (bundleAt (a .file .now) (a .b)) (a .images .now) (a .scopes .now) (a .images .now) (a .scopes .now) (a .n) (a .k) (a .parent)
+    (c .before .before .before .before .before .before .before .before .pre .2) (c .before .before .before .before .before .before .before .before .pre .1) in
+    (omega (arith, apart), omega (arith, c .before .before .before .before .before .before .before .before .pre .1 .words))
 
 same-length : tie.Need-same-length
 same-length c = search needs
