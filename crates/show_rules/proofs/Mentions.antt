@@ -1,5 +1,4 @@
 -- What no entry of a context mentions.
---     empty-mentions     the empty context mentions nothing
 --     only-above         what an entry does not mention is mentioned above it, or not at all; by kind: `not-fixed`, `not-replaced`, `no-entry`
 use mathlib.Core.Path.{_≡_, sym, _∙_, subst}
 use mathlib.Core.Bool.{Bool, true, false, false≢true}
@@ -13,11 +12,6 @@ use Rattle.bundle.specs.Lists.{has}
 use Rattle.logic.specs.Lists.{Among}
 use Rattle.logic.specs.Contexts.{Mentioned, by-fixing, by-replacing, by-parent}
 use Rattle.logic.proofs.Exactly.{has-exactly}
-
-pub empty-mentions : {b : Bundle} {c x : ℕ} → c ≡ 0 → Mentioned b c x → ⊥
-empty-mentions {b} e (by-fixing {c = c} k a) = let z : contextOf b c .kind ≡ 0 = rw e in omega arith
-empty-mentions {b} e (by-replacing {c = c} k m) = let z : contextOf b c .kind ≡ 0 = rw e in omega arith
-empty-mentions {b} e (by-parent {c = c} m) = empty-mentions (rw e) m
 
 only-above : {b : Bundle} {c x : ℕ} → (contextOf b c .kind ≡ 1 → contextOf b c .a ≡ x → ⊥)
     → (contextOf b c .kind ≡ 2 → Among x (items b (contextOf b c .a)) → ⊥) → Mentioned b c x → Mentioned b (contextOf b c .parent) x

@@ -5,7 +5,7 @@ use mathlib.Core.Bool.{false≢true}
 use Prim.Native.Nat.{ℕ}
 use Rattle.bundle.specs.File.{bundleAt}
 use Rattle.logic.specs.Contexts.{Mentioned}
-use Rattle.show_rules.proofs.Mentions.{empty-mentions}
+use Rattle.logic.proofs.Scopes.{empty-mentions}
 use Rattle.show_rules.proofs.chains.mentions.Statement.{statement}
 use Rattle.show_rules.proofs.chains.mentions.Tie as tie
 
@@ -40,7 +40,7 @@ loop-again c m =
     (c .before .before .before .entry-mentions .ensures (c .before .before .if1 .left) (c .before .before .before .before .before .loop .inv m))
 
 returns-3 : tie.Need-returns-3 Inv-loop μ-loop
-returns-3 c e m = empty-mentions (c .loop-test .left) (c .before .loop .inv m)
+returns-3 c e m = empty-mentions _ _ (rw (c .loop-test .left) at (c .before .loop .inv m))
 
 pub mentions-spec : {M : Type 1} → statement M
 mentions-spec =
