@@ -118,7 +118,8 @@ def renamed(text, ren, library, alias, rust):
         if n not in ren or n in library or (rust and not wants(n)):
             continue
         i = m.start()
-        if text[m.end() : m.end() + 1] == "." and n not in alias:
+        # A part of a module's path, and no value whose field is named.
+        if text[m.end() : m.end() + 1] == "." and text[i - 1 : i] == ".":
             continue
         if i and text[i - 1] == ".":
             j = i - 1

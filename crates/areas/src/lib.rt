@@ -1,4 +1,6 @@
 // Lent areas: how many are long enough, zeros, and how every call leaves them.
+#![tactic(auto)]
+
 ghost use Rattle.std.specs.Prelude.{◌≡◌, true, false, ◌++◌, ◌-◌, ◌≤◌, length, take, replicate};
 ghost use Rattle.expansion.specs.Expansion.{long_enough};
 ghost use Rattle.expansion.specs.AreasAfter.{kept, Zeroed};

@@ -1,3 +1,5 @@
 // Sorts of a text judged bracket by bracket, by loops alone: for texts that are nested deeper than the reader's recursion goes.
+#![tactic(auto)]
+
 pub mod brackets; // brackets.rt: what follows a lexeme, what follows a formula
 pub mod sorts; // sorts.rt: what a lexeme names, the sort of the formula at a place

@@ -152,19 +152,19 @@ module _ (f : List ℕ) (c : Counts) where
   sized_at = sized (word_at f) c c
 
   pub symbols_length : length (bundle_at f c).symbols ≡ c.symbols
-  symbols_length = sized-at.symbols
+  symbols_length = sized_at.symbols
 
   pub variables_length : length (bundle_at f c).variables ≡ c.variables
-  variables_length = sized-at.variables
+  variables_length = sized_at.variables
 
   pub terms_length : length (bundle_at f c).terms ≡ c.terms
-  terms_length = sized-at.terms
+  terms_length = sized_at.terms
 
   pub links_length : length (bundle_at f c).links ≡ c.links
-  links_length = sized-at.links
+  links_length = sized_at.links
 
   pub contexts_length : length (bundle_at f c).contexts ≡ c.contexts
-  contexts_length = sized-at.contexts
+  contexts_length = sized_at.contexts
 
   pub steps_length : length (bundle_at f c).steps ≡ c.steps
-  steps_length = sized-at.steps
+  steps_length = sized_at.steps

@@ -1,6 +1,8 @@
 // The file format: limits, words, and readers of records and lists straight from a lent file.
 // Every reader is total: the number 0, or one past its section's last, reads zeros. All that a reader asks for is `Whole`: counts within
 // limits, length exact. What it gives is said of the bundle that the file stands for, `bundle_at`.
+#![tactic(auto)]
+
 ghost use Rattle.std.specs.Prelude.{◌≡◌, ◌≤◌, ◌<◌};
 ghost use Rattle.bundle.specs.Limits.{limits, set_words, least_bytes, symbols_at, variables_at, terms_at, links_at, contexts_at, steps_at};
 ghost use Rattle.bundle.specs.Limits.{bytes_of, within_of, Within};
@@ -15,7 +17,7 @@ pub mod places; // places.rt: items of lists by their place
 pub mod digests; // digests.rt: digests, by which records are filed
 
 // A bundle's version, and the numbers of records of its sections: with the lent file it gives every record. The limits belong to it.
-#[derive(Drop)]
+#[derive(Clone, Copy)]
 pub struct Bundle {
     pub version: usize,
     pub symbols: usize,

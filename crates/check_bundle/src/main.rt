@@ -1,4 +1,6 @@
 // The program check: reads up to 65,536 bytes of standard input and prints one line: `accepted`, left, right, or `refused`, number, record.
+#![tactic(auto)]
+
 use bundle::Bundle;
 use judgement::Answer;
 

@@ -1,4 +1,6 @@
 // THE PUBLIC CHECK: is a bundle accepted, and if not, which check fails first.
+#![tactic(auto)]
+
 ghost use Rattle.std.specs.Prelude.{◌≡◌, ◌+◌, ◌*◌, ◌≤◌, length};
 ghost use Rattle.bundle.specs.Limits.{set_words};
 ghost use Rattle.bundle.specs.File.{Whole, bundle_at, bundle_of};

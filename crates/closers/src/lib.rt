@@ -1,5 +1,7 @@
 // What a visit opens and closes with, each against its definition without limits. `Full` as soon as a section would pass its limit.
 // The index holds all terms; a term that is appended is filed in it.
+#![tactic(auto)]
+
 ghost use Rattle.std.specs.Prelude.{◌≡◌, true, false, [], ◌∷◌, ◌≤◌, length};
 ghost use Rattle.logic.specs.Terms.{Binder, binder, number_of, is_binder};
 ghost use Rattle.scratch.specs.Scratch.{bundle_in, Ready};

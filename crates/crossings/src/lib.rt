@@ -1,4 +1,6 @@
 // What the walk of whole-term REFL knows of the binders that it has crossed, in two arrays, and whether a pair of terms meets by itself.
+#![tactic(auto)]
+
 ghost use Rattle.std.specs.Prelude.{◌≡◌, List, ◌∷◌, ℕ, ◌+◌, ◌*◌, ◌≤◌, ◌<◌, length};
 ghost use Rattle.bundle.specs.Bundle.{term_of};
 ghost use Rattle.bundle.specs.File.{Whole, bundle_at};

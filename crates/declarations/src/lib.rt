@@ -1,4 +1,6 @@
 // The checks 1 to 6, on the lent file in place: the file as a whole, links, symbols and variables.
+#![tactic(auto)]
+
 ghost use Rattle.std.specs.Prelude.{◌≡◌};
 ghost use Rattle.bundle.specs.File.{Whole, bundle_at};
 ghost use Rattle.logic.specs.Tests.{first_fault};
@@ -11,7 +13,7 @@ use bundle::Bundle;
 use logic::{Fault, no_fault};
 
 // The sections that come before the terms.
-#[derive(Drop)]
+#[derive(Clone, Copy)]
 pub enum Section {
     Links,
     Symbols,

@@ -1,5 +1,7 @@
 // Check 9: whether a term is equal to an earlier one. Earlier terms are filed by a digest of their records: `heads` has the newest term of each
 // digest, `next` the one before each term among those with its digest, 0 for none. So a term is compared with those of its digest alone.
+#![tactic(auto)]
+
 ghost use Rattle.std.specs.Prelude.{◌≡◌, ◌<◌, length};
 ghost use Rattle.bundle.specs.Bundle.{term_of};
 ghost use Rattle.bundle.specs.Links.{items};
@@ -17,7 +19,7 @@ use bundle::records::{link_field, term_field};
 use logic::kinds::{APPLICATION, LET};
 
 // The words of a term.
-#[derive(Drop)]
+#[derive(Clone, Copy)]
 pub struct TermWords {
     pub kind: usize,
     pub first: usize,

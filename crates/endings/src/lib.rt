@@ -1,4 +1,6 @@
 // The ends of formulas: what has been read is placed as a term. `Full` as soon as a section would pass its limit, and where a part was full.
+#![tactic(auto)]
+
 ghost use Rattle.std.specs.Prelude.{◌≡◌, true, false, ◌∷◌, ℕ, ◌≤◌, ◌<◌, length};
 ghost use Rattle.bundle.specs.declared.Bundle.{Bundle as Counts};
 ghost use Rattle.bundle.specs.File.{Whole, bundle_at};
@@ -24,7 +26,7 @@ use placing::{Recorded, place_application, place_binder, place_let, place_variab
 use sorting::sorts::{result_sort, signature_of};
 
 // What reading a formula answers: the counts, its term and sort, and the byte after it; or that it does not fit.
-#[derive(Drop)]
+#[derive(Clone, Copy)]
 pub enum ReadTerm {
     Done {
         counts: Bundle,
@@ -36,7 +38,7 @@ pub enum ReadTerm {
 }
 
 // What reading parts answers: the counts, where the stack of pairs ends, the sort of the first, and the byte after them; or that they do not fit.
-#[derive(Drop)]
+#[derive(Clone, Copy)]
 pub enum ReadParts {
     Done {
         counts: Bundle,

@@ -1,5 +1,7 @@
 // The program expand: reads a job of up to 65,536 bytes on standard input and writes the expanded file to standard output. A job that is refused gets one
 // line `refused`, number, record on standard error, and nothing on standard output.
+#![tactic(auto)]
+
 use bundle::Bundle;
 use expansion::Answer;
 

@@ -73,10 +73,10 @@ module _ (b : Bundle) (tables : TablesFormed b) (contexts : b.contexts ≡ []) (
     formed = all.formed;
     steps = all.steps;
     claim = record {
-      some = omega (arith, done.step.0, rule-visited.last);
-      context = ap (λ (k : ℕ). (step_of B k).context) (sym rule-visited.last) ∙ done.context;
-      left = ap (λ (k : ℕ). (step_of B k).left) (sym rule-visited.last) ∙ done.left;
-      right = ap (λ (k : ℕ). (step_of B k).right) (sym rule-visited.last) ∙ done.right;
+      some = omega (arith, done.step.0, rule_visited.last);
+      context = ap (λ (k : ℕ). (step_of B k).context) (sym rule_visited.last) ∙ done.context;
+      left = ap (λ (k : ℕ). (step_of B k).left) (sym rule_visited.last) ∙ done.left;
+      right = ap (λ (k : ℕ). (step_of B k).right) (sym rule_visited.last) ∙ done.right;
     };
     longer = expanded_longer b;
     left = refl;
@@ -95,7 +95,7 @@ module _ (b : Bundle) (tables : TablesFormed b) (contexts : b.contexts ≡ []) (
       same = claiming_longer v.bundle b.left v.result
 
       all : Checked B
-      all = claiming_checked v.bundle b.left v.result rule-visited.checked
+      all = claiming_checked v.bundle b.left v.result rule_visited.checked
 
       done : Done (λ x. ⊥) B 0 b.left v.result v.step
-      done = done_kept same rule-visited.checked.formed.tables rule-visited.done
+      done = done_kept same rule_visited.checked.formed.tables rule_visited.done

@@ -159,7 +159,7 @@ module _ {V₀ : ℕ} {N : ℕ → Type 0} (b : Bundle) (c t f : ℕ) (ns : Node
   cong_instance B later well =
       by_cong refl f (gather (tree B) (numbers_of ns)) (gather (tree B) v.results)
       (application_there B (longer_trans longer (longer_trans to_applied later))).1
-      (tree_kept later applied-as.checked.formed.tables applied.term applied-as.is-term.1 ∙ applied-as.stands
+      (tree_kept later applied_as.checked.formed.tables applied.term applied_as.is-term.1 ∙ applied_as.stands
       ∙ ap (app f) (sym (gather_kept (longer_trans to_applied later) ih.checked.formed.tables v.results result_terms)))
       (say_all (done_all_kept (longer_trans to_applied later) ih.checked.formed.tables ih.done))
 
@@ -168,13 +168,13 @@ module _ {V₀ : ℕ} {N : ℕ → Type 0} (b : Bundle) (c t f : ℕ) (ns : Node
   node_visited =
       let since : Longer b A = longer_trans longer to_applied in
       let here = application_there A since in
-      conclude A 2 c t applied.term v.steps applied-as.checked (omega (arith, s.here, (sizes since).contexts)) here.0
+      conclude A 2 c t applied.term v.steps applied_as.checked (omega (arith, s.here, (sizes since).contexts)) here.0
       record {
-        is_term = applied-as.is-term;
-        plain = ap holdsLet applied-as.stands ∙ gather_plain N v.bundle v.results results;
-        new = rw applied-as.stands (gather_new N v.bundle v.results results);
+        is_term = applied_as.is-term;
+        plain = ap holdsLet applied_as.stands ∙ gather_plain N v.bundle v.results results;
+        new = rw applied_as.stands (gather_new N v.bundle v.results results);
       }
-      (ap (sort A) applied-as.stands ∙ sym (ap (sort A) here.1))
+      (ap (sort A) applied_as.stands ∙ sym (ap (sort A) here.1))
       (left_scope old s since t stands.0.0.1 covers) (open_scope old s since)
       (all_map (λ k n. (n.0, omega (arith, n.1, (sizes to_applied).steps))) v.steps (done_steps ih.done))
       cong_instance (λ B later well. not_refl 2 (λ e. omega arith))
@@ -204,9 +204,9 @@ module _ {V₀ : ℕ} {N : ℕ → Type 0} (b : Bundle) (c x : ℕ) (old : Check
   with_list = add_list with_fixed (x ∷ [])
 
   abbrev fixed : ℕ
-  fixed = suc (length withTerm.contexts)
+  fixed = suc (length with_term.contexts)
 
-  y_number : Number (length withNew.variables) y
+  y_number : Number (length with_new.variables) y
   y_number = (omega arith, omega (arith, length-append b.variables (sort_of_variable b x ∷ [])))
 
   term_placed : PlacedAs (var y) (fresh b x)
@@ -218,11 +218,11 @@ module _ {V₀ : ℕ} {N : ℕ → Type 0} (b : Bundle) (c x : ℕ) (old : Check
 
   fixed_opens : Opens V₀ N (fixing with_term y c) (λ z. cond (eqb y z) Own (image with_term c z))
   fixed_opens =
-      fixing_opens with_term c term-placed.checked (substitutes_kept s (fresh_longer b x) old.formed (λ z n. n) s.itself) y
-      (y-number.0, omega (arith, y-number.1, (sizes to_term).variables))
+      fixing_opens with_term c term_placed.checked (substitutes_kept s (fresh_longer b x) old.formed (λ z n. n) s.itself) y
+      (y_number.0, omega (arith, y_number.1, (sizes to_term).variables))
 
   list_ok : Checked with_list
-  list_ok = list_checked with_fixed (x ∷ []) fixed-opens.checked
+  list_ok = list_checked with_fixed (x ∷ []) fixed_opens.checked
 
   from_term : Longer with_term with_list
   from_term = longer_trans (fixing_longer with_term y c) (list_longer with_fixed (x ∷ []))
@@ -235,26 +235,26 @@ module _ {V₀ : ℕ} {N : ℕ → Type 0} (b : Bundle) (c x : ℕ) (old : Check
   list_substitutes : Substitutes V₀ (And N y) with_list fixed
   unfolding image_tree tree_of_image
   list_substitutes =
-      substitutes_kept fixed-opens.substitutes (list_longer with_fixed (x ∷ [])) fixed-opens.checked.formed (λ z n. inl n) itself
+      substitutes_kept fixed_opens.substitutes (list_longer with_fixed (x ∷ [])) fixed_opens.checked.formed (λ z n. inl n) itself
     where
       itself : (z : ℕ) → And N y z → FixedIn with_fixed fixed z
-      itself z (inl n) = fixed-opens.substitutes.itself z n
+      itself z (inl n) = fixed_opens.substitutes.itself z n
       itself z (inr e) =
           let fixes = fixing_says with_term y c (longer_refl with_fixed) in
           record {
             mentioned = by_fixing fixes.kind (fixes.variable ∙ sym e);
             image = ap (λ (i : Image). tree_of_image with_fixed i z)
-                (fixed-opens.images z ∙ ap (λ (p : Bool). cond p Own (image with_term c z)) (eq-eqb y z (sym e)));
+                (fixed_opens.images z ∙ ap (λ (p : Bool). cond p Own (image with_term c z)) (eq-eqb y z (sym e)));
           }
 
   -- the new variable's term
   y_tree : {B : Bundle} → Longer with_term B → tree B (fresh b x).term ≡ var y
-  y_tree later = tree_kept later term-placed.checked.formed.tables (fresh b x).term term-placed.is-term.1 ∙ term-placed.stands
+  y_tree later = tree_kept later term_placed.checked.formed.tables (fresh b x).term term_placed.is-term.1 ∙ term_placed.stands
 
   y_result : Result (And N y) with_list (fresh b x).term
   unfolding holdsLet
   y_result = record {
-    is_term = (term-placed.is-term.0, omega (arith, term-placed.is-term.1, (sizes from_term).terms));
+    is_term = (term_placed.is-term.0, omega (arith, term_placed.is-term.1, (sizes from_term).terms));
     plain = ap holdsLet (y_tree from_term);
     new = rw (y_tree from_term) (λ z e. inr e);
   }
@@ -283,16 +283,16 @@ module _ {V₀ : ℕ} {N : ℕ → Type 0} (b : Bundle) (c x : ℕ) (old : Check
   -- the body's free variables are the quantifier's, and x
   binder_covers : (q : Binder) (τ : Term) → Covers b c (bind q x τ) → Covers (open_binder b x c).bundle (open_binder b x c).context τ
   binder_covers q τ covers z f =
-      let (r, e) = lookup_covers with_list (x ∷ []) ((fresh b x).term ∷ []) z (image with_list fixed z) y-lists.sorts passed_on in
-      (r, binder-opens.images z ∙ e)
+      let (r, e) = lookup_covers with_list (x ∷ []) ((fresh b x).term ∷ []) z (image with_list fixed z) y_lists.sorts passed_on in
+      (r, binder_opens.images z ∙ e)
     where
       passed_on : (Among z (x ∷ []) → ⊥) → (r : ℕ) × (image with_list fixed z ≡ Gives r)
       passed_on out =
           let (r, e) = covers z (λ q. out (inl q), f) in
           let other : eqb y z ≡ false = ne_eqb y z (λ q. omega (arith, replaced_old s z r e, s.job)) in (
             r,
-            image_stays (list_longer with_fixed (x ∷ [])) fixed-opens.checked.formed fixed fixed-opens.substitutes.here z
-                (fixed-opens.images z ∙ ap (λ (p : Bool). cond p Own (image with_term c z)) other
+            image_stays (list_longer with_fixed (x ∷ [])) fixed_opens.checked.formed fixed fixed_opens.substitutes.here z
+                (fixed_opens.images z ∙ ap (λ (p : Bool). cond p Own (image with_term c z)) other
                 ∙ image_stays (fresh_longer b x) old.formed c s.here z e),
           )
 
@@ -319,7 +319,7 @@ module _ {V₀ : ℕ} {N : ℕ → Type 0} (b : Bundle) (c x : ℕ) (old : Check
     ok : PlacedAs (bind q y (tree v.bundle v.result)) result
     ok =
         binder_placed v.bundle q y v.result ih.checked
-        (y-number.0, omega (arith, y-number.1, (sizes to_term).variables, (sizes from_term).variables, (sizes opened).variables, (sizes longer).variables))
+        (y_number.0, omega (arith, y_number.1, (sizes to_term).variables, (sizes from_term).variables, (sizes opened).variables, (sizes longer).variables))
         ih.done.result.is-term
         (ih.done.sorted
         ∙ binder_sorts v.bundle ih.checked.formed.tables t q x (number u) (there v.bundle (longer_trans (open_longer b x c) longer)))
@@ -347,7 +347,7 @@ module _ {V₀ : ℕ} {N : ℕ → Type 0} (b : Bundle) (c x : ℕ) (old : Check
         replaced =
             subst (λ (τ : Term). Replaces B (open_binder b x c).context (x ∷ []) (more τ none) fixed)
             (y_tree (longer_trans from_term (longer_trans opened all)))
-            (replacing_says with_list (list_start with_fixed (x ∷ [])) fixed (x ∷ []) ((fresh b x).term ∷ []) list-ok.formed.tables
+            (replacing_says with_list (list_start with_fixed (x ∷ [])) fixed (x ∷ []) ((fresh b x).term ∷ []) list_ok.formed.tables
             (list-start with_fixed (x ∷ []) (longer_refl with_list)) (list_added with_fixed (x ∷ []) (longer_refl with_list)) all)
 
     binder-visited : Visited N c t (close_binder c t q y v)
@@ -400,9 +400,9 @@ module _ {V₀ : ℕ} {N : ℕ → Type 0} (b : Bundle) (c t l : ℕ) (vs : List
   -- the body's free variables are the let's, and those of its list
   block_covers : (τs : Terms) (τ : Term) → Covers b c (letIn vs τs τ) → Covers bound.bundle bound.context τ
   block_covers τs τ covers x f =
-      let (r, e) = lookup_covers v.bundle vs v.results x (image v.bundle c x) bound-lists.sorts
+      let (r, e) = lookup_covers v.bundle vs v.results x (image v.bundle c x) bound_lists.sorts
       (λ out. let (r, e) = covers x (inr (out, f)) in (r, image_stays longer old.formed c s.here x e)) in
-      (r, block-opens.images x ∙ e)
+      (r, block_opens.images x ∙ e)
 
   -- ---- its step: LET
 

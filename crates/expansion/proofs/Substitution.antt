@@ -290,7 +290,7 @@ module _ {V₀ : ℕ} {N : ℕ → Type 0} (b : Bundle) (c : ℕ) (old : Checked
             (λ r e. let (low, is_x) = by_itself x n r e in tree_kept longer formed r low ∙ is_x) (kept.itself x n).image;
       };
       gives = λ x t e. lookup_gives B (Result N B) vs ts x (image B c x)
-          lists-here.sorts (all_map (λ t h. result_kept longer formed (λ x n. n) h) ts res) (kept.gives x) t (sym (images-in x) ∙ e);
+          lists_here.sorts (all_map (λ t h. result_kept longer formed (λ x n. n) h) ts res) (kept.gives x) t (sym (images-in x) ∙ e);
       stays = λ x l. images x ∙ ap₂ first (not_mentioned x vs ts (not_new V₀ x vs nv l)) (s.stays x l);
     };
     images = images;

@@ -1,4 +1,6 @@
 // The free sets of all terms, n words each, written into a lent area. What lists share is united once for all of them (crate `unions`).
+#![tactic(auto)]
+
 pub mod spread; // spread.rt: sets of few words made sets of as many as a term has
 
 ghost use Rattle.std.specs.Prelude.{◌≡◌, not, ◌&&◌, ◌+◌, ◌*◌, ◌-◌, ◌≤◌, ◌<◌, length};

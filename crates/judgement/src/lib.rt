@@ -1,7 +1,8 @@
 // The answer of the checker, as a type: what `check` answers to every file is in specs/, with the demands and their proofs.
+#![tactic(auto)]
 
 // What is said of a file that is accepted: the claim, by its two term numbers, and the number of pairs of the last REFL walked, 0 if none was.
-#[derive(Drop)]
+#[derive(Clone, Copy)]
 pub struct Acceptance {
     pub left: usize,
     pub right: usize,
@@ -9,7 +10,7 @@ pub struct Acceptance {
 }
 
 // The answer to a file.
-#[derive(Drop)]
+#[derive(Clone, Copy)]
 pub enum Answer {
     Accepted(Acceptance),
     // The number of the first check that fails, and its record.

@@ -7,7 +7,7 @@ ghost use Rattle.lexing.specs.Lexes.{skips, Skipped, RunEnds, Lexes};
 use crate::runs::{class_code, wide, word_code};
 
 // A lexeme from `start` up to before `end`: 0 '(', 1 ')', 2 a stray byte, 3 to 9 a word by its number (9 a name); 10 the text's end.
-#[derive(Drop)]
+#[derive(Clone, Copy)]
 pub struct Lexed {
     pub code: usize,
     pub start: usize,

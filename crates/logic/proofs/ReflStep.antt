@@ -99,7 +99,7 @@ module _ (b : Bundle) (well : WellFormed b) (s : Step) (left : IsTerm b s.left) 
   )
     where
       there : (refl_holds b s ≡ true) ⊎ ((refl_walk b s).same ≡ true) → Replacement b (image_tree b s.context) (tree b s.left) (tree b s.right)
-      there (inl f) = refl_forms b s.context (tree b s.left) (tree b s.right) (form-exactly.0 f)
+      there (inl f) = refl_forms b s.context (tree b s.left) (tree b s.right) (form_exactly.0 f)
       there (inr w) = (pair_walk_exactly b well s.context s.left s.right left right).0 w
 
   pub refl_suffices_exactly : (refl_suffices b s ≡ true) ↔ (Form ⊎ ((refl_walk b s).pairs ≤ pair_limit))
@@ -107,9 +107,9 @@ module _ (b : Bundle) (well : WellFormed b) (s : Step) (left : IsTerm b s.left) 
   refl_suffices_exactly = (λ e. there (or_cases (refl_holds b s) (leb (refl_walk b s).pairs pair_limit) e), back)
     where
       there : (refl_holds b s ≡ true) ⊎ (leb (refl_walk b s).pairs pair_limit ≡ true) → Form ⊎ ((refl_walk b s).pairs ≤ pair_limit)
-      there (inl f) = inl (form-exactly.0 f)
+      there (inl f) = inl (form_exactly.0 f)
       there (inr w) = inr (leb-true (refl_walk b s).pairs pair_limit w)
 
       back : Form ⊎ ((refl_walk b s).pairs ≤ pair_limit) → (refl_holds b s || leb (refl_walk b s).pairs pair_limit) ≡ true
-      back (inl f) = or_left (refl_holds b s) (leb (refl_walk b s).pairs pair_limit) (form-exactly.1 f)
+      back (inl f) = or_left (refl_holds b s) (leb (refl_walk b s).pairs pair_limit) (form_exactly.1 f)
       back (inr w) = or_right (refl_holds b s) (leb (refl_walk b s).pairs pair_limit) (le-leb (refl_walk b s).pairs pair_limit w)

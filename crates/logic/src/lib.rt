@@ -1,4 +1,6 @@
 // Types that the definitions and the code of the checks share. The matter of this crate is in specs/ and proofs/.
+#![tactic(auto)]
+
 ghost use Rattle.std.specs.Prelude.{◌≡◌};
 ghost use Rattle.logic.specs.Tests.{fault};
 ghost use Rattle.logic.specs.ReflWalk.{pair_limit};
@@ -7,21 +9,21 @@ pub mod kinds; // kinds.rt: the kinds of terms and of contexts
 pub mod rules; // rules.rt: the rules
 
 // What is wrong with a record: the number of the check that fails, and the record. Number 0: nothing is wrong.
-#[derive(Drop)]
+#[derive(Clone, Copy)]
 pub struct Fault {
     pub number: usize,
     pub record: usize,
 }
 
 // What a walk over lists of links finds: whether they pass its test, and how many links it read.
-#[derive(Drop)]
+#[derive(Clone, Copy)]
 pub struct Walk {
     pub passes: bool,
     pub links: usize,
 }
 
 // The signature of a symbol.
-#[derive(Drop)]
+#[derive(Clone, Copy)]
 pub enum Signature {
     // Built in: `count` arguments, each of sort `sort`, and a result of sort `result`.
     BuiltIn {
@@ -36,7 +38,7 @@ pub enum Signature {
 }
 
 // What one entry of a context says of a variable.
-#[derive(Drop)]
+#[derive(Clone, Copy)]
 pub enum Mention {
     Fixed,
     Replaced(usize),
@@ -44,7 +46,7 @@ pub enum Mention {
 }
 
 // The image of a variable in a context: itself, or a term.
-#[derive(Drop)]
+#[derive(Clone, Copy)]
 pub enum Image {
     Own,
     Gives(usize),
@@ -61,7 +63,7 @@ fn pair_limit() -> usize
 }
 
 // How a walk ended that may visit so many pairs and no more: with no difference, or at one, with so many pairs left; or the pairs did not suffice.
-#[derive(Drop)]
+#[derive(Clone, Copy)]
 pub enum Limited {
     Same(usize),
     Different(usize),

@@ -1,4 +1,6 @@
 // The library for other languages: `rt staticlib nezkaldo` writes target/staticlib/libnezkaldo.a; include/nezkaldo.h declares it for C.
+#![tactic(auto)]
+
 ghost use Rattle.std.specs.Prelude.{◌≡◌, ◌+◌, ◌*◌, ◌≤◌, length};
 ghost use Rattle.judgement.specs.Judge.{judge, area_after};
 ghost use Rattle.expansion.specs.Expansion.{expansion};

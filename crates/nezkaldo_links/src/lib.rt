@@ -1,6 +1,8 @@
 // How many links the test of a CONG step reads (document 02, Req 03), for other languages: `rt staticlib nezkaldo_links` writes
 // target/staticlib/libnezkaldo_links.a; include/nezkaldo_links.h declares it for C. The call is in a library of its own: in the checker's, a second caller of
 // the walk would keep the compiler from putting it where steps are judged, and every check would be slower.
+#![tactic(auto)]
+
 ghost use Rattle.std.specs.Prelude.{◌≡◌, ◌≤◌};
 ghost use Rattle.nezkaldo_links.specs.Links.{walk_number, links_number};
 

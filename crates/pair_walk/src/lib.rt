@@ -1,4 +1,6 @@
 // The walk of whole-term REFL: pairs of terms, left to right, parent before child, to the first difference, as one loop with an agenda of its own.
+#![tactic(auto)]
+
 ghost use Rattle.std.specs.Prelude.{◌≡◌, [], ◌+◌, ◌*◌, ◌≤◌, length};
 ghost use Rattle.bundle.specs.Limits.{set_words};
 ghost use Rattle.bundle.specs.File.{Whole, bundle_at};
@@ -18,7 +20,7 @@ mod turns; // turns.rt: from one pair to the next
 
 // What follows a pair that has been visited: the next pair, already counted, with the height of the agenda, the number of pairs of variables crossed
 // and the pairs left; or the walk has ended.
-#[derive(Drop)]
+#[derive(Clone, Copy)]
 pub enum Turn {
     Pair {
         l: usize,

@@ -42,7 +42,7 @@ fn turn_to(l: usize, x: usize, y: usize, height: usize, depth: usize, left: usiz
 }
 
 // A link that has been read: its item and its next.
-#[derive(Drop)]
+#[derive(Clone, Copy)]
 struct Link {
     value: usize,
     next: usize,

@@ -7,7 +7,7 @@ use super::Token;
 use lexing::runs::wide;
 
 // Digits, from a byte on: their value, and the byte after them.
-#[derive(Drop)]
+#[derive(Clone, Copy)]
 pub struct Digits {
     pub value: usize,
     pub end: usize,

@@ -1,5 +1,7 @@
 // Records and lists appended where their section has room, and terms looked up before they are appended, each against its definition without
 // limits. `Full` as soon as a section would pass its limit. The index holds all terms; a term that is appended is filed in it.
+#![tactic(auto)]
+
 ghost use Rattle.std.specs.Prelude.{◌≡◌, true, false, [], ◌∷◌, suc, ◌≤◌, ◌<◌, length};
 ghost use Rattle.bundle.specs.Filed.{digests};
 ghost use Rattle.logic.specs.Terms.{Binder, binder, number_of, is_binder};
@@ -22,7 +24,7 @@ use scratch::records::variable_sort;
 
 // What a visit to a term answers: the counts, the result's term and the step that carries the term to it; or that a section would pass its
 // limit.
-#[derive(Drop)]
+#[derive(Clone, Copy)]
 pub enum Visited {
     Done {
         counts: Bundle,
@@ -33,7 +35,7 @@ pub enum Visited {
 }
 
 // What a visit to a list answers: the counts, and where the stack of pairs ends.
-#[derive(Drop)]
+#[derive(Clone, Copy)]
 pub enum Listed {
     Done { counts: Bundle, height: usize },
     Full,
@@ -41,7 +43,7 @@ pub enum Listed {
 
 // What stands in the scratch after a call: the counts, and the number of the context or term, or of a list's first link; or that a section would pass
 // its limit.
-#[derive(Drop)]
+#[derive(Clone, Copy)]
 pub enum Recorded {
     Done { counts: Bundle, number: usize },
     Full,
@@ -49,7 +51,7 @@ pub enum Recorded {
 
 // What the opener of a quantifier leaves: the counts, the context of the body and the variable that the result binds; or that a section would pass
 // its limit.
-#[derive(Drop)]
+#[derive(Clone, Copy)]
 pub enum Opened {
     Done {
         counts: Bundle,

@@ -1,4 +1,6 @@
 // Earlier steps as premises: those of the file, then those of a lent bed; and the walk of CONG and LET over lists of them.
+#![tactic(auto)]
+
 ghost use Rattle.std.specs.Prelude.{◌≡◌, true, ◌||◌, eqb, ℕ, ◌+◌, ◌*◌, ◌≤◌, ◌<◌};
 ghost use Rattle.bundle.specs.Limits.{limits};
 ghost use Rattle.bundle.specs.Bundle.{Step, link_of, step_of, step_field};
@@ -68,7 +70,7 @@ pub fn step_carries(
 }
 
 // A link that a walk has read: its item, its next, and how many links the walk has read with it.
-#[derive(Drop)]
+#[derive(Clone, Copy)]
 struct Taken {
     value: usize,
     next: usize,

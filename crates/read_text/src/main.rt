@@ -1,5 +1,6 @@
 // The program read: reads declarations of up to 65,536 bytes from the file that its argument names and a formula's text of up to 1,048,576 bytes on standard
 // input, and writes the job to standard output. What is refused gets lines on standard error that say why and where, and nothing on standard output.
+#![tactic(auto)]
 
 use bundle::Bundle;
 use expansion::Answer;

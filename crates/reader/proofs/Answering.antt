@@ -130,7 +130,7 @@ module _ {f : List ℕ} {out words sets : ℕ} {c : Counts} (declared : Declared
 
     pub copied-ready : length w ≡ words → Ready w c
     copied-ready long = record {
-      room = record { within = declared-whole.within; long = omega (arith, areas-long.scratch, long) };
+      room = record { within = declared_whole.within; long = omega (arith, areas_long.scratch, long) };
       version = ap (λ (k : Counts). k.version) declared.counted ∙ formed.header.version;
     }
 
@@ -244,5 +244,5 @@ module _ {f : List ℕ} {φ : Formula} {w : List ℕ} {d : Counts} {t : ℕ} (h 
   stored_read {out} s lo lw ls n size stored =
       let B : Bundle = job_of (filed_for (bundle_of f) φ) in
       let size_is : n ≡ length (file_of B) = size ∙ ap bytes_of h.counts ∙ sym (file_length B) in
-      let room : n ≤ length out = omega (arith, size, within_words d held-ready.room.within, (areas_long s.declared).output) in
+      let room : n ≤ length out = omega (arith, size, within_words d held_ready.room.within, (areas_long s.declared).output) in
       stored_written lo lw ls B n (written s h.holds.within) size_is room (rw size stored ∙ file_is)

@@ -1,4 +1,6 @@
 // THE PUBLIC READER of formula texts beside declarations.
+#![tactic(auto)]
+
 pub mod checks; // checks.rt: the checks of the declarations, before the text is read
 pub mod texts; // texts.rt: what refuses a text before its records are placed
 pub mod jobs; // jobs.rt: the job of a text, stored

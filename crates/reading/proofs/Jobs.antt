@@ -80,9 +80,9 @@ module _ (f text : List ℕ) (φ : Formula) (d : DeclarationsFormed f) (r : Read
   pub not_deep : FitsLimits (bundle_of f) φ → depth (plain (bundle_of f) φ) ≤ limits.terms
   not_deep fit =
       let p : PlacedTerm = filed_for (bundle_of f) φ in
-      let low = depth_below p.bundle job-filed.placed.checked.formed.tables p.term job-filed.placed.is-term in
-      let same : depth (tree p.bundle p.term) ≡ depth (plain (bundle_of f) φ) = ap depth job-filed.placed.stands in
-      omega (arith, low, same, job-filed.placed.is-term.1, fit.terms)
+      let low = depth_below p.bundle job_filed.placed.checked.formed.tables p.term job_filed.placed.is-term in
+      let same : depth (tree p.bundle p.term) ≡ depth (plain (bundle_of f) φ) = ap depth job_filed.placed.stands in
+      omega (arith, low, same, job_filed.placed.is-term.1, fit.terms)
 
   -- ---- the job's file
 
@@ -98,14 +98,14 @@ module _ (f text : List ℕ) (φ : Formula) (d : DeclarationsFormed f) (r : Read
 
     job_small : SmallBundle (job_of (filed_for (bundle_of f) φ))
     job_small = record {
-      version = placed-small.bundle.version;
-      symbols = placed-small.bundle.symbols;
-      variables = placed-small.bundle.variables;
-      terms = placed-small.bundle.terms;
-      links = placed-small.bundle.links;
-      contexts = placed-small.bundle.contexts;
-      steps = placed-small.bundle.steps;
-      left = placed-small.term;
+      version = placed_small.bundle.version;
+      symbols = placed_small.bundle.symbols;
+      variables = placed_small.bundle.variables;
+      terms = placed_small.bundle.terms;
+      links = placed_small.bundle.links;
+      contexts = placed_small.bundle.contexts;
+      steps = placed_small.bundle.steps;
+      left = placed_small.term;
       right = omega arith;
     }
 
@@ -115,7 +115,7 @@ module _ (f text : List ℕ) (φ : Formula) (d : DeclarationsFormed f) (r : Read
         let j : Bundle = job_of (filed_for (bundle_of f) φ) in
         record {
           long = omega (arith, file_length j);
-          version = rw (file-counts j fit job_small) (job-filed.longer.version ∙ declared_version f d);
+          version = rw (file-counts j fit job_small) (job_filed.longer.version ∙ declared_version f d);
           whole = file-whole j fit job_small;
         }
 
@@ -135,18 +135,18 @@ module _ (f text : List ℕ) (φ : Formula) (d : DeclarationsFormed f) (r : Read
     job-bundle =
         let q : PlacedTerm = filed_for (bundle_of f) φ in
         let same : SameDeclared (bundle_of f) q.bundle = file-declares (plain (bundle_of f) φ) (bundle_of f) in
-        let all : Checked (claiming q.bundle q.term 0) = claiming_checked q.bundle q.term 0 job-filed.placed.checked in
+        let all : Checked (claiming q.bundle q.term 0) = claiming_checked q.bundle q.term 0 job_filed.placed.checked in
         record {
           tables = all.formed.tables;
           contexts = same.contexts ∙ d.contexts;
           steps = same.steps ∙ d.steps;
           right = refl;
-          left = job-filed.placed.is-term;
+          left = job_filed.placed.is-term;
           stands =
-              tree_kept job-longer job-filed.placed.checked.formed.tables q.term job-filed.placed.is-term.1 ∙ job-filed.placed.stands;
+              tree_kept job-longer job_filed.placed.checked.formed.tables q.term job_filed.placed.is-term.1 ∙ job_filed.placed.stands;
           symbols = same.symbols;
           variables = same.variables;
-          longer = longer_trans job-filed.longer job-longer;
+          longer = longer_trans job_filed.longer job-longer;
         }
 
     pub job-well : ReadWell f φ (file_of (job_of (filed_for (bundle_of f) φ)))

@@ -123,12 +123,12 @@ module _ (b : Bundle) (w : List ℕ) where
   as_exactly either = (λ e. there (or_cases (ltb 0 (variable_called b w)) (ltb 0 (symbol_called b w)) e), back)
     where
       there : (ltb 0 (variable_called b w) ≡ true) ⊎ (ltb 0 (symbol_called b w) ≡ true) → DeclaredAs b either w
-      there (inl e) = inl (variable-exactly.0 e)
-      there (inr e) = inr (symbol-exactly.0 e)
+      there (inl e) = inl (variable_exactly.0 e)
+      there (inr e) = inr (symbol_exactly.0 e)
 
       back : DeclaredAs b either w → (ltb 0 (variable_called b w) || ltb 0 (symbol_called b w)) ≡ true
-      back (inl h) = or_left (ltb 0 (variable_called b w)) (ltb 0 (symbol_called b w)) (variable-exactly.1 h)
-      back (inr h) = or_right (ltb 0 (variable_called b w)) (ltb 0 (symbol_called b w)) (symbol-exactly.1 h)
+      back (inl h) = or_left (ltb 0 (variable_called b w)) (ltb 0 (symbol_called b w)) (variable_exactly.1 h)
+      back (inr h) = or_right (ltb 0 (variable_called b w)) (ltb 0 (symbol_called b w)) (symbol_exactly.1 h)
   as_exactly symbolOnly = symbol_exactly
   as_exactly variableOnly = variable_exactly
 

@@ -1,8 +1,10 @@
 // The five rules as tests on a step's words, over what lent memory holds.
+#![tactic(auto)]
+
 pub mod rules; // rules.rt: REFL, CONG, TRANS, BIND, LET
 
 // The words of a step.
-#[derive(Drop)]
+#[derive(Clone, Copy)]
 pub struct StepWords {
     pub rule: usize,
     pub context: usize,
@@ -13,7 +15,7 @@ pub struct StepWords {
 
 // What a step's walk takes beside its premises: the context in which they carry the terms of one list to those of another, and whether one more is left
 // over for a let's body. `good` says whether the rest of what the rule asks for is there.
-#[derive(Drop)]
+#[derive(Clone, Copy)]
 pub struct Lists {
     pub good: bool,
     pub body: bool,

@@ -1,4 +1,6 @@
 // The scan of a text: 19 and 20, for texts of any length and nesting.
+#![tactic(auto)]
+
 pub mod tables; // tables.rt: what may follow where
 pub mod runs; // runs.rt: blanks and runs of symbol characters
 pub mod words; // words.rt: one word

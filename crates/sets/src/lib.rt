@@ -1,4 +1,6 @@
 // Sets of variables in lent words, for any number of words a set. Laws of membership are in proofs/Members.antt.
+#![tactic(auto)]
+
 ghost use Rattle.std.specs.Prelude.{◌≡◌, ◌&&◌, ◌+◌, ◌^◌, ◌≤◌, ◌<◌, length};
 ghost use Rattle.sets.specs.Sets.{bit_at, with_bit, without_bit, member, inserted, removed, cleared, united, copied, disjoint_of, subset_of, LeastBit};
 

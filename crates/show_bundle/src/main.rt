@@ -1,5 +1,7 @@
 // The program show: reads a bundle of up to 65,536 bytes on standard input and prints it as text that can be read, and what the checker says of it.
 // With the argument --dot it prints its steps as a graph, for Graphviz; the rest is comments there. With --rule it prints the formula of its left alone.
+#![tactic(auto)]
+
 ghost use Rattle.bundle.specs.File.{Whole};
 
 use bundle::Bundle;

@@ -43,7 +43,7 @@ pub const CAPTURE: usize = 8;
 pub const SPENT: usize = 9;
 
 // Why two terms differ, and the variable or term that the reason is about, else 0.
-#[derive(Drop)]
+#[derive(Clone, Copy)]
 pub struct Reason {
     pub number: usize,
     pub about: usize,

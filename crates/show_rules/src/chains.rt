@@ -60,7 +60,7 @@ fn above(file: &[u8], b: Bundle, c: usize) -> usize
 }
 
 // How many entries a context has, and its last, whose parent is the empty context; 0 and 0 for the empty one.
-#[derive(Drop)]
+#[derive(Clone, Copy)]
 pub struct Chain {
     pub entries: usize,
     pub last: usize,

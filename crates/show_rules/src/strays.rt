@@ -30,7 +30,7 @@ fn stray_in(file: &[u8], b: Bundle, area: &[u64], context: usize, t: usize) -> u
 }
 
 // A stray variable, or 0; the side that it is free in; and the nearest entry that replaces by a term in which it is free, or 0.
-#[derive(Drop)]
+#[derive(Clone, Copy)]
 pub struct Stray {
     pub variable: usize,
     pub term: usize,

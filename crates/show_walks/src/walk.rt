@@ -17,7 +17,7 @@ use show_pairs::{pairs, path};
 const TURNS: usize = 3 * PAIR_LIMIT + 3;
 
 // Where a walk ends: a pair, and why.
-#[derive(Drop)]
+#[derive(Clone, Copy)]
 pub struct Difference {
     pub left: usize,
     pub right: usize,
@@ -26,7 +26,7 @@ pub struct Difference {
 }
 
 // What comes next: a pair to visit, or none where left is 0; or a difference, by its number.
-#[derive(Drop)]
+#[derive(Clone, Copy)]
 struct Turn {
     left: usize,
     right: usize,

@@ -1,3 +1,5 @@
 // Sorts: of symbols, of terms, and of the lists that check 8 compares; and what is noted so that no list is walked twice.
+#![tactic(auto)]
+
 pub mod sorts; // sorts.rt: signatures and sorts
 pub mod notes; // notes.rt: what is noted of every list and term, for 7 to 9

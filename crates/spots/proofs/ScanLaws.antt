@@ -133,13 +133,13 @@ module _ (known : Name → Bool) (text a : List ℕ) (p : Where) (i : ℕ) (h : 
   now_sound = stands_sound known text a p i h.held h.stands
 
   pub scanning_low : p.spot < 20
-  scanning_low = now-sound.low
+  scanning_low = now_sound.low
 
   pub scanning_fits : (p.height ≤ length a) × (p.base + p.height ≤ i)
-  scanning_fits = let d = h.stands.window.depth in let n = now-sound.depth in (h.stands.window.fits, omega (arith, d, n))
+  scanning_fits = let d = h.stands.window.depth in let n = now_sound.depth in (h.stands.window.fits, omega (arith, d, n))
 
   pub scanning_some : (c : ℕ) → c ≡ cell p.spot 1 → c < 99 → 0 < p.base + p.height
-  scanning_some c is lc = go (closes_some p.spot scanning_low ok h.held now-sound.nested)
+  scanning_some c is lc = go (closes_some p.spot scanning_low ok h.held now_sound.nested)
     where
       ok : cell p.spot 1 ≡ 99 → ⊥
       ok e = omega (arith, is, lc)

@@ -1,14 +1,15 @@
 // Types of the scan of a text. What may follow where, and the laws that the code of crate scanning rests on, are in specs/ and proofs/.
+#![tactic(auto)]
 
 // The verdict on a text: 0 read; 19 unread or 20 unknown, at a byte.
-#[derive(Drop)]
+#[derive(Clone, Copy)]
 pub struct Verdict {
     pub number: usize,
     pub byte: usize,
 }
 
 // What a word gives: 0 and the spot after it, or 19 or 20 and the byte.
-#[derive(Drop)]
+#[derive(Clone, Copy)]
 pub struct Met {
     pub number: usize,
     pub byte: usize,
@@ -16,7 +17,7 @@ pub struct Met {
 }
 
 // Where a scan stands: its spot, and how many spots the area holds for the last open brackets; `base` brackets are around these.
-#[derive(Drop)]
+#[derive(Clone, Copy)]
 pub struct Place {
     pub spot: usize,
     pub height: usize,
@@ -24,7 +25,7 @@ pub struct Place {
 }
 
 // What a lexeme gives: 0, the first byte of the next one and the place after it, or 19 or 20 and the byte.
-#[derive(Drop)]
+#[derive(Clone, Copy)]
 pub struct Turn {
     pub number: usize,
     pub byte: usize,
@@ -33,7 +34,7 @@ pub struct Turn {
 }
 
 // Where the second scan stands: the first byte of the next lexeme, how many brackets are open, and what it takes the spot for.
-#[derive(Drop)]
+#[derive(Clone, Copy)]
 pub struct Guess {
     pub next: usize,
     pub depth: usize,

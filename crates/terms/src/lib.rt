@@ -1,5 +1,7 @@
 // The checks 7 to 9, and all of 1 to 9, on the lent file in place. `tables_fault` is for a caller with raw bytes; the other functions ask for `Whole`,
 // counts within limits and length exact.
+#![tactic(auto)]
+
 ghost use Rattle.std.specs.Prelude.{◌≡◌};
 ghost use Rattle.bundle.specs.File.{Whole, bundle_at};
 ghost use Rattle.logic.specs.Checks.{sections_fault, tables_fault};

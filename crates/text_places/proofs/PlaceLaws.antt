@@ -54,7 +54,7 @@ module _ (text : List ℕ) (at line start j : ℕ) (h : Counted text at line sta
         inside = omega arith;
         is_line = rw q (ap suc h.is_line);
         is_start = rw q refl;
-        few_lines = omega (arith, h.fewLines);
+        few_lines = omega (arith, h.few_lines);
         early = omega arith;
       })
 
@@ -65,8 +65,8 @@ module _ (text : List ℕ) (at line start j : ℕ) (h : Counted text at line sta
       rw (add-one j) (record {
         inside = omega arith;
         is_line = rw q h.is_line;
-        is_start = rw q h.isStart;
-        few_lines = omega (arith, h.fewLines);
+        is_start = rw q h.is_start;
+        few_lines = omega (arith, h.few_lines);
         early = omega (arith, h.early);
       })
 
@@ -81,8 +81,8 @@ counted_all text at line start j h l =
     let q : j ≡ at = omega (arith, h.inside) in
     record {
       is_line = h.is_line ∙ ap (line_of text) q;
-      is_column = ap (λ x. at - x + 1) (h.isStart ∙ ap (start_of text) q);
-      is_start = h.isStart ∙ ap (start_of text) q;
+      is_column = ap (λ x. at - x + 1) (h.is_start ∙ ap (start_of text) q);
+      is_start = h.is_start ∙ ap (start_of text) q;
       early = omega (arith, h.early);
     }
 

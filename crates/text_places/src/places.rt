@@ -3,7 +3,7 @@ ghost use Rattle.std.specs.Prelude.{◌≡◌, ◌≤◌, ◌<◌, length};
 ghost use Rattle.text_places.specs.Places.{ends_line, line_of, column_of, start_of, LineEnds, is_space, ContentEnds};
 
 // Lines and columns count from 1; `start` is the line's first byte.
-#[derive(Drop)]
+#[derive(Clone, Copy)]
 pub struct Place {
     pub line: usize,
     pub column: usize,

@@ -1,4 +1,6 @@
 // What a refusal says on standard error: a line with the numbers and what they mean; for a refused byte also its line and column, the text's line and a mark.
+#![tactic(auto)]
+
 ghost use Rattle.std.specs.Prelude.{◌+◌, ◌≤◌, ◌<◌, length};
 
 use bundle::Bundle;

@@ -76,7 +76,7 @@ module _ {b : Bundle} {m : ℕ} {w v : List ℕ} {n t at k a y z : ℕ} (ready :
         record {
           kept = kept_trans w v (inserted v at n a) n at none.kept
               (record { long = changed_length with_bit v at n a; others = λ j out. changed_out with_bit v at n a j out });
-          members = λ x. rw (ready.variables, known) (member_inserted v at n a ready-room.room has-bit x ∙ rw (empty x) (or-false (eqb x a)));
+          members = λ x. rw (ready.variables, known) (member_inserted v at n a ready_room.room has-bit x ∙ rw (empty x) (or-false (eqb x a)));
         },
       )
 

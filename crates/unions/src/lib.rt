@@ -1,6 +1,8 @@
 // Unions of the free sets of lists, n words each. A list's first links are united one by one, and so are those of the rest that no list has had before.
 // What lists share is united once for all of them: `lists` has, for each link that is known, the union of the sets of the list that starts there, at
 // word n * link; `marks` says which links were met, and which are known.
+#![tactic(auto)]
+
 ghost use Rattle.std.specs.Prelude.{◌≡◌, ◌⊎◌, ◌||◌, ◌+◌, ◌*◌, ◌-◌, ◌≤◌, ◌<◌, length};
 ghost use Rattle.bundle.specs.Links.{items};
 ghost use Rattle.bundle.specs.Lists.{numbers};

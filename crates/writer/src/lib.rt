@@ -1,4 +1,6 @@
 // THE PUBLIC EXPANSION: the lets of a job's rule expanded, with the derivation.
+#![tactic(auto)]
+
 pub mod jobs; // jobs.rt: the checks of a job after 1 to 9
 
 ghost use Rattle.std.specs.Prelude.{length};

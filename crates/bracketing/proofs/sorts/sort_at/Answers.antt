@@ -1,0 +1,46 @@
+-- `sorts::sort_at` meets its contract. The invariant: the sort is that of the formula here. The measure is what is left of the text.
+use native.Mathlib.Omega.{arith}
+use Prim.Native.Nat.{◌-◌}
+use mathlib.Core.Path.{refl}
+use Rattle.bracketing.proofs.Fronts.{lies}
+use Rattle.bracketing.proofs.SortPlaces.{sorting_word, sorting-result, sorting-let, sorting-further}
+use Rattle.bracketing.proofs.sorts.sort_at.Goals as goal
+
+pub loop-b-init : goal.loop-b-init
+loop-b-init c = record { inside = c.requires.1; same = refl }
+
+pub next_lexeme-l-requires : goal.next_lexeme-l-requires
+next_lexeme-l-requires c = c.loop-b.invariant.inside
+
+pub sort_here-requires : goal.sort_here-requires
+sort_here-requires c =
+    (c.requires.0, lies _ _ c.next_lexeme-l.result c.next_lexeme-l.ensures)
+
+pub returns-then-l-ne0 : goal.returns-then-l-ne0
+returns-then-l-ne0 c =
+    sorting_word c.loop-b.invariant c.next_lexeme-l.ensures c.if-l-ne0.true c.sort_here.ensures
+
+pub next_lexeme-h-requires : goal.next_lexeme-h-requires
+next_lexeme-h-requires c = c.next_lexeme-l.ensures.inside
+
+pub result_here-requires : goal.result_here-requires
+result_here-requires c =
+    (c.requires.0, lies _ _ c.next_lexeme-h.result c.next_lexeme-h.ensures)
+
+pub returns-then-h-ne7 : goal.returns-then-h-ne7
+returns-then-h-ne7 c =
+    sorting-result c.loop-b.invariant c.next_lexeme-l.ensures c.if-l-ne0.false c.next_lexeme-h.ensures c.if-h-ne7.true
+    c.result_here.ensures
+
+pub after_formula-at-requires : goal.after_formula-at-requires
+after_formula-at-requires c = c.next_lexeme-h.ensures.inside
+
+pub loop-b-smaller : goal.loop-b-smaller
+loop-b-smaller c =
+    let r = c.after_formula-at.ensures in
+    omega (arith, r.inside, sorting-further c.loop-b.invariant c.next_lexeme-l.ensures c.if-l-ne0.false c.next_lexeme-h.ensures r)
+
+pub loop-b-preserved : goal.loop-b-preserved
+loop-b-preserved c =
+    sorting-let c.loop-b.invariant c.next_lexeme-l.ensures c.if-l-ne0.false c.next_lexeme-h.ensures c.if-h-ne7.false
+    c.after_formula-at.ensures

@@ -1,0 +1,11 @@
+-- `records::term_field` meets its contract: `term_is`, with the section's start as `terms_at` gives it.
+use mathlib.Core.Path.{sym, ◌∙◌}
+use Rattle.bundle.specs.Words.{word_at}
+use Rattle.bundle.proofs.Fields.{term_is}
+use Rattle.bundle.proofs.records.term_field.Goals as goal
+
+pub returns : goal.returns
+returns c =
+    let a = c.args in
+    (rw c.terms_at.ensures.0 at c.field.ensures)
+    ∙ sym (term_is (word_at a.file.now) a.b a.b a.i a.k c.requires.1)

@@ -1,0 +1,186 @@
+-- `known::enter` meets its contract: what is found in the parent, with what the entry says over it, is what is found in the context.
+use native.Mathlib.Omega.{arith}
+use mathlib.Core.Path.{◌≡◌, refl, sym, ◌∙◌}
+use Prim.Native.Nat.{◌≤◌, ◌<◌}
+use Rattle.bundle.specs.File.{bundle_at}
+use mathlib.Core.Bool.{true}
+use Rattle.bundle.specs.Links.{items}
+use Rattle.bundle.specs.Lists.{numbers, each, different}
+use Rattle.bundle.proofs.Fields.{variables_length, terms_length}
+use Rattle.logic.specs.Contexts.{as_image, moved_by}
+use Rattle.logic.proofs.Found.{found_fixes, found_replaces}
+use Rattle.images.specs.ContextRows.{as_mention}
+use Rattle.logic.proofs.EntryFacts.{lower_parent, fixes_number, replaces_kind, replaces_lists}
+use Rattle.images.proofs.ContextRows.{room_on, agrees_copied, images-on, sets-on}
+use Rattle.images.proofs.known.enter.Goals as goal
+
+pub inherit-requires : goal.inherit-requires
+inherit-requires c =
+    let a = c.args in
+    let b = bundle_at a.file.now a.b in (
+      c.requires.0,
+      c.requires.3,
+      rw c.context_field-parent.ensures
+          (lower_parent b a.k c.requires.5),
+    )
+
+pub set_image-requires : goal.set_image-requires
+unfolding moved_by as_image as_mention
+set_image-requires c =
+    let a = c.args in
+    let b = bundle_at a.file.now a.b in
+    let i = c.inherit in
+    let v = variables_length a.file.now a.b in
+    let low : c.context_field-parent.result < a.k =
+    rw c.context_field-parent.ensures
+    (lower_parent b a.k
+    c.requires.5) in
+    let f = fixes_number b a.k
+    c.requires.5
+    (rw (← c.context_field-kind.ensures)
+    c.if-kind-eq-FIXES.true) in
+    let one : 1 ≤ c.context_field-first.result =
+    rw c.context_field-first.ensures f.0 in
+    let few : c.context_field-first.result ≤ a.b.variables =
+    rw c.context_field-first.ensures
+    (omega (arith, f.1, v)) in (
+      c.requires.0,
+      room_on b a.images.now a.scopes.now i.new.images i.new.scopes a.n a.k i.ensures.0
+          c.requires.3,
+      one,
+      few,
+      c.requires.4,
+      omega arith,
+      omega arith,
+      refl,
+      agrees_copied b a.images.now a.scopes.now i.new.images i.new.scopes a.n a.k
+          c.context_field-parent.result low
+          c.requires.1
+          c.requires.2
+          i.ensures.1 i.ensures.2,
+    )
+
+pub replace-requires : goal.replace-requires
+replace-requires c =
+    let a = c.args in
+    let b = bundle_at a.file.now a.b in
+    let i = c.inherit in
+    let low : c.context_field-parent.result < a.k =
+    rw c.context_field-parent.ensures
+    (lower_parent b a.k
+    c.requires.5) in
+    let kind =
+    replaces_kind b a.k
+    c.requires.5
+    (λ e. c.if-kind-eq-FIXES.false
+    (c.context_field-kind.ensures ∙ e)) in
+    let f = replaces_lists b a.k
+    c.requires.5
+    kind in
+    let vs : each (numbers a.b.variables)
+    (items b c.context_field-first.result) ≡ true =
+    rw c.context_field-first.ensures
+    (rw (variables_length a.file.now a.b) at f.0) in
+    let ts : each (numbers a.b.terms)
+    (items b c.context_field-second.result) ≡ true =
+    rw c.context_field-second.ensures
+    (rw (terms_length a.file.now a.b) at f.1) in
+    let ds : different (items b c.context_field-first.result)
+    ≡ true = rw c.context_field-first.ensures f.2 in (
+      c.requires.0,
+      room_on b a.images.now a.scopes.now i.new.images i.new.scopes a.n a.k i.ensures.0
+          c.requires.3,
+      c.requires.4,
+      vs,
+      ts,
+      ds,
+      agrees_copied b a.images.now a.scopes.now i.new.images i.new.scopes a.n a.k
+          c.context_field-parent.result low
+          c.requires.1
+          c.requires.2
+          i.ensures.1 i.ensures.2,
+    )
+
+pub returns-then-kind-eq-FIXES : goal.returns-then-kind-eq-FIXES
+unfolding as_mention
+returns-then-kind-eq-FIXES c =
+    let a = c.args in
+    let b = bundle_at a.file.now a.b in
+    let i = c.inherit in
+    let s = c.set_image in
+    let p = c.context_field-parent in
+    let low : p.result < a.k =
+    rw p.ensures
+    (lower_parent b a.k
+    c.requires.5) in (
+      s.ensures.lower.long-row ∙ i.ensures.0.long-row,
+      s.ensures.lower.long-set ∙ i.ensures.0.long-set,
+      images-on b a.images.now a.scopes.now i.new.images i.new.scopes a.n a.k p.result low
+          c.requires.1
+          c.requires.2 i.ensures.1 s.new.images s.new.scopes
+          c.requires.3 i.ensures.0 _ s.ensures
+          (λ x. rw (
+            p.ensures,
+            c.context_field-first.ensures,
+          )
+          (sym (found_fixes b a.k
+          (rw (← c.context_field-kind.ensures) c.if-kind-eq-FIXES.true)
+          (lower_parent b a.k
+          c.requires.5) x))),
+      sets-on b a.images.now a.scopes.now i.new.images i.new.scopes a.n a.k p.result low
+          c.requires.1
+          c.requires.2 i.ensures.1 s.new.images s.new.scopes
+          c.requires.3 i.ensures.0 _ s.ensures
+          (λ x. rw (
+            p.ensures,
+            c.context_field-first.ensures,
+          )
+          (sym (found_fixes b a.k
+          (rw (← c.context_field-kind.ensures) c.if-kind-eq-FIXES.true)
+          (lower_parent b a.k
+          c.requires.5) x))),
+    )
+
+pub returns-else-kind-eq-FIXES : goal.returns-else-kind-eq-FIXES
+returns-else-kind-eq-FIXES c =
+    let a = c.args in
+    let b = bundle_at a.file.now a.b in
+    let i = c.inherit in
+    let s = c.replace in
+    let p = c.context_field-parent in
+    let low : p.result < a.k =
+    rw p.ensures
+    (lower_parent b a.k
+    c.requires.5) in
+    let kind =
+    replaces_kind b a.k
+    c.requires.5
+    (λ e. c.if-kind-eq-FIXES.false
+    (c.context_field-kind.ensures ∙ e)) in (
+      s.ensures.lower.long-row ∙ i.ensures.0.long-row,
+      s.ensures.lower.long-set ∙ i.ensures.0.long-set,
+      images-on b a.images.now a.scopes.now i.new.images i.new.scopes a.n a.k p.result low
+          c.requires.1
+          c.requires.2 i.ensures.1 s.new.images s.new.scopes
+          c.requires.3 i.ensures.0 _ s.ensures
+          (λ x. rw (
+            p.ensures,
+            c.context_field-first.ensures,
+            c.context_field-second.ensures,
+          )
+          (sym (found_replaces b a.k kind
+          (lower_parent b a.k
+          c.requires.5) x))),
+      sets-on b a.images.now a.scopes.now i.new.images i.new.scopes a.n a.k p.result low
+          c.requires.1
+          c.requires.2 i.ensures.1 s.new.images s.new.scopes
+          c.requires.3 i.ensures.0 _ s.ensures
+          (λ x. rw (
+            p.ensures,
+            c.context_field-first.ensures,
+            c.context_field-second.ensures,
+          )
+          (sym (found_replaces b a.k kind
+          (lower_parent b a.k
+          c.requires.5) x))),
+    )

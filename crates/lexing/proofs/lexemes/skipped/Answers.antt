@@ -1,0 +1,37 @@
+-- `lexemes::skipped` meets its contract. The invariant: what stands from i on is what stands from j on, between lexemes or in a comment.
+use native.Mathlib.Omega.{arith}
+use Prim.Native.Nat.{◌-◌}
+use mathlib.Core.Path.{◌∙◌}
+use Rattle.lexing.proofs.SkipLaws.{skip_start, skip-on, skip-here, skip_end, skip_index}
+use Rattle.lexing.proofs.lexemes.skipped.Goals as goal
+
+pub loop-j-init : goal.loop-j-init
+loop-j-init c = let a = c.args in skip_start a.text.now a.i c.requires
+
+pub overflow_add-mode : goal.overflow_add-mode
+overflow_add-mode c =
+    let a = c.args in
+    let h = skip_index a.text.now a.i c.loop-j.mode c.loop-j.j c.loop-j.invariant c.class_code-class.result c.class_code-class.ensures in
+    omega (arith, h)
+
+pub skip_mode-requires : goal.skip_mode-requires
+skip_mode-requires c =
+    let a = c.args in
+    skip_index a.text.now a.i c.loop-j.mode c.loop-j.j c.loop-j.invariant c.class_code-class.result c.class_code-class.ensures
+
+pub returns-then-mode-eq2 : goal.returns-then-mode-eq2
+returns-then-mode-eq2 c =
+    let a = c.args in
+    skip-here a.text.now a.i c.loop-j.mode c.loop-j.j c.loop-j.invariant c.loop-j-test.true c.class_code-class.result
+    c.wide-mode.result c.class_code-class.ensures (c.wide-mode.ensures ∙ c.skip_mode.ensures) c.if-mode-eq2.true
+
+pub loop-j-preserved : goal.loop-j-preserved
+loop-j-preserved c =
+    let a = c.args in
+    skip-on a.text.now a.i c.loop-j.mode c.loop-j.j c.loop-j.invariant c.loop-j-test.true c.class_code-class.result
+    c.wide-mode.result c.class_code-class.ensures (c.wide-mode.ensures ∙ c.skip_mode.ensures) c.if-mode-eq2.false
+
+pub returns : goal.returns
+returns c =
+    let a = c.args in
+    skip_end a.text.now a.i c.loop-j.mode c.loop-j.j c.loop-j.invariant c.loop-j-test.false

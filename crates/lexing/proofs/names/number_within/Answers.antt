@@ -1,0 +1,53 @@
+-- `names::number_within` meets its contract. The invariant: the digits so far are read as n, which is not too high.
+use Prim.Native.Nat.{◌-◌}
+use Rattle.lexing.proofs.NumeralLaws as N
+use Rattle.lexing.proofs.names.number_within.Goals as goal
+
+pub returns-then-run-lt2 : goal.returns-then-run-lt2
+returns-then-run-lt2 c = let a = c.args in N.nothing_short a.letter a.low a.high a.run.now c.if-run-lt2.true
+
+pub returns-then-run-letter : goal.returns-then-run-letter
+returns-then-run-letter c = let a = c.args in N.nothing_letter a.letter a.low a.high a.run.now c.if-run-letter.true
+
+pub returns-then-run-eq48 : goal.returns-then-run-eq48
+returns-then-run-eq48 c = let a = c.args in N.nothing_zero a.letter a.low a.high a.run.now c.if-run-eq48.true
+
+pub loop-j-init : goal.loop-j-init
+loop-j-init c =
+    let a = c.args in
+    N.counting_start a.letter a.low a.high a.run.now c.if-run-lt2.false c.if-run-letter.false
+    c.if-run-eq48.false
+
+pub returns-then-c-lt48 : goal.returns-then-c-lt48
+returns-then-c-lt48 c =
+    let a = c.args in
+    N.nothing-below a.letter a.low a.high a.run.now c.loop-j.n c.loop-j.j c.loop-j.invariant c.loop-j-test.true
+    c.wide-c.result c.wide-c.ensures c.if-c-lt48.true
+
+pub returns-then-c-gt57 : goal.returns-then-c-gt57
+returns-then-c-gt57 c =
+    let a = c.args in
+    N.nothing_above a.letter a.low a.high a.run.now c.loop-j.n c.loop-j.j c.loop-j.invariant c.loop-j-test.true
+    c.wide-c.result c.wide-c.ensures c.if-c-gt57.true
+
+pub returns-then-n-high : goal.returns-then-n-high
+returns-then-n-high c =
+    let a = c.args in
+    N.nothing-high a.letter a.low a.high a.run.now c.loop-j.n c.loop-j.j c.loop-j.invariant c.loop-j-test.true
+    c.wide-c.result c.wide-c.ensures c.if-c-lt48.false c.if-c-gt57.false c.if-n-high.true
+
+pub loop-j-preserved : goal.loop-j-preserved
+loop-j-preserved c =
+    let a = c.args in
+    N.counting-on a.letter a.low a.high a.run.now c.loop-j.n c.loop-j.j c.loop-j.invariant c.loop-j-test.true
+    c.wide-c.result c.wide-c.ensures c.if-c-lt48.false c.if-c-gt57.false c.if-n-high.false
+
+pub returns-then-n-low : goal.returns-then-n-low
+returns-then-n-low c =
+    let a = c.args in
+    N.nothing-low a.letter a.low a.high a.run.now c.loop-j.n c.loop-j.j c.loop-j.invariant c.loop-j-test.false c.if-n-low.true
+
+pub returns : goal.returns
+returns c =
+    let a = c.args in
+    N.counted a.letter a.low a.high a.run.now c.loop-j.n c.loop-j.j c.loop-j.invariant c.loop-j-test.false c.if-n-low.false

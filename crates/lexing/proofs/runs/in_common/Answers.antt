@@ -1,0 +1,23 @@
+-- `runs::in_common` meets its contract. The invariant: the bytes so far are in common.
+use Prim.Native.Nat.{◌-◌}
+use Rattle.lexing.proofs.CommonLaws.{shared_start, shared_on, shared_differ, shared_other, shared_run}
+use Rattle.lexing.proofs.runs.in_common.Goals as goal
+
+pub loop-j-init : goal.loop-j-init
+loop-j-init c = shared_start _ _
+
+pub returns-then-j-other : goal.returns-then-j-other
+returns-then-j-other c = shared_other c.args.run.now c.args.other.now c.loop-j.j c.loop-j.invariant c.if-j-other.true
+
+pub returns-then-run-j : goal.returns-then-run-j
+returns-then-run-j c =
+    shared_differ c.args.run.now c.args.other.now c.loop-j.j c.loop-j.invariant
+    c.loop-j-test.true c.if-j-other.false c.if-run-j.true
+
+pub loop-j-preserved : goal.loop-j-preserved
+loop-j-preserved c =
+    shared_on c.args.run.now c.args.other.now c.loop-j.j c.loop-j.invariant
+    c.loop-j-test.true c.if-j-other.false c.if-run-j.false
+
+pub returns : goal.returns
+returns c = shared_run c.args.run.now c.args.other.now c.loop-j.j c.loop-j.invariant c.loop-j-test.false

@@ -1,0 +1,19 @@
+-- `nezkaldo::nezkaldo_read` meets its contract: what `read` leaves, with its answer as one number.
+use native.Mathlib.Omega.{arith}
+use mathlib.Core.Path.{ap, ◌∙◌}
+use Prim.Native.Nat.{◌≤◌}
+use lib.ListN.{length}
+use Rattle.nezkaldo.specs.Packed.{packed_reply}
+use Rattle.nezkaldo.proofs.Exported.{read_fits}
+use Rattle.nezkaldo.proofs.nezkaldo_read.Goals as goal
+
+pub reply_number-requires : goal.reply_number-requires
+reply_number-requires c =
+    let a = c.args in
+    let most : length a.text.now ≤ 9223372036854775807 = omega (arith, c.well-formed.1.0.1) in
+    rw c.read-reply.ensures.answer (read_fits a.declarations.now a.text.now (length a.out.now) (length a.words.now) (length a.sets.now) most)
+
+pub returns : goal.returns
+returns c =
+    let l = c.read-reply.ensures in
+    (c.reply_number.ensures ∙ ap packed_reply l.answer, (l.output, (l.scratch, l.stack)))

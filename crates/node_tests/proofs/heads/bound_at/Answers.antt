@@ -1,0 +1,21 @@
+-- `heads::bound_at` meets its contract.
+use Rattle.node_tests.proofs.HeadLaws.{bound-fits, bound-differs}
+use Rattle.node_tests.proofs.heads.bound_at.Goals as goal
+
+pub returns-then-variable_sort-s : goal.returns-then-variable_sort-s
+returns-then-variable_sort-s c =
+    let a = c.args in
+    let x = c.variable_at-x in
+    let j = c.after_name-j in
+    let s = c.sort_at-s in
+    let u = c.variable_sort in
+    bound-fits a.file.now a.b _ x.result x.ensures u.result u.ensures _ s.result j.ensures.there s.ensures c.if-variable_sort-s.true
+
+pub returns-else-variable_sort-s : goal.returns-else-variable_sort-s
+returns-else-variable_sort-s c =
+    let a = c.args in
+    let x = c.variable_at-x in
+    let j = c.after_name-j in
+    let s = c.sort_at-s in
+    let u = c.variable_sort in
+    bound-differs a.file.now a.b _ x.result x.ensures u.result u.ensures _ s.result j.ensures.there s.ensures c.if-variable_sort-s.false

@@ -1,0 +1,36 @@
+-- `pair_walk` meets its contract: a walk that ends within few pairs ends the same within more.
+use native.Mathlib.Omega.{arith}
+use mathlib.Core.Path.{sym, ◌∙◌}
+use Rattle.bundle.specs.File.{bundle_at}
+use Rattle.images.specs.ContextRows.{image_at}
+use Rattle.images.specs.LentReading.{free_in}
+use Rattle.pair_walk.specs.Agenda.{few_pairs}
+use Rattle.pair_walk.proofs.MorePairs.{same-few, more_same, different-few, more-different}
+use Rattle.pair_walk.proofs.pair_walk.Goals as goal
+
+pub overflow_add-result : goal.overflow_add-result
+overflow_add-result c = let a = c.args in
+    omega (
+      arith,
+      same-few (free_in a.b.terms a.area.now a.n) (image_at a.b.variables a.images.now a.context) (bundle_at a.file.now a.b) a.left [] a.right
+          few_pairs c.in-Same.m (sym c.in-Same.is ∙ c.short_walk-walked.ensures),
+    )
+
+pub overflow_add-result-in-Different : goal.overflow_add-result-in-Different
+overflow_add-result-in-Different c = let a = c.args in
+    omega (
+      arith,
+      different-few (free_in a.b.terms a.area.now a.n) (image_at a.b.variables a.images.now a.context) (bundle_at a.file.now a.b)
+          a.left [] a.right
+          few_pairs c.in-Different.m (sym c.in-Different.is ∙ c.short_walk-walked.ensures),
+    )
+
+pub returns-in-Same : goal.returns-in-Same
+returns-in-Same c = let a = c.args in
+    more_same (free_in a.b.terms a.area.now a.n) (image_at a.b.variables a.images.now a.context) (bundle_at a.file.now a.b) a.left [] a.right
+    few_pairs c.in-Same.m (sym c.in-Same.is ∙ c.short_walk-walked.ensures) 4032
+
+pub returns-in-Different : goal.returns-in-Different
+returns-in-Different c = let a = c.args in
+    more-different (free_in a.b.terms a.area.now a.n) (image_at a.b.variables a.images.now a.context) (bundle_at a.file.now a.b) a.left [] a.right
+    few_pairs c.in-Different.m (sym c.in-Different.is ∙ c.short_walk-walked.ensures) 4032

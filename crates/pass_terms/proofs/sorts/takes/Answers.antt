@@ -1,0 +1,18 @@
+-- `takes` meets its contract, by the cases of the argument sorts.
+use mathlib.Core.Path.{sym}
+use Rattle.logic.specs.Symbols.{argument_sorts}
+use Rattle.pass_terms.proofs.PairSorts.{none_taken}
+use Rattle.pass_terms.proofs.sorts.takes.Goals as goal
+
+pub returns-in-BuiltIn : goal.returns-in-BuiltIn
+unfolding argument_sorts
+returns-in-BuiltIn c = rw c.in-BuiltIn.is c.all_of_sort.ensures
+
+pub returns-in-Declared : goal.returns-in-Declared
+unfolding argument_sorts
+returns-in-Declared c = rw (c.in-Declared.is, ← c.symbol_field-list.ensures) c.sorts_of.ensures
+
+pub returns-in-Unknown : goal.returns-in-Unknown
+unfolding argument_sorts
+returns-in-Unknown c =
+    rw c.in-Unknown.is (sym (none_taken c.args.stack.now c.args.from c.args.to c.requires.1 c.requires.2))

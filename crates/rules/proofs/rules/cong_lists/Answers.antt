@@ -1,0 +1,20 @@
+-- `rules::cong_lists` meets its contract: a straight line of reads, in the definition's order.
+use mathlib.Core.Path.{refl}
+use Rattle.logic.specs.Tests.{passed}
+use Rattle.rules.proofs.rules.cong_lists.Goals as goal
+
+pub returns : goal.returns
+unfolding passed
+returns c =
+    record {
+      good = rw (
+        ← c.term_field-left_kind.ensures,
+        ← c.term_field-right_kind.ensures,
+        ← c.term_field-left_symbol.ensures,
+        ← c.term_field-right_symbol.ensures,
+      );
+      body = refl;
+      context = refl;
+      lefts = c.term_field-lefts.ensures;
+      rights = c.term_field-rights.ensures;
+    }

@@ -1,0 +1,12 @@
+-- `contexts::beside` is safe and ends: the list that is left of the variables gets shorter.
+use Prim.Native.Nat.{◌≤◌}
+use lib.ListN.{length}
+use Rattle.bundle.specs.Links.{items}
+use Rattle.bundle.specs.File.{bundle_at}
+use Rattle.show_pairs.proofs.contexts.beside.Given as goal
+
+abbrev pub invariant-loop-i : goal.invariant-loop-i
+invariant-loop-i l = l.i ≤ l.b.links
+
+abbrev pub decreases-loop-i : goal.decreases-loop-i
+decreases-loop-i l = length (items (bundle_at l.file l.b) l.i)

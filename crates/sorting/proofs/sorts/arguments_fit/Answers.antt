@@ -1,0 +1,28 @@
+-- `sorts::arguments_fit` meets its contract, by the cases of the argument sorts.
+use mathlib.Core.Path.{refl, sym}
+use Rattle.logic.specs.Symbols.{argument_sorts}
+use Rattle.bundle.proofs.Walks.{walk_start, walk_start_le}
+use Rattle.sorting.proofs.SortLists.{ended}
+use Rattle.sorting.proofs.sorts.arguments_fit.Goals as goal
+
+pub returns-in-BuiltIn : goal.returns-in-BuiltIn
+unfolding argument_sorts
+returns-in-BuiltIn c = (rw c.in-BuiltIn.is c.all_of_sort.ensures, λ e. c.requires.2)
+
+pub returns-in-Declared : goal.returns-in-Declared
+unfolding argument_sorts
+returns-in-Declared c = (
+  rw (c.in-Declared.is, ← c.symbol_field-list.ensures)
+      c.same_sorts.ensures.0,
+  c.same_sorts.ensures.1,
+)
+
+pub returns-in-Unknown : goal.returns-in-Unknown
+unfolding argument_sorts
+returns-in-Unknown c =
+    let a = c.args in
+    let r = c.first_link in (
+      rw (c.in-Unknown.is, walk_start a.file.now a.b a.terms r.result r.ensures)
+          (sym (ended a.file.now a.b refl (walk_start_le a.file.now a.b a.terms r.result r.ensures))),
+      λ e. c.requires.2,
+    )

@@ -1,0 +1,9 @@
+-- `terms::small_fault` meets its contract: the arrays are zero at first and large enough.
+use native.Mathlib.Omega.{arith}
+use Rattle.bundle.proofs.LinkNotes.{zeros}
+use Rattle.terms.proofs.terms.small_fault.Goals as goal
+
+pub noted_fault-requires : goal.noted_fault-requires
+noted_fault-requires c =
+    let p = c.requires in
+    (p.0, p.1, omega (arith, p.3), zeros 512, omega (arith, p.3), zeros 512, omega (arith, p.2), zeros 256)
