@@ -1,6 +1,5 @@
 -- `walk` meets its contract. The invariant: the pair, counted already, and then what is left to do on the agenda, is the whole walk. The measure is the pairs
 use native.Mathlib.Omega.{arith}
-use borrow.Author.Tests.{not-true, not-false}
 use mathlib.Core.Path.{refl, ◌∙◌}
 use Rattle.bundle.specs.File.{bundle_at}
 use Rattle.logic.specs.ReflWalk.{within_by}
@@ -42,7 +41,7 @@ returns-then-not-pair_meets c = let a = c.args in
     visit-differs (free_in a.b.terms a.area.now a.n) (image_at a.b.variables a.images.now a.context) a.file.now a.b a.n a.most (within_by (free_in a.b.terms a.area.now a.n) (image_at a.b.variables a.images.now a.context) (bundle_at a.file.now a.b) a.left []
     a.right a.most)
     l.agenda l.places l.bound l.l l.r l.height l.depth l.spare l.invariant.0 (c.pair_meets.ensures (crossed_by (frames l.agenda l.height)) l.invariant.0.held.crossing.placed)
-    (not-true c.pair_meets.result c.if-not-pair_meets.true)
+    c.if-not-pair_meets.true
 
 pub open-opened-requires : goal.open-opened-requires
 open-opened-requires c = let a = c.args in
@@ -51,7 +50,7 @@ open-opened-requires c = let a = c.args in
     a.right a.most)
     l.agenda l.places l.bound l.l l.r l.height l.depth l.spare l.invariant.0 (c.pair_meets.ensures (crossed_by (frames
     l.agenda l.height)) l.invariant.0.held.crossing.placed)
-    (not-false c.pair_meets.result c.if-not-pair_meets.false) in
+    c.if-not-pair_meets.false in
     (c.requires.0, known.0, known.1)
 
 pub next-turn-requires : goal.next-turn-requires
@@ -63,7 +62,7 @@ next-turn-requires c = let a = c.args in
       opened-held (free_in a.b.terms a.area.now a.n) (image_at a.b.variables a.images.now a.context) a.file.now a.b a.n a.most (within_by (free_in a.b.terms a.area.now a.n) (image_at a.b.variables a.images.now a.context) (bundle_at a.file.now a.b) a.left []
           a.right a.most)
           l.agenda l.places l.bound l.l l.r l.height l.depth l.spare l.invariant.0 (c.pair_meets.ensures (crossed_by (frames l.agenda l.height)) l.invariant.0.held.crossing.placed)
-          (not-false c.pair_meets.result c.if-not-pair_meets.false) o.new.agenda o.result o.ensures.0 o.ensures.2,
+          c.if-not-pair_meets.false o.new.agenda o.result o.ensures.0 o.ensures.2,
       omega (arith, o.ensures.1, l.invariant.0.room),
       h.7,
       h.3,
@@ -89,7 +88,7 @@ returns-in-Ended c = let a = c.args in
     (opened-whole (free_in a.b.terms a.area.now a.n) (image_at a.b.variables a.images.now a.context) a.file.now a.b a.n a.most (within_by (free_in a.b.terms a.area.now a.n) (image_at a.b.variables a.images.now a.context) (bundle_at a.file.now a.b) a.left []
     a.right a.most)
     l.agenda l.places l.bound l.l l.r l.height l.depth l.spare l.inv.0 (c.pair_meets.ensures (crossed_by (frames l.agenda l.height)) l.inv.0.held.crossing.placed)
-    (not-false c.pair_meets.result c.if-not-pair_meets.false) o.new.agenda o.result o.ensures.0 o.ensures.2) in
+    c.if-not-pair_meets.false o.new.agenda o.result o.ensures.0 o.ensures.2) in
     u
 
 pub loop-b-smaller : goal.loop-b-smaller
@@ -104,7 +103,7 @@ loop-b-smaller c = let a = c.args in
     (opened-whole (free_in a.b.terms a.area.now a.n) (image_at a.b.variables a.images.now a.context) a.file.now a.b a.n a.most (within_by (free_in a.b.terms a.area.now a.n) (image_at a.b.variables a.images.now a.context) (bundle_at a.file.now a.b) a.left []
     a.right a.most)
     l.agenda l.places l.bound l.l l.r l.height l.depth l.spare l.inv.0 (c.pair_meets.ensures (crossed_by (frames l.agenda l.height)) l.inv.0.held.crossing.placed)
-    (not-false c.pair_meets.result c.if-not-pair_meets.false) o.new.agenda o.result o.ensures.0 o.ensures.2) in
+    c.if-not-pair_meets.false o.new.agenda o.result o.ensures.0 o.ensures.2) in
     omega (arith, u.1)
 
 pub loop-b-preserved : goal.loop-b-preserved
@@ -119,5 +118,5 @@ loop-b-preserved c = let a = c.args in
     (opened-whole (free_in a.b.terms a.area.now a.n) (image_at a.b.variables a.images.now a.context) a.file.now a.b a.n a.most (within_by (free_in a.b.terms a.area.now a.n) (image_at a.b.variables a.images.now a.context) (bundle_at a.file.now a.b) a.left []
     a.right a.most)
     l.agenda l.places l.bound l.l l.r l.height l.depth l.spare l.inv.0 (c.pair_meets.ensures (crossed_by (frames l.agenda l.height)) l.inv.0.held.crossing.placed)
-    (not-false c.pair_meets.result c.if-not-pair_meets.false) o.new.agenda o.result o.ensures.0 o.ensures.2) in
+    c.if-not-pair_meets.false o.new.agenda o.result o.ensures.0 o.ensures.2) in
     (u.0, t.auto.places ∙ l.inv.1, t.auto.bound ∙ l.inv.2, t.auto.agenda ∙ o.ensures.0 ∙ l.inv.3)

@@ -1,6 +1,5 @@
 -- `end_walk` meets its contract: a list has ended, so nothing more is read but a premise for a body.
 use native.Mathlib.Omega.{arith}
-use borrow.Author.Tests.{not-true, not-false}
 use Rattle.bundle.proofs.Walks.{next_is}
 use Rattle.premises.proofs.Premises.{walk_short, end_plain, end_missing, end_body, in_all}
 use Rattle.premises.proofs.end_walk.Goals as goal
@@ -18,13 +17,13 @@ returns-then-not-body c step x =
     let a = c.args in
     let h = c.requires in
     in_all a.read a.read 0
-    (end_plain a.file.now a.b step x a.i a.j a.k c.if-i-j.false (not-true a.body c.if-not-body.true) h.3)
+    (end_plain a.file.now a.b step x a.i a.j a.k c.if-i-j.false c.if-not-body.true h.3)
     (omega arith)
 
 pub returns-then-k-eq0 : goal.returns-then-k-eq0
 returns-then-k-eq0 c step x =
     let a = c.args in
-    let body = not-false a.body c.if-not-body.false in
+    let body = c.if-not-body.false in
     in_all a.read a.read 0
     (end_missing a.file.now a.b step x a.i a.j a.k c.if-i-j.false body c.if-k-eq0.true)
     (omega arith)
@@ -33,7 +32,7 @@ pub returns : goal.returns
 returns c step x =
     let a = c.args in
     let h = c.requires in
-    let body = not-false a.body c.if-not-body.false in
+    let body = c.if-not-body.false in
     let t = c.take-last in
     let r = c.followed-more in
     in_all a.read t.result.read 1

@@ -4,7 +4,7 @@ use Prim.Native.Nat.{◌-◌}
 use mathlib.Core.Path.{sym, ◌∙◌}
 use mathlib.Core.Bool.{◌||◌}
 use lib.Dec.{eqb}
-use borrow.Author.Tests.{eqb-false, not-true, not-false}
+use borrow.Author.Tests.{eqb-false}
 use Rattle.bundle.specs.File.{bundle_at}
 use Rattle.bundle.proofs.Walks.{walk_start_le, walk_le, next_is, next_on, or_none}
 use Rattle.images.specs.LentReading.{step_in}
@@ -85,7 +85,7 @@ returns-then-not-step_carries c =
     let s = c.step_carries in
     position_fails a.file.now a.b (step_in (bundle_at a.file.now a.b) a.bed.now) a.body a.context l.i l.j l.k l.read
     l.invariant.0 l.invariant.1 l.invariant.3 i.ensures.0 j.ensures.0 k.ensures.0 s.ensures
-    (three_more l.read i.ensures.2 j.ensures.2 k.ensures.2) (not-true s.result c.if-not-step_carries.true)
+    (three_more l.read i.ensures.2 j.ensures.2 k.ensures.2) c.if-not-step_carries.true
 
 pub loop-b-smaller : goal.loop-b-smaller
 loop-b-smaller c =
@@ -116,7 +116,7 @@ loop-b-preserved c =
       )
           (position_passes a.file.now a.b (step_in (bundle_at a.file.now a.b) a.bed.now) a.body a.context l.i l.j l.k
           l.read l.invariant.0 l.invariant.1 l.invariant.3 i.ensures.0 j.ensures.0 k.ensures.0 s.ensures
-          (three_more l.read i.ensures.2 j.ensures.2 k.ensures.2) (not-false s.result c.if-not-step_carries.false)),
+          (three_more l.read i.ensures.2 j.ensures.2 k.ensures.2) c.if-not-step_carries.false),
     )
 
 pub end_walk-requires-else-i-next_left : goal.end_walk-requires-else-i-next_left
@@ -155,4 +155,4 @@ returns-else-i-next_left c =
     ) at (c.end_walk-else-i-next_left.ensures step a.context))
     ∙ sym (position_passes a.file.now a.b step a.body a.context l.i l.j l.k l.read l.invariant.0 l.invariant.1 l.invariant.3
     i.ensures.0 j.ensures.0 k.ensures.0 s.ensures (three_more l.read i.ensures.2 j.ensures.2 k.ensures.2)
-    (not-false s.result c.if-not-step_carries.false))
+    c.if-not-step_carries.false)

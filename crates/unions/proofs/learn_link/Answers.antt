@@ -62,7 +62,7 @@ overflow_sub-term c =
     let low : numbers (c.args.t - 1)
     c.link_field-term.result ≡ true =
     sym c.is_lower.ensures
-    ∙ not-false c.is_lower.result c.if-not-is_lower.false in
+    ∙ c.if-not-is_lower.false in
     (numbers_of_lem (c.args.t - 1)
     c.link_field-term.result low).0
 
@@ -71,7 +71,7 @@ overflow_mul-n-2 c =
     let a = c.args in
     let low : numbers (a.t - 1) c.link_field-term.result ≡ true =
     sym c.is_lower.ensures
-    ∙ not-false c.is_lower.result c.if-not-is_lower.false in
+    ∙ c.if-not-is_lower.false in
     let p = numbers_of_lem (a.t - 1) c.link_field-term.result low in
     let fits : a.n * (c.link_field-term.result - 1) + a.n ≤ a.n * (a.t - 1) =
     record_within a.n (a.t - 1) c.link_field-term.result
@@ -116,7 +116,7 @@ join-requires c =
     ) in
     let low : numbers (a.t - 1) c.link_field-term.result ≡ true =
     sym c.is_lower.ensures
-    ∙ not-false c.is_lower.result c.if-not-is_lower.false in
+    ∙ c.if-not-is_lower.false in
     let p = numbers_of_lem (a.t - 1) c.link_field-term.result low in
     let fits : a.n * (c.link_field-term.result - 1) + a.n ≤ a.n * (a.t - 1) =
     record_within a.n (a.t - 1) c.link_field-term.result
@@ -167,7 +167,7 @@ returns c =
     c.if-not-is_lower.false in
     let then : known a.marks.now c.next_link-next.result
     ≡ true = sym c.is_known.ensures
-    ∙ not-false c.is_known.result c.if-not-is_known.false in (
+    ∙ c.if-not-is_known.false in (
       c.if-before-k.false,
       unions-learnt a.area.now a.lists.now a.marks.now a.n a.t a.k
           c.link_field-term.result

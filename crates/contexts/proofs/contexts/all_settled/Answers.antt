@@ -1,7 +1,6 @@
 -- `contexts::all_settled` meets its contract. The invariant: each term of the list is settled where each of what is left is.
 use native.Mathlib.Omega.{arith}
 use mathlib.Core.Path.{◌∙◌}
-use borrow.Author.Tests.{not-true, not-false}
 use Rattle.bundle.specs.Lists.{each}
 use Rattle.bundle.proofs.Walks.{walk_start, walk_start_le, walk_le, walk_nil, walk_cons, walk_some, walk_length}
 use Rattle.images.proofs.ReadingRight.{free_long, settled-right}
@@ -41,7 +40,7 @@ returns-then-not-is_settled c =
       ← (c.is_settled.ensures ∙ settled-right a.file.now a.b a.area.now a.n p.1
           (λ j. omega (arith, c.type_inv.area j)) a.scopes.now a.context
           c.link_field-t.result p.2),
-      not-true c.is_settled.result c.if-not-is_settled.true,
+      c.if-not-is_settled.true,
     )
 
 pub next_link-i-requires : goal.next_link-i-requires
@@ -73,7 +72,7 @@ loop-i-preserved c =
         ← (c.is_settled.ensures ∙ settled-right a.file.now a.b a.area.now a.n p.1
             (λ j. omega (arith, c.type_inv.area j)) a.scopes.now a.context
             t.result p.2),
-        not-false c.is_settled.result c.if-not-is_settled.false,
+        c.if-not-is_settled.false,
       ),
     )
 

@@ -1,29 +1,28 @@
 -- `contexts::context_fault` meets its contract: what is wrong is the first of the two tests that fails.
-use borrow.Author.Tests.{not-true, not-false}
 use mathlib.Core.Path.{sym, ◌∙◌}
 use Rattle.logic.specs.Contexts.{context_fault}
 use Rattle.contexts.proofs.contexts.context_fault.Goals as goal
 
 pub returns-then-not-context_refers : goal.returns-then-not-context_refers
 unfolding context_fault
-returns-then-not-context_refers c = rw (← c.context_refers.ensures, not-true c.context_refers.result c.if-not-context_refers.true)
+returns-then-not-context_refers c = rw (← c.context_refers.ensures, c.if-not-context_refers.true)
 
 pub replacements_settled-requires : goal.replacements_settled-requires
 replacements_settled-requires c =
     let p = c.requires in
     let r = c.context_refers in
-    (p.0, p.2, p.3, sym r.ensures ∙ not-false r.result c.if-not-context_refers.false)
+    (p.0, p.2, p.3, sym r.ensures ∙ c.if-not-context_refers.false)
 
 pub returns-then-not-replacements_settled : goal.returns-then-not-replacements_settled
 unfolding context_fault
 returns-then-not-replacements_settled c =
     let r = c.context_refers in
     let s = c.replacements_settled in
-    rw (← r.ensures, not-false r.result c.if-not-context_refers.false, ← s.ensures, not-true s.result c.if-not-replacements_settled.true)
+    rw (← r.ensures, c.if-not-context_refers.false, ← s.ensures, c.if-not-replacements_settled.true)
 
 pub returns : goal.returns
 unfolding context_fault
 returns c =
     let r = c.context_refers in
     let s = c.replacements_settled in
-    rw (← r.ensures, not-false r.result c.if-not-context_refers.false, ← s.ensures, not-false s.result c.if-not-replacements_settled.false)
+    rw (← r.ensures, c.if-not-context_refers.false, ← s.ensures, c.if-not-replacements_settled.false)

@@ -1,5 +1,4 @@
 -- `records::all_sorts_meet` meets its contract. The invariant: the two lists meet where what is left of them does.
-use borrow.Author.Tests.{not-true, not-false}
 use native.Mathlib.Omega.{arith}
 use mathlib.Core.Path.{sym}
 use Rattle.bundle.proofs.Walks.{walk_start, walk_start_le, walk_le, walk_nil, walk_cons, walk_some, walk_length}
@@ -38,7 +37,7 @@ returns-then-not-sorts_meet c =
       walk_some a.file.now a.b l.i c.loop-i-test.true l.invariant.0,
       walk_some a.file.now a.b l.j c.if-j-eq0.false l.invariant.1,
     )
-    (rw (← c.link_field-x.ensures, ← c.link_field-y.ensures, ← s.ensures, not-true s.result c.if-not-sorts_meet.true))
+    (rw (← c.link_field-x.ensures, ← c.link_field-y.ensures, ← s.ensures, c.if-not-sorts_meet.true))
 
 pub next_link-i-requires : goal.next_link-i-requires
 next_link-i-requires c = c.requires
@@ -73,7 +72,7 @@ loop-i-preserved c =
         walk_cons a.file.now a.b l.i x.result n.result i.true l.invariant.0 x.ensures n.ensures,
         walk_cons a.file.now a.b l.j y.result o.result j.false l.invariant.1 y.ensures o.ensures,
       )
-          (rw (← s.ensures, not-false s.result c.if-not-sorts_meet.false)),
+          (rw (← s.ensures, c.if-not-sorts_meet.false)),
     )
 
 pub returns : goal.returns

@@ -1,6 +1,5 @@
 -- `variables::variable_meets` meets its contract: bound on the left, or free there.
 use native.Mathlib.Omega.{arith}
-use borrow.Author.Tests.{not-true, not-false}
 use Rattle.bundle.specs.File.{bundle_at}
 use Rattle.logic.specs.ReflWalk.{rights}
 use Rattle.images.specs.ContextRows.{image_at}
@@ -28,7 +27,7 @@ returns-then-not-good c ps known =
     image-differs (free_in a.b.terms a.area.now a.n) (image_at a.b.variables a.images.now a.context)
     (bundle_at a.file.now a.b) ps a.x a.r
     (place.ensures a.n a.bound.now ps known) c.if-place-ne0.false image.ensures good.ensures
-    (not-true good.result c.if-not-good.true)
+    c.if-not-good.true
 
 pub returns : goal.returns
 returns c ps known =
@@ -39,6 +38,6 @@ returns c ps known =
     free-meets (free_in a.b.terms a.area.now a.n) (image_at a.b.variables a.images.now a.context)
     (bundle_at a.file.now a.b) ps a.x a.r
     (place.ensures a.n a.bound.now ps known) c.if-place-ne0.false image.ensures good.ensures
-    (not-false good.result c.if-not-good.false)
+    c.if-not-good.false
     (no_captures a.b.terms a.area.now a.bound.now a.n a.r (rights ps) known.bound
     (λ k. omega (arith, c.type_inv.area k)) c.is_settled.ensures)

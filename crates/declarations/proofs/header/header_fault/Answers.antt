@@ -1,5 +1,5 @@
 -- `header::header_fault` meets its contract: at each `return` the tests that led there say which test of `header_fault` is the first that fails.
-use borrow.Author.Tests.{eq-eqb, ne_eqb, le-leb, lt-leb, not-true, not-false}
+use borrow.Author.Tests.{eq-eqb, ne_eqb, le-leb, lt-leb, not-false}
 use mathlib.Core.Path.{◌≡◌, sym, ◌∙◌}
 use mathlib.Core.Bool.{cond}
 use lib.ListN.{length}
@@ -42,10 +42,10 @@ returns-then-b-ne1 c =
 
 pub returns-then-not-within : goal.returns-then-not-within
 returns-then-not-within c =
-    rw (by_counts u, le-leb _ _ c.if-file-lt-LEAST.false, eq-eqb _ _ c.if-b-ne1.false, ← c.within.ensures, not-true c.within.result c.if-not-within.true)
+    rw (by_counts u, le-leb _ _ c.if-file-lt-LEAST.false, eq-eqb _ _ c.if-b-ne1.false, ← c.within.ensures, c.if-not-within.true)
 
 pub bytes-requires : goal.bytes-requires
-bytes-requires c = within_all _ (sym c.within.ensures ∙ not-false c.within.result c.if-not-within.false)
+bytes-requires c = within_all _ (sym c.within.ensures ∙ c.if-not-within.false)
 
 pub returns-then-file-bytes : goal.returns-then-file-bytes
 returns-then-file-bytes c = rw (past_within c, ne_eqb _ _ c.if-file-bytes.true)

@@ -1,5 +1,4 @@
 -- `records::all_sorts` meets its contract. The invariant: the list has only sorts where what is left of it has.
-use borrow.Author.Tests.{not-true, not-false}
 use native.Mathlib.Omega.{arith}
 use Rattle.bundle.specs.Lists.{each}
 use Rattle.bundle.proofs.Walks.{walk_start, walk_start_le, walk_le, walk_nil, walk_cons, walk_some, walk_length}
@@ -22,7 +21,7 @@ returns-then-not-is_sort c =
       walk_some a.file.now a.b l.i c.loop-i-test.true l.invariant.0,
       ← c.link_field-s.ensures,
       ← c.is_sort.ensures,
-      not-true c.is_sort.result c.if-not-is_sort.true,
+      c.if-not-is_sort.true,
     )
 
 pub next_link-i-requires : goal.next_link-i-requires
@@ -46,7 +45,7 @@ loop-i-preserved c =
         l.invariant.1,
         walk_cons a.file.now a.b l.i x.result r.result c.loop-i-test.true l.invariant.0 x.ensures r.ensures,
         ← c.is_sort.ensures,
-        not-false c.is_sort.result c.if-not-is_sort.false,
+        c.if-not-is_sort.false,
       ),
     )
 

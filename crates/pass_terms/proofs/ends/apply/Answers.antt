@@ -1,5 +1,4 @@
 -- `apply` meets its contract.
-use borrow.Author.Tests.{not-false}
 use native.Mathlib.Omega.{arith}
 use mathlib.Core.Path.{refl}
 use mathlib.Core.Bool.{true, false}
@@ -53,7 +52,7 @@ returns c =
         end = (z.ended ne).0;
         kept = pair_kept z ne;
         takes = takes-accepts a.file.now d a.symbol g (halves false a.stack.now a.from a.to) t.ensures
-            (not-false t.result c.if-not-takes.false);
+            c.if-not-takes.false;
         put = pair_put a.file.now a.words.now a.counts.now k.ensures (λ (B : Bundle). place_application B a.symbol ts)
             (application_keeps a.symbol ts) p.ensures.1 p.ensures.2 z ne
             (result_as a.file.now d a.symbol g c.result_sort-sort.ensures);

@@ -1,5 +1,4 @@
 -- `checks::declarations_fault` meets its contract: each test is that of `declarations_fault`, in its order.
-use borrow.Author.Tests.{not-true, not-false}
 use mathlib.Core.Path.{◌≡◌, sym, ◌∙◌}
 use Rattle.bundle.specs.File.{Whole}
 use Rattle.logic.specs.Checks.{header_fault}
@@ -46,11 +45,11 @@ returns-then-not-is_declarations c =
     let a = c.args in
     not-bare a.file.now a.out a.words a.sets (none n) _ c.counts-b.ensures _ c.sections_fault-early.ensures
     c.if-early-ne0.false c.is_declarations.result c.is_declarations.ensures
-    (not-true c.is_declarations.result c.if-not-is_declarations.true)
+    c.if-not-is_declarations.true
 
 pub returns : goal.returns
 returns c =
     let a = c.args in
     c.no_fault.ensures
     ∙ all_hold a.file.now a.out a.words a.sets (none n) _ c.counts-b.ensures _ c.sections_fault-early.ensures
-    c.if-early-ne0.false c.is_declarations.result c.is_declarations.ensures (not-false c.is_declarations.result c.if-not-is_declarations.false)
+    c.if-early-ne0.false c.is_declarations.result c.is_declarations.ensures c.if-not-is_declarations.false

@@ -1,5 +1,4 @@
 -- `texts::text_fault` meets its contract: the verdict of the scan, then that of the sorts.
-use borrow.Author.Tests.{not-true, not-false}
 use mathlib.Core.Path.{◌≡◌, sym, ap, ◌∙◌}
 use mathlib.Core.Bool.{Bool, cond}
 use native.Mathlib.Omega.{arith}
@@ -35,10 +34,10 @@ text_fine-requires c = c.requires.0
 pub returns-then-not-text_fine : goal.returns-then-not-text_fine
 returns-then-not-text_fine c =
     let p = c.text_fine.result in
-    ap (λ (q : Bool). cond q (fault 0 0) (fault 8 0)) (sym (not-true p c.if-not-text_fine.true)) ∙ sorts c
+    ap (λ (q : Bool). cond q (fault 0 0) (fault 8 0)) (sym c.if-not-text_fine.true) ∙ sorts c
 
 pub returns : goal.returns
 returns c =
     let p = c.text_fine.result in
     c.no_fault.ensures
-    ∙ ap (λ (q : Bool). cond q (fault 0 0) (fault 8 0)) (sym (not-false p c.if-not-text_fine.false)) ∙ sorts c
+    ∙ ap (λ (q : Bool). cond q (fault 0 0) (fault 8 0)) (sym c.if-not-text_fine.false) ∙ sorts c

@@ -1,6 +1,5 @@
 -- `runs::lexeme_from` meets its contract. The invariant: so far there are blanks alone.
 use Prim.Native.Nat.{◌-◌}
-use borrow.Author.Tests.{not-true, not-false}
 use Rattle.spots.proofs.RunLaws.{skipping_start, skipping_end, skipping-found, skipping-on}
 use Rattle.scanning.proofs.runs.lexeme_from.Reads as reads
 use Rattle.scanning.proofs.runs.lexeme_from.Lts as lts
@@ -15,12 +14,12 @@ loop-j-init c = skipping_start _ _ c.requires
 pub returns-then-not-comment-class : goal.returns-then-not-comment-class
 returns-then-not-comment-class c =
     skipping-found _ _ c.loop-j.j _ c.loop-j.invariant c.loop-j-test.true _ c.class_code-class.ensures
-    (not-true _ c.if-not-comment-class.true)
+    c.if-not-comment-class.true
 
 -- src/runs.rt:17:5
 pub loop-j-preserved : goal.loop-j-preserved
 loop-j-preserved c =
-    skipping-on _ _ c.loop-j.j _ c.loop-j.invariant c.loop-j-test.true _ c.class_code-class.ensures (not-false _ c.if-not-comment-class.false)
+    skipping-on _ _ c.loop-j.j _ c.loop-j.invariant c.loop-j-test.true _ c.class_code-class.ensures c.if-not-comment-class.false
 
 -- src/runs.rt:11:1
 pub returns : goal.returns

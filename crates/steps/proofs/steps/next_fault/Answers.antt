@@ -1,7 +1,6 @@
 -- `steps::next_fault` meets its contract: the walks over the premises, and then the rule.
 use native.Mathlib.Omega.{arith}
 use mathlib.Core.Path.{sym, refl, ◌∙◌}
-use borrow.Author.Tests.{not-true, not-false}
 use Rattle.bundle.specs.File.{bundle_at}
 use Rattle.bundle.proofs.Fields.{contexts_length, terms_length}
 use Rattle.rules.specs.StepWords.{as_step}
@@ -14,7 +13,7 @@ pub returns-then-not-step_refers : goal.returns-then-not-step_refers
 returns-then-not-step_refers c =
     let r = c.step_refers in
     after_refers _ _ _ _ _ refl _ c.all_numbers-before.ensures _ c.unwalked.ensures
-    (sym r.ensures ∙ not-true r.result c.if-not-step_refers.true)
+    (sym r.ensures ∙ c.if-not-step_refers.true)
 
 pub scoped_fault-requires : goal.scoped_fault-requires
 scoped_fault-requires c =
@@ -23,7 +22,7 @@ scoped_fault-requires c =
     let b = bundle_at a.file.now a.b in
     let e = c.all_numbers-before in
     let r = c.step_refers in
-    let refers = sym r.ensures ∙ not-false r.result c.if-not-step_refers.false in
+    let refers = sym r.ensures ∙ c.if-not-step_refers.false in
     let left = refers_left b (as_step a.s) e.result refers in
     let right = refers_right b (as_step a.s) e.result refers in
     let terms = terms_length a.file.now a.b in (
@@ -45,4 +44,4 @@ returns c =
     let e = c.all_numbers-before in
     let r = c.step_refers in
     after_rule g b (as_step a.s) a.taken (as_step a.s) refl e.result e.ensures _
-    (sym r.ensures ∙ not-false r.result c.if-not-step_refers.false) c.scoped_fault.ensures
+    (sym r.ensures ∙ c.if-not-step_refers.false) c.scoped_fault.ensures

@@ -1,6 +1,5 @@
 -- `steps::rule_fault` meets its contract: a REFL is judged by itself, of another rule the first of the tests that fails.
 use mathlib.Core.Path.{refl}
-use borrow.Author.Tests.{not-true, not-false}
 use Rattle.bundle.specs.File.{bundle_at}
 use Rattle.rules.specs.StepWords.{as_step}
 use Rattle.images.specs.LentReading.{reading_in}
@@ -24,7 +23,7 @@ returns-then-not-step_matches c =
     let g = reading_in a.file.now a.b a.area.now a.n a.images.now a.scopes.now a.bed.now in
     let m = c.step_matches in
     other_judged g b (as_step a.s) _ 13 c.if-rule-eq-REFL.false c.unwalked.ensures
-    (rw (← m.ensures g refl, not-true m.result c.if-not-step_matches.true))
+    (rw (← m.ensures g refl, c.if-not-step_matches.true))
 
 pub step_sides-requires : goal.step_sides-requires
 step_sides-requires c = c.requires
@@ -38,7 +37,7 @@ returns-then-not-step_sides c =
     let m = c.step_matches in
     let s = c.step_sides in
     other_judged g b (as_step a.s) _ 14 c.if-rule-eq-REFL.false c.unwalked-then-not-step_sides.ensures
-    (rw (← m.ensures g refl, not-false m.result c.if-not-step_matches.false, ← s.ensures, not-true s.result c.if-not-step_sides.true))
+    (rw (← m.ensures g refl, c.if-not-step_matches.false, ← s.ensures, c.if-not-step_sides.true))
 
 pub returns : goal.returns
 unfolding reading_in
@@ -49,4 +48,4 @@ returns c =
     let m = c.step_matches in
     let s = c.step_sides in
     other_judged g b (as_step a.s) _ 0 c.if-rule-eq-REFL.false c.unwalked-2.ensures
-    (rw (← m.ensures g refl, not-false m.result c.if-not-step_matches.false, ← s.ensures, not-false s.result c.if-not-step_sides.false))
+    (rw (← m.ensures g refl, c.if-not-step_matches.false, ← s.ensures, c.if-not-step_sides.false))

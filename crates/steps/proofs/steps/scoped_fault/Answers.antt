@@ -1,7 +1,6 @@
 -- `steps::scoped_fault` meets its contract: 22, then the rest.
 use Prim.Native.Nat.{◌*◌}
 use mathlib.Core.Path.{◌∙◌}
-use borrow.Author.Tests.{not-true, not-false}
 use Rattle.bundle.specs.File.{bundle_at}
 use Rattle.rules.specs.StepWords.{as_step}
 use Rattle.images.specs.LentReading.{reading_in}
@@ -22,7 +21,7 @@ returns-then-not-both_in_scope c =
     let g = reading_in a.file.now a.b a.area.now a.n a.images.now a.scopes.now a.bed.now in
     let read = scope_read a.file.now a.b a.area.now a.n a.images.now a.scopes.now a.bed.now (as_step a.s) c.requires.2 in
     stray_judged g b (as_step a.s) _ (c.both_in_scope.ensures ∙ read) c.unwalked.ensures
-    (not-true c.both_in_scope.result c.if-not-both_in_scope.true)
+    c.if-not-both_in_scope.true
 
 pub returns : goal.returns
 returns c =
@@ -30,5 +29,5 @@ returns c =
     let b = bundle_at a.file.now a.b in
     let g = reading_in a.file.now a.b a.area.now a.n a.images.now a.scopes.now a.bed.now in
     let read = scope_read a.file.now a.b a.area.now a.n a.images.now a.scopes.now a.bed.now (as_step a.s) c.requires.2 in
-    in_scope_judged g b (as_step a.s) _ (c.both_in_scope.ensures ∙ read) (not-false c.both_in_scope.result c.if-not-both_in_scope.false)
+    in_scope_judged g b (as_step a.s) _ (c.both_in_scope.ensures ∙ read) c.if-not-both_in_scope.false
     c.rule_fault.ensures

@@ -2,7 +2,6 @@
 use native.Mathlib.Omega.{arith}
 use Prim.Native.Nat.{◌-◌}
 use mathlib.Core.Path.{◌≡◌, refl, sym, ap, ◌∙◌}
-use borrow.Author.Tests.{not-true, not-false}
 use Rattle.bundle.specs.Links.{items}
 use Rattle.bundle.specs.Lists.{numbers, each}
 use Rattle.bundle.specs.File.{bundle_at}
@@ -31,7 +30,7 @@ returns-then-not-step_refers c =
     let r = c.step_refers in
     let v = c.unwalked-then-not-step_refers in record {
       fact = after_refers _ _ _ _ _ c.record_words-s.ensures _ c.far_lower-before.ensures.0 _ v.ensures
-          (sym r.ensures ∙ not-true r.result c.if-not-step_refers.true);
+          (sym r.ensures ∙ c.if-not-step_refers.true);
       lower_noted = (λ z. absurd (let n : v.result.number ≡ 12 = ap (λ (x : Verdict). x.number) v.ensures in omega (arith, n, z)));
     }
 
@@ -43,7 +42,7 @@ scoped_fault-requires c =
     let s = c.record_words-s in
     let e = c.far_lower-before in
     let r = c.step_refers in
-    let refers = sym r.ensures ∙ not-false r.result c.if-not-step_refers.false in
+    let refers = sym r.ensures ∙ c.if-not-step_refers.false in
     let left = refers_left b (as_step s.result) e.result refers in
     let right = refers_right b (as_step s.result) e.result refers in
     let terms = terms_length a.file.now a.b in (
@@ -65,7 +64,7 @@ returns c =
     let s = c.record_words-s in
     let e = c.far_lower-before in
     let r = c.step_refers in
-    let refers = sym r.ensures ∙ not-false r.result c.if-not-step_refers.false in record {
+    let refers = sym r.ensures ∙ c.if-not-step_refers.false in record {
       fact = after_rule g b (as_step s.result) _ _ s.ensures e.result e.ensures.0 _ refers c.scoped_fault.ensures;
       lower_noted = (λ z. e.ensures.1 (refers_earlier b (as_step s.result) e.result refers));
     }

@@ -2,7 +2,6 @@
 use native.Mathlib.Omega.{arith}
 use mathlib.Core.Path.{sym, ◌∙◌}
 use mathlib.Core.Logic.{inl, inr}
-use borrow.Author.Tests.{not-true, not-false}
 use Rattle.bundle.specs.File.{bundle_at}
 use Rattle.bundle.proofs.Fields.{contexts_length, terms_length, links_length}
 use Rattle.rules.specs.StepWords.{as_step}
@@ -42,7 +41,7 @@ returns-then-premises-links c =
 pub returns-then-not-earlier : goal.returns-then-not-earlier
 returns-then-not-earlier c =
     let a = c.args in
-    sym (earlier_not (bundle_at a.file.now a.b) (as_step a.s) a.earlier (not-true a.earlier c.if-not-earlier.true))
+    sym (earlier_not (bundle_at a.file.now a.b) (as_step a.s) a.earlier c.if-not-earlier.true)
 
 pub returns : goal.returns
 returns c =
@@ -51,4 +50,4 @@ returns c =
     ∙ count_left (bundle_at a.file.now a.b) (as_step a.s) a.earlier (omega (arith, contexts_length a.file.now a.b, c.if-context-contexts.false)) (omega (arith, c.if-left-eq0.false))
     (omega (arith, terms_length a.file.now a.b, c.if-left-terms.false)) (omega (arith, c.if-right-eq0.false))
     (omega (arith, terms_length a.file.now a.b, c.if-right-terms.false)) (omega (arith, links_length a.file.now a.b, c.if-premises-links.false))
-    (not-false a.earlier c.if-not-earlier.false)
+    c.if-not-earlier.false

@@ -1,5 +1,4 @@
 -- `terms::term_fault` meets its contract: what is wrong is the first of the three tests that fails, and each `return` knows which that is.
-use borrow.Author.Tests.{not-true, not-false}
 use native.Mathlib.Omega.{arith}
 use Prim.Native.Nat.{ℕ}
 use mathlib.Core.Path.{◌≡◌}
@@ -28,7 +27,7 @@ pub returns-then-not-term_refers : goal.returns-then-not-term_refers
 returns-then-not-term_refers c =
     let q = c.term_refers in
     (
-      rw (told _ _ (as_term c.args.w) c.requires.fact.5, ← q.ensures.0, not-true q.result c.if-not-term_refers.true),
+      rw (told _ _ (as_term c.args.w) c.requires.fact.5, ← q.ensures.0, c.if-not-term_refers.true),
       λ e. absurd (omega (arith, e)),
     )
 
@@ -47,9 +46,9 @@ returns-then-not-term_sorted c =
       rw (
         told _ _ (as_term c.args.w) c.requires.fact.5,
         ← q.ensures.0,
-        not-false q.result c.if-not-term_refers.false,
+        c.if-not-term_refers.false,
         ← fit.ensures.0,
-        not-true fit.result c.if-not-term_sorted.true,
+        c.if-not-term_sorted.true,
       ),
       λ e. absurd (omega (arith, e)),
     )
@@ -67,8 +66,8 @@ pub returns-then-not-is_new : goal.returns-then-not-is_new
 returns-then-not-is_new c =
     let q = c.term_refers in
     let fit = c.term_sorted in
-    let referring = not-false q.result c.if-not-term_refers.false in
-    let fitting = not-false fit.result c.if-not-term_sorted.false in (
+    let referring = c.if-not-term_refers.false in
+    let fitting = c.if-not-term_sorted.false in (
       rw (
         told _ _ (as_term c.args.w) c.requires.fact.5,
         ← q.ensures.0,
@@ -76,7 +75,7 @@ returns-then-not-is_new c =
         ← fit.ensures.0,
         fitting,
         ← c.is_new.ensures,
-        not-true c.is_new.result c.if-not-is_new.true,
+        c.if-not-is_new.true,
       ),
       λ e. absurd (omega (arith, e)),
     )
@@ -85,8 +84,8 @@ pub returns : goal.returns
 returns c =
     let q = c.term_refers in
     let fit = c.term_sorted in
-    let referring = not-false q.result c.if-not-term_refers.false in
-    let fitting = not-false fit.result c.if-not-term_sorted.false in (
+    let referring = c.if-not-term_refers.false in
+    let fitting = c.if-not-term_sorted.false in (
       rw (
         told _ _ (as_term c.args.w) c.requires.fact.5,
         ← q.ensures.0,
@@ -94,7 +93,7 @@ returns c =
         ← fit.ensures.0,
         fitting,
         ← c.is_new.ensures,
-        not-false c.is_new.result c.if-not-is_new.false,
+        c.if-not-is_new.false,
       ),
       λ e. (q.ensures.1 referring, fit.ensures.1 fitting),
     )
