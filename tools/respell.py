@@ -70,6 +70,25 @@ def declared(text):
     return found
 
 
+def fields(text):
+    """The fields of the records that a file of antt declares."""
+    found = set()
+    at = None
+    for line in text.split("\n"):
+        if re.match(r"\s*(?:(?:pub|abbrev|unfoldable) )*record [A-Z]", line):
+            at = len(line) - len(line.lstrip())
+            continue
+        if not line.strip() or line.lstrip().startswith("--"):
+            continue
+        depth = len(line) - len(line.lstrip())
+        if at is not None and depth <= at:
+            at = None
+        m = re.match(r"\s+(?:pub )?([^\s(){}:;,.]+) :", line)
+        if at is not None and depth == at + 2 and m and wants(m.group(1)):
+            found.add(m.group(1))
+    return found
+
+
 def declared_all(text):
     """The names in snake case that a file of antt declares, by a signature with its equation below it."""
     found = set()
@@ -110,12 +129,15 @@ def imports(text, names):
     return library, alias
 
 
-def renamed(text, ren, library, alias, rust):
+def renamed(text, ren, library, alias, rust, own_fields=()):
     out = []
     last = 0
     for m in TOKEN.finditer(text):
         n = m.group(0)
         if n not in ren or n in library or (rust and not wants(n)):
+            continue
+        # The field for-all, and not the words of a comment.
+        if n in own_fields and text[text.rfind("\n", 0, m.start()) + 1 :].lstrip().startswith(("--", "//")):
             continue
         i = m.start()
         # A part of a module's path, and no value whose field is named.
@@ -127,7 +149,7 @@ def renamed(text, ren, library, alias, rust):
             while k and not re.match(r"[\s(){},;`]", text[k - 1]):
                 k -= 1
             before = text[k:j]
-            if not (before in alias or before.startswith("Rattle.") or before.split(".")[-1][:1].isupper()):
+            if n not in own_fields and not (before in alias or before.startswith("Rattle.") or before.split(".")[-1][:1].isupper()):
                 continue
         out.append(text[last:i])
         out.append(ren[n])
@@ -139,13 +161,16 @@ def renamed(text, ren, library, alias, rust):
 def main():
     names = crates()
     texts = {}
+    own_fields = set()
     ren, where, every = {}, {}, set()
     for c, part, p in files():
         with open(p, encoding="utf-8") as f:
             texts[p] = (part, f.read())
         every.update(TOKEN.findall(texts[p][1]))
         if part != "src":
-            for n in declared(texts[p][1]):
+            of_records = fields(texts[p][1])
+            own_fields |= of_records
+            for n in declared(texts[p][1]) | of_records:
                 ren[n] = snake(n)
                 where.setdefault(n, []).append(p)
     # A lemma that would have a definition's name gets _lem.
@@ -156,7 +181,7 @@ def main():
     for n in ren:
         beside = any(n in toks and ren[n] in toks for toks in tokens.values())
         if "-" in n and (ren[n] in camel or ren[n] in stood or beside):
-            ren[n] += "_lem"
+            ren[n] += "_lem" * (n not in own_fields)
     # So does one that port.py spelled so before.
     for n in sorted(stood & camel):
         ren[n] = n + "_lem"
@@ -184,7 +209,7 @@ def main():
     changed = 0
     for p, (part, text) in texts.items():
         library, alias = imports(text, names)
-        to = renamed(text, ren, library, alias, p.endswith(".rt"))
+        to = renamed(text, ren, library, alias, p.endswith(".rt"), own_fields)
         if to != text:
             with open(p, "w", encoding="utf-8") as f:
                 f.write(to)

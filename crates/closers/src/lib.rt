@@ -269,10 +269,10 @@ pub fn close_quantifier(
     requires { Ready words.old c × (context ≤ 4294967295) × (term ≤ 4294967295) × (is_binder kind ≡ true) × (kind ≤ 4294967295) × (y ≤ 4294967295)
         × (res ≤ 4294967295)
         × (step ≤ 4294967295) × Indexed (bundle_in words.old c) index.old }
-    ensures* { λ r. ⌜ (length words.new ≡ length words.old)
+    ensures { (length words.new ≡ length words.old)
         × ((q : Binder) → kind ≡ number_of (binder q) → VisitOutcome
-        (close_binder context term q y (record { bundle = bundle_in words.old c; result = res; step = step })) words.new r)
-        × VisitIndexed words.new index.new r ⌝ }
+        (close_binder context term q y (record { bundle = bundle_in words.old c; result = res; step = step })) words.new result)
+        × VisitIndexed words.new index.new result }
 {
     let placed = place_binder(words, c, kind, y, res, index);
     match placed {

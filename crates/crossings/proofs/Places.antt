@@ -37,8 +37,8 @@ places_none variables n k l long words = record {
   left = λ x one few. zero_at k (x - 1);
   right = λ y one few. zero_at k (variables + (y - 1));
   bound = λ y. go y (holds n y);
-  lefts-known = tt;
-  rights-known = tt;
+  lefts_known = tt;
+  rights_known = tt;
 }
   where
     go : (y : ℕ) (p : Bool) → cond p (bit_at (get_or (replicate l 0) (0 + (y - 1) / 64) 0) ((y - 1) % 64)) false ≡ false
@@ -52,13 +52,13 @@ module _ (variables n : ℕ) (w m : List ℕ) (ps : Crossed) (known : Places var
   left_at x one few e = e ∙ known.left x one few
 
   pub left_past : (x : ℕ) → ((1 ≤ x) × (x ≤ variables) → ⊥) → 0 ≡ stamp (lefts ps) x
-  left_past x out = sym (stamp_past variables (lefts ps) known.lefts-known x out)
+  left_past x out = sym (stamp_past variables (lefts ps) known.lefts_known x out)
 
   pub right_at : (y : ℕ) → 1 ≤ y → y ≤ variables → {t : ℕ} → t ≡ get_or w (variables + (y - 1)) 0 → t ≡ stamp (rights ps) y
   right_at y one few e = e ∙ known.right y one few
 
   pub right_past : (y : ℕ) → ((1 ≤ y) × (y ≤ variables) → ⊥) → 0 ≡ stamp (rights ps) y
-  right_past y out = sym (stamp_past variables (rights ps) known.rights-known y out)
+  right_past y out = sym (stamp_past variables (rights ps) known.rights_known y out)
 
 -- ---- places written: s at x on the left, t at y on the right
 
@@ -106,8 +106,8 @@ module _ (variables n : ℕ) (w m : List ℕ) (x s y t : ℕ) (long : variables 
       left = λ z one few. placed_left z one few ∙ rw (known.left z one few, ds, add-one, ← lefts_length ps) refl;
       right = λ z one few. placed_right z one few ∙ rw (known.right z one few, dt, add-one, ← rights_length ps) refl;
       bound = λ z. member_inserted m 0 n y fits held z ∙ ap (λ (p : Bool). eqb z y || p) (known.bound z);
-      lefts-known = ((one-x, few-x), known.lefts-known);
-      rights-known = ((one-y, few-y), known.rights-known);
+      lefts_known = ((one-x, few-x), known.lefts_known);
+      rights_known = ((one-y, few-y), known.rights_known);
     })
 
     -- the set, where y is taken out if it has no place below
@@ -127,8 +127,8 @@ module _ (variables n : ℕ) (w m : List ℕ) (x s y t : ℕ) (long : variables 
       left = λ z one few. placed_left z one few ∙ rw (known.left z one few) (before (lefts ps) x s ds z (ℕ_discrete z x));
       right = λ z one few. placed_right z one few ∙ rw (known.right z one few) (before (rights ps) y t dt z (ℕ_discrete z y));
       bound = λ z. still z (eqb t 0) refl;
-      lefts-known = known.lefts-known.1;
-      rights-known = known.rights-known.1;
+      lefts_known = known.lefts_known.1;
+      rights_known = known.rights_known.1;
     })
       where
         before : (ys : List ℕ) (x s : ℕ) → s ≡ stamp ys x → (z : ℕ) → Dec (z ≡ x)

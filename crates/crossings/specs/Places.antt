@@ -20,5 +20,5 @@ pub record Places (variables n : ℕ) (w m : List ℕ) (ps : Crossed) : Type 0 w
   pub left : (x : ℕ) → 1 ≤ x → x ≤ variables → get_or w (x - 1) 0 ≡ stamp (lefts ps) x
   pub right : (y : ℕ) → 1 ≤ y → y ≤ variables → get_or w (variables + (y - 1)) 0 ≡ stamp (rights ps) y
   pub bound : (y : ℕ) → member m 0 n y ≡ has y (rights ps)
-  pub lefts-known : All (Number variables) (lefts ps)
-  pub rights-known : All (Number variables) (rights ps)
+  pub lefts_known : All (Number variables) (lefts ps)
+  pub rights_known : All (Number variables) (rights ps)

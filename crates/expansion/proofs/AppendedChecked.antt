@@ -76,7 +76,7 @@ module _ {b b' : Bundle} (more : Longer b b') where
       symbols = with_old (SymbolFormed b') (length b.symbols) (length b'.symbols) (symbol_formed_kept more well.tables) new.symbols;
       variables = with_old (VariableFormed b') (length b.variables) (length b'.variables) (variable_formed_kept more well.tables) new.variables;
       terms = with_old (TermFormed b') (length b.terms) (length b'.terms) (term_formed_kept more well.tables) new.terms;
-      no-two-same = λ i j ni nj e. go i j ni nj e (dec_le i (length b.terms)) (dec_le j (length b.terms)) (dec_lt i j) (dec_lt j i);
+      no_two_same = λ i j ni nj e. go i j ni nj e (dec_le i (length b.terms)) (dec_le j (length b.terms)) (dec_lt i j) (dec_lt j i);
     };
     contexts = with_old (ContextFormed b') (length b.contexts) (length b'.contexts) (context_formed_kept more well) new.contexts;
   }
@@ -84,11 +84,11 @@ module _ {b b' : Bundle} (more : Longer b b') where
       go : (i j : ℕ) → Number (length b'.terms) i → Number (length b'.terms) j → fields_of b' (term_of b' i) ≡ fields_of b' (term_of b' j)
           → Dec (i ≤ length b.terms) → Dec (j ≤ length b.terms) → Dec (i < j) → Dec (j < i) → i ≡ j
       go i j ni nj e (yes p) (yes q) d₁ d₂ =
-          well.tables.no-two-same i j (ni.0, p) (nj.0, q) (sym (fields_kept more well.tables i p) ∙ e ∙ fields_kept more well.tables j q)
-      go i j ni nj e (yes p) (no q) d₁ d₂ = absurd (new.no-equal j (omega arith) nj.1 i (ni.0, omega arith) e)
-      go i j ni nj e (no p) (yes q) d₁ d₂ = absurd (new.no-equal i (omega arith) ni.1 j (nj.0, omega arith) (sym e))
-      go i j ni nj e (no p) (no q) (yes l) d₂ = absurd (new.no-equal j (omega arith) nj.1 i (ni.0, omega arith) e)
-      go i j ni nj e (no p) (no q) (no l) (yes m) = absurd (new.no-equal i (omega arith) ni.1 j (nj.0, omega arith) (sym e))
+          well.tables.no_two_same i j (ni.0, p) (nj.0, q) (sym (fields_kept more well.tables i p) ∙ e ∙ fields_kept more well.tables j q)
+      go i j ni nj e (yes p) (no q) d₁ d₂ = absurd (new.no_equal j (omega arith) nj.1 i (ni.0, omega arith) e)
+      go i j ni nj e (no p) (yes q) d₁ d₂ = absurd (new.no_equal i (omega arith) ni.1 j (nj.0, omega arith) (sym e))
+      go i j ni nj e (no p) (no q) (yes l) d₂ = absurd (new.no_equal j (omega arith) nj.1 i (ni.0, omega arith) e)
+      go i j ni nj e (no p) (no q) (no l) (yes m) = absurd (new.no_equal i (omega arith) ni.1 j (nj.0, omega arith) (sym e))
       go i j ni nj e (no p) (no q) (no l) (no m) = omega arith
 
   -- later appends leave an instance of a rule one

@@ -48,7 +48,7 @@ module _ {b b' : Bundle} (longer : Longer b b') (formed : TablesFormed b) where
       record {
         term = (h.term.0, omega (arith, h.term.1, (sizes longer).terms));
         result = result_kept longer formed (λ x n. n) h.result;
-        sorted = sort_tree_kept longer formed r h.result.is-term.1 ∙ h.sorted ∙ sym (sort_tree_kept longer formed t h.term.1);
+        sorted = sort_tree_kept longer formed r h.result.is_term.1 ∙ h.sorted ∙ sym (sort_tree_kept longer formed t h.term.1);
         step = (h.step.0, omega (arith, h.step.1, (sizes longer).steps));
         context = ap (λ (s : Step). s.context) same ∙ h.context;
         left = ap (λ (s : Step). s.left) same ∙ h.left;
@@ -108,7 +108,7 @@ conclude b k c t r ps old hc nt res sorted scope allowed before rule form = reco
   done = record {
     term = nt;
     result = result_kept longer old.formed.tables (λ x n. n) res;
-    sorted = sort_tree_kept longer old.formed.tables r res.is-term.1 ∙ sorted ∙ sym (sort_tree_kept longer old.formed.tables t nt.1);
+    sorted = sort_tree_kept longer old.formed.tables r res.is_term.1 ∙ sorted ∙ sym (sort_tree_kept longer old.formed.tables t nt.1);
     step = (omega arith, omega (arith, length-append b.steps (s ∷ [])));
     context = ap (λ (x : Step). x.context) here;
     left = ap (λ (x : Step). x.left) here;
@@ -139,13 +139,13 @@ conclude b k c t r ps old hc nt res sorted scope allowed before rule form = reco
     holds well = record {
       context = subst (λ (x : Step). x.context ≤ length B.contexts) (sym here) hc;
       left = subst (λ (x : Step). Number (length B.terms) x.left) (sym here) nt;
-      right = subst (λ (x : Step). Number (length B.terms) x.right) (sym here) res.is-term;
+      right = subst (λ (x : Step). Number (length B.terms) x.right) (sym here) res.is_term;
       start = subst (λ (x : Step). x.premises ≤ length B.links) (sym here) (list-start b ps listed);
       earlier = subst (λ (x : Step). All (Lower (suc (length b.steps))) (items B x.premises)) (sym here)
           (rw li (all_map (λ p n. (n.0, omega (arith, n.1))) ps before));
       scope = subst (SidesInScope B) (sym here) (
         scope_kept longer old.formed c t hc nt.1 scope,
-        scope_kept longer old.formed c r hc res.is-term.1 (λ x f. allowed x (res.new x f)),
+        scope_kept longer old.formed c r hc res.is_term.1 (λ x f. allowed x (res.new x f)),
       );
       «instance» = subst (λ (x : Step). Instance B (rule_of x.rule) x.context (tree B x.left) (tree B x.right) (items B x.premises)) (sym here)
           (subst (Instance B (rule_of k) c (tree B t) (tree B r)) (sym li) (rule B longer well));

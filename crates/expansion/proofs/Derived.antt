@@ -80,7 +80,7 @@ module _ (b : Bundle) (tables : TablesFormed b) (contexts : b.contexts ≡ []) (
     };
     longer = expanded_longer b;
     left = refl;
-    right = done.result.is-term;
+    right = done.result.is_term;
     plain = done.result.plain;
     closed = (λ x f. closed x (rw (tree_kept (expanded_longer b) tables b.left left.1) at f), done.result.new);
   }

@@ -147,7 +147,7 @@ module _ {V₀ : ℕ} {N : ℕ → Type 0} (b : Bundle) (c t f : ℕ) (ns : Node
   results = done_results ih.done
 
   result_terms : All (Number (length v.bundle.terms)) v.results
-  result_terms = all_map (λ r h. h.is-term) v.results results
+  result_terms = all_map (λ r h. h.is_term) v.results results
 
   applied_as : PlacedAs (app f (gather (tree v.bundle) v.results)) applied
   applied_as =
@@ -159,7 +159,7 @@ module _ {V₀ : ℕ} {N : ℕ → Type 0} (b : Bundle) (c t f : ℕ) (ns : Node
   cong_instance B later well =
       by_cong refl f (gather (tree B) (numbers_of ns)) (gather (tree B) v.results)
       (application_there B (longer_trans longer (longer_trans to_applied later))).1
-      (tree_kept later applied_as.checked.formed.tables applied.term applied_as.is-term.1 ∙ applied_as.stands
+      (tree_kept later applied_as.checked.formed.tables applied.term applied_as.is_term.1 ∙ applied_as.stands
       ∙ ap (app f) (sym (gather_kept (longer_trans to_applied later) ih.checked.formed.tables v.results result_terms)))
       (say_all (done_all_kept (longer_trans to_applied later) ih.checked.formed.tables ih.done))
 
@@ -170,7 +170,7 @@ module _ {V₀ : ℕ} {N : ℕ → Type 0} (b : Bundle) (c t f : ℕ) (ns : Node
       let here = application_there A since in
       conclude A 2 c t applied.term v.steps applied_as.checked (omega (arith, s.here, (sizes since).contexts)) here.0
       record {
-        is_term = applied_as.is-term;
+        is_term = applied_as.is_term;
         plain = ap holdsLet applied_as.stands ∙ gather_plain N v.bundle v.results results;
         new = rw applied_as.stands (gather_new N v.bundle v.results results);
       }
@@ -249,12 +249,12 @@ module _ {V₀ : ℕ} {N : ℕ → Type 0} (b : Bundle) (c x : ℕ) (old : Check
 
   -- the new variable's term
   y_tree : {B : Bundle} → Longer with_term B → tree B (fresh b x).term ≡ var y
-  y_tree later = tree_kept later term_placed.checked.formed.tables (fresh b x).term term_placed.is-term.1 ∙ term_placed.stands
+  y_tree later = tree_kept later term_placed.checked.formed.tables (fresh b x).term term_placed.is_term.1 ∙ term_placed.stands
 
   y_result : Result (And N y) with_list (fresh b x).term
   unfolding holdsLet
   y_result = record {
-    is_term = (term_placed.is-term.0, omega (arith, term_placed.is-term.1, (sizes from_term).terms));
+    is_term = (term_placed.is_term.0, omega (arith, term_placed.is_term.1, (sizes from_term).terms));
     plain = ap holdsLet (y_tree from_term);
     new = rw (y_tree from_term) (λ z e. inr e);
   }
@@ -320,7 +320,7 @@ module _ {V₀ : ℕ} {N : ℕ → Type 0} (b : Bundle) (c x : ℕ) (old : Check
     ok =
         binder_placed v.bundle q y v.result ih.checked
         (y_number.0, omega (arith, y_number.1, (sizes to_term).variables, (sizes from_term).variables, (sizes opened).variables, (sizes longer).variables))
-        ih.done.result.is-term
+        ih.done.result.is_term
         (ih.done.sorted
         ∙ binder_sorts v.bundle ih.checked.formed.tables t q x (number u) (there v.bundle (longer_trans (open_longer b x c) longer)))
 
@@ -329,8 +329,8 @@ module _ {V₀ : ℕ} {N : ℕ → Type 0} (b : Bundle) (c x : ℕ) (old : Check
     bind-instance B later well =
         by_bind refl q x y (tree B (number u)) (tree B v.result) v.step (open_binder b x c).context fixed
         (there B (longer_trans since later)).1
-        (tree_kept later ok.checked.formed.tables result.term ok.is-term.1 ∙ ok.stands
-        ∙ ap (bind q y) (sym (tree_kept (longer_trans placed later) ih.checked.formed.tables v.result ih.done.result.is-term.1)))
+        (tree_kept later ok.checked.formed.tables result.term ok.is_term.1 ∙ ok.stands
+        ∙ ap (bind q y) (sym (tree_kept (longer_trans placed later) ih.checked.formed.tables v.result ih.done.result.is_term.1)))
         refl (done_says (done_kept (longer_trans placed later) ih.checked.formed.tables ih.done))
         replaced (fixing_says with_term y c (longer_trans (list_longer with_fixed (x ∷ [])) (longer_trans opened all)))
         (λ f. new_not_free b old.formed.tables t (rw same at f))
@@ -355,7 +355,7 @@ module _ {V₀ : ℕ} {N : ℕ → Type 0} (b : Bundle) (c x : ℕ) (old : Check
     binder-visited =
         conclude R 4 c t result.term (v.step ∷ []) ok.checked (omega (arith, s.here, (sizes since).contexts)) (there R since).0
         record {
-          is_term = ok.is-term;
+          is_term = ok.is_term;
           plain = ap holdsLet ok.stands ∙ ih.done.result.plain;
           new = rw ok.stands (λ z f. outer z f.0 (ih.done.result.new z f.1));
         }

@@ -54,9 +54,9 @@ pub record Result (N : ℕ → Type 0) (b : Bundle) (r : ℕ) : Type 0 where
 
 pub result_kept : {b b' : Bundle} {N M : ℕ → Type 0} {r : ℕ} → Longer b b' → TablesFormed b → ((x : ℕ) → N x → M x) → Result N b r → Result M b' r
 result_kept {r = r} longer formed wider h =
-    let same = tree_kept longer formed r h.is-term.1 in
+    let same = tree_kept longer formed r h.is_term.1 in
     record {
-      is_term = (h.is-term.0, omega (arith, h.is-term.1, (sizes longer).terms));
+      is_term = (h.is_term.0, omega (arith, h.is_term.1, (sizes longer).terms));
       plain = rw same h.plain;
       new = rw same (λ x f. wider x (h.new x f));
     }
@@ -98,7 +98,7 @@ module _ {V₀ : ℕ} {N : ℕ → Type 0} {b : Bundle} {c : ℕ} (s : Substitut
             let was : image b c x ≡ Gives r = sym (ap (λ (f : ℕ → Image). f x) same) ∙ e in
             let h = s.gives x r was in (
               result_kept longer well.tables wider h.0,
-              sort_tree_kept longer well.tables r h.0.is-term.1 ∙ h.1
+              sort_tree_kept longer well.tables r h.0.is_term.1 ∙ h.1
                   ∙ sym (variable_kept longer x (omega (arith, replaced_old x r was, s.job))),
             );
         stays = λ x l. ap (λ (f : ℕ → Image). f x) same ∙ s.stays x l;
@@ -324,7 +324,7 @@ module _ {V₀ : ℕ} {N : ℕ → Type 0} (b : Bundle) (c : ℕ) (old : Checked
       ts-here = list_added b ts listed
 
       nt : All (Number (length b.terms)) ts
-      nt = all_map (λ t h. h.is-term) ts res
+      nt = all_map (λ t h. h.is_term) ts res
 
       nv-here : All (Number (length b.variables)) vs
       nv-here = all_map (λ x n. (n.0, omega (arith, n.1, s.job))) vs nv
@@ -334,7 +334,7 @@ module _ {V₀ : ℕ} {N : ℕ → Type 0} (b : Bundle) (c : ℕ) (old : Checked
 
       settled : (t : ℕ) → Result N b t → Settled B c (tree B t)
       settled t h =
-          subst (Settled B c) (sym (tree_kept longer formed t h.is-term.1))
+          subst (Settled B c) (sym (tree_kept longer formed t h.is_term.1))
           (settled_in_kept longer old.formed c (tree b t) s.here (results_settled s t h))
 
       kept : Substitutes V₀ N B c

@@ -183,8 +183,8 @@ pending_never_fits f text φ d r many fit =
       arith,
       many,
       same,
-      pending_below p.bundle j.placed.checked.formed.tables p.term j.placed.is-term,
-      weight_on p.bundle p.term (length p.bundle.terms) j.placed.is-term.1,
+      pending_below p.bundle j.placed.checked.formed.tables p.term j.placed.is_term,
+      weight_on p.bundle p.term (length p.bundle.terms) j.placed.is_term.1,
       l.light,
       fit.links,
     )

@@ -124,10 +124,10 @@ module _ {text : List ℕ} {i : ℕ} {first : Lexed} (h : Lexes text i first) wh
   unfolding spell lexeme_code
   alone_head n (called w) rest e =
       let k = next_is h (word (name w)) rest e in
-      record { kind = refl; word = k.word-is (name w) refl; inside = k.after }
+      record { kind = refl; word = k.word_is (name w) refl; inside = k.after }
   alone_head n (truth v) rest e =
       let k = next_is h (word (constant v)) rest e in
-      record { kind = refl; word = k.word-is (constant v) refl; inside = k.after }
+      record { kind = refl; word = k.word_is (constant v) refl; inside = k.after }
   alone_head n (bracketed φ) rest e = absurd (n (next_is h opens (spellBracketed φ rest) e).code)
 
   -- no formula starts with another byte
@@ -191,13 +191,13 @@ module _ {text : List ℕ} {i : ℕ} {first : Lexed} (h : Lexes text i first) wh
           go : (φ : Bracketed) (rest : List Lexeme) → lexemes_at text first.end ≡ spellBracketed φ rest → HeadInside text applied φ rest
           go (denies φ) rest e =
               let k = next_is h2 _ _ e in
-              record { kind = refl; word = k.word-is negation refl; inside = k.after }
+              record { kind = refl; word = k.word_is negation refl; inside = k.after }
           go (connects c φ ψ) rest e =
               let k = next_is h2 _ _ e in
-              record { kind = refl; word = k.word-is (connective c) refl; inside = k.after }
+              record { kind = refl; word = k.word_is (connective c) refl; inside = k.after }
           go (applies f φ φs) rest e =
               let k = next_is h2 _ _ e in
-              record { kind = refl; word = k.word-is (name f) refl; inside = k.after ∙ ap (spell φ) (spell_arguments φs rest) }
+              record { kind = refl; word = k.word_is (name f) refl; inside = k.after ∙ ap (spell φ) (spell_arguments φs rest) }
           go (quantifies q x xs φ) rest e = absurd (n (omega (arith, (next_is h2 _ _ e).code)) (omega (arith, (next_is h2 _ _ e).code)))
           go (lets x φ xs ψ) rest e = absurd (n (omega (arith, (next_is h2 _ _ e).code)) (omega (arith, (next_is h2 _ _ e).code)))
 
@@ -228,13 +228,13 @@ module _ {text : List ℕ} {i : ℕ} {first : Lexed} (h : Lexes text i first) wh
             go (quantifies q x xs φ) rest e =
                 let k = next_is h2 _ _ e in
                 let j = next_is h3 _ _ k.after in
-                record { kind = omega (arith, k.code); word = k.word-is (quantifier q) refl; inside = j.after }
+                record { kind = omega (arith, k.code); word = k.word_is (quantifier q) refl; inside = j.after }
             go (lets x φ xs ψ) rest e =
                 let k = next_is h2 _ _ e in
                 let j = next_is h3 _ _ k.after in
                 record {
                   kind = omega (arith, k.code);
-                  word = k.word-is letting refl;
+                  word = k.word_is letting refl;
                   inside = j.after
                       ∙ ap (λ (ls : List Lexeme). opens ∷ word (name x) ∷ spell φ (closes ∷ ls)) (spell_pairs xs (spell ψ (closes ∷ rest)));
                 }
@@ -267,7 +267,7 @@ module _ (n : ℕ) {text : List ℕ} {i : ℕ} {first : Lexed} (h : Lexes text i
   -- a run that is a name is called as it is spelled
   called_is : {r : Lexed} {v : ℕ} {w : List ℕ} {ls : List Lexeme} → NextIs text r (word (name w)) ls
       → v ≡ variable_among n (part text r.start r.end) → v ≡ variable_among n w
-  called_is {r} {v} {w} k e = e ∙ ap (variable_among n) (name_is (part text r.start r.end) w (k.word-is (name w) refl))
+  called_is {r} {v} {w} k e = e ∙ ap (variable_among n) (name_is (part text r.start r.end) w (k.word_is (name w) refl))
 
   variable_on : {c s z : Lexed} {v : ℕ} → first.code ≡ 0 → Lexes text first.end c → Lexes text c.end s → Lexes text s.end z
       → v ≡ variable_among n (part text c.start c.end) → (xs : List SortedVariable) (rest : List Lexeme)

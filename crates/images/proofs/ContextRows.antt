@@ -148,12 +148,12 @@ record_below n j k h =
 -- ---- what stays
 
 pub untouched_refl : (b : Bundle) (w m : List ℕ) (n k : ℕ) → Untouched b w m w m n k
-untouched_refl b w m n k = record { long-row = refl; long-set = refl; row = λ j h. refl; words = λ j h. refl }
+untouched_refl b w m n k = record { long_row = refl; long_set = refl; row = λ j h. refl; words = λ j h. refl }
 
 pub untouched_trans : (b : Bundle) (w m w' m' w'' m'' : List ℕ) (n k : ℕ) → Untouched b w m w' m' n k → Untouched b w' m' w'' m'' n k → Untouched b w m w'' m'' n k
 untouched_trans b w m w' m' w'' m'' n k p q = record {
-  long-row = q.long-row ∙ p.long-row;
-  long-set = q.long-set ∙ p.long-set;
+  long_row = q.long_row ∙ p.long_row;
+  long_set = q.long_set ∙ p.long_set;
   row = λ j h. q.row j h ∙ p.row j h;
   words = λ j h. q.words j h ∙ p.words j h;
 }
@@ -164,7 +164,7 @@ row_room f c w m n k r = rw (variables_length f c) at r.row
 
 module _ (b : Bundle) (w m w' m' : List ℕ) (n k : ℕ) (kept : Untouched b w m w' m' n k) where
   pub room_on : RowRoom b w m n k → RowRoom b w' m' n k
-  room_on r = record { row = omega (arith, r.row, kept.long-row); words = omega (arith, r.words, kept.long-set) }
+  room_on r = record { row = omega (arith, r.row, kept.long_row); words = omega (arith, r.words, kept.long_set) }
 
   pub row_kept : (j x : ℕ) → j < k → mention_in b w' j x ≡ mention_in b w j x
   row_kept j x h = same_place b w' w j j x (λ one low. kept.row (length b.variables * j + (x - 1)) (omega (arith, record_below (length b.variables) j k h)))
@@ -251,8 +251,8 @@ module _ (b : Bundle) (w : List ℕ) (k x t : ℕ) (one : 1 ≤ x) (few : x ≤ 
     entered-set : m' ≡ left-set moves → Entered b w m (set w (length b.variables * k + (x - 1)) t) m' n k (λ y m. cond (eqb x y) (as_mention t) m)
     entered-set e = rw e (record {
       lower = record {
-        long-row = length-set w (length b.variables * k + (x - 1)) t;
-        long-set = set_long moves;
+        long_row = length-set w (length b.variables * k + (x - 1)) t;
+        long_set = set_long moves;
         row = λ j h. get_or-set_other w (length b.variables * k + (x - 1)) j t 0 (λ z. omega arith);
         words = set_out moves;
       };
@@ -356,8 +356,8 @@ module _ (b : Bundle) (w m w' m₁ : List ℕ) (n k p : ℕ) (lower : p < k) (ro
   module _ (copy : m₁ ≡ copied m (2 * n * k) (2 * n * p) (2 * n)) where
     pub inherited : length w' ≡ length w → ((j : ℕ) → j < length b.variables * k → get_or w' j 0 ≡ get_or w j 0) → Untouched b w m w' m₁ n k
     inherited long row = record {
-      long-row = long;
-      long-set = rw copy (filled_length (λ i. get_or m (2 * n * p + i) 0) m (2 * n * k) (2 * n));
+      long_row = long;
+      long_set = rw copy (filled_length (λ i. get_or m (2 * n * p + i) 0) m (2 * n * k) (2 * n));
       row = row;
       words = λ j h. rw copy (filled_out (λ i. get_or m (2 * n * p + i) 0) m (2 * n * k) (2 * n) j (inl h));
     }
@@ -398,7 +398,7 @@ module _ (b : Bundle) (w m w' m' : List ℕ) (n k p : ℕ) (lower : p < k) (imag
     here x = entered.mentions x ∙ ap (f x) (copied x ∙ images.same p x lower) ∙ own x
 
     pub images-on : Images b w'' (k + 1)
-    images-on = record { long = omega (arith, room.row, all.long-row); same = λ j x h. go j x (ℕ_discrete j k) h }
+    images-on = record { long = omega (arith, room.row, all.long_row); same = λ j x h. go j x (ℕ_discrete j k) h }
       where
         go : (j x : ℕ) → Dec (j ≡ k) → j < k + 1 → mention_in b w'' j x ≡ found b j x
         go j x (yes q) h = rw q (here x)
@@ -407,7 +407,7 @@ module _ (b : Bundle) (w m w' m' : List ℕ) (n k p : ℕ) (lower : p < k) (imag
     pub sets-on : Scopes b m'' n (k + 1)
     unfolding mentioned
     sets-on = record {
-      long = omega (arith, room.words, all.long-set, distrib n k);
+      long = omega (arith, room.words, all.long_set, distrib n k);
       moves = λ j x h. go j x (ℕ_discrete j k) h;
       mentions = λ j x h. told j x (ℕ_discrete j k) h;
       few = λ j x h. inside j x (ℕ_discrete j k) h;

@@ -17,12 +17,12 @@ use Rattle.lexing.specs.Common.{common}
 
 -- the first j bytes are in common
 pub record Shared (u v : List ℕ) (j : ℕ) : Type 0 where
-  pub in-run : j ≤ length u
-  pub in-other : j ≤ length v
+  pub in_run : j ≤ length u
+  pub in_other : j ≤ length v
   pub rest : common u v ≡ j + common (drop j u) (drop j v)
 
 pub shared_start : (u v : List ℕ) → Shared u v 0
-shared_start u v = record { in-run = omega arith; in-other = omega arith; rest = omega arith }
+shared_start u v = record { in_run = omega arith; in_other = omega arith; rest = omega arith }
 
 common_nil : (u : List ℕ) → common u [] ≡ 0
 unfolding common
@@ -34,7 +34,7 @@ unfolding common
 shared_on u v j h l k e =
     let one : common (drop j u) (drop j v) ≡ suc (common (drop (suc j) u) (drop (suc j) v)) = rw
     (drop-cons u j 0 l, drop-cons v j 0 k, eq-eqb (get_or u j 0) (get_or v j 0) e) in
-    rw (add-one j) (record { in-run = l; in-other = k; rest = omega (arith, h.rest) })
+    rw (add-one j) (record { in_run = l; in_other = k; rest = omega (arith, h.rest) })
 
 pub shared_differ : (u v : List ℕ) (j : ℕ) → Shared u v j → j < length u → j < length v → (get_or u j 0 ≡ get_or v j 0 → ⊥) → j ≡ common u v
 unfolding common

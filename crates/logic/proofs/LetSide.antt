@@ -59,9 +59,9 @@ let_printed b well Γ left right premises = go
       last = p;
       inner = Δ;
       is_let_lem = l;
-      premises-are = e;
-      bound-say = says;
-      body-says = body;
+      premises_are = e;
+      bound_say = says;
+      body_says = body;
       replacing = rep;
       side = side b well Δ Γ xs ss rep;
     }

@@ -69,7 +69,7 @@ suffices_false b s r e = go (eqb r 1) refl (eqb r 2) (eqb r 3) (eqb r 4) (eqb r 
         → suffices_as b (cond p REFL (cond q CONG (cond t TRANS (cond u BIND (cond v LET noRule))))) s ≡ false
         → (r ≡ 1) × (refl_holds b s ≡ false) × (pair_limit < (refl_walk b s).pairs)
     go true is q t u v h =
-        let (no-form, over) = walk-over (refl_holds b s) h (dec_le (refl_walk b s).pairs pair_limit) in (eqb-true r 1 is, no-form, over)
+        let (no_form, over) = walk-over (refl_holds b s) h (dec_le (refl_walk b s).pairs pair_limit) in (eqb-true r 1 is, no_form, over)
     go false is true t u v h = absurd (false≢true (sym h))
     go false is false true u v h = absurd (false≢true (sym h))
     go false is false false true v h = absurd (false≢true (sym h))
@@ -78,9 +78,9 @@ suffices_false b s r e = go (eqb r 1) refl (eqb r 2) (eqb r 3) (eqb r 4) (eqb r 
 
 false_suffices : (b : Bundle) (s : Step) (r : ℕ) → r ≡ 1 → refl_holds b s ≡ false → pair_limit < (refl_walk b s).pairs → suffices_as b (rule_of r) s ≡ false
 unfolding suffices_as refl_suffices
-false_suffices b s r is no-form over =
+false_suffices b s r is no_form over =
     ap (λ (k : Rule). suffices_as b k s) (rule_refl r is)
-    ∙ ap (λ (p : Bool). p || leb (refl_walk b s).pairs pair_limit) no-form
+    ∙ ap (λ (p : Bool). p || leb (refl_walk b s).pairs pair_limit) no_form
     ∙ lt-leb (refl_walk b s).pairs pair_limit over
 
 not_held : (p : Bool) {A : Type 0} → (p ≡ true) ↔ A → (A → ⊥) → p ≡ false
@@ -106,15 +106,15 @@ spent_exactly b well k = (λ e. there (step_refers b k) refl (scoped b k) refl (
     there false refers z scope q enough m t e = absurd (omega arith)
     there true refers false scope q enough m t e = absurd (omega arith)
     there true refers true scope false enough m t e =
-        let (is, no-form, over) = suffices_false b s s.rule enough in
-        record { refers = refers; scope = (scoped_exactly b well s).0 scope; is-refl = is; no-form = λ f. false≢true (sym no-form ∙ (forms refers).1 f); over = over }
+        let (is, no_form, over) = suffices_false b s s.rule enough in
+        record { refers = refers; scope = (scoped_exactly b well s).0 scope; is_refl = is; no_form = λ f. false≢true (sym no_form ∙ (forms refers).1 f); over = over }
     there true refers true scope true enough true true e = absurd (omega arith)
     there true refers true scope true enough true false e = absurd (omega arith)
     there true refers true scope true enough false t e = absurd (omega arith)
 
     back : Spent b k → fault (step_refers b k) (scoped b k) (suffices b k) (matches b k) (sides b k) ≡ 21
     back h =
-        rw (h.refers, (scoped_exactly b well s).1 h.scope, false_suffices b s s.rule h.is-refl (not_held (refl_holds b s) (forms h.refers) h.no-form) h.over)
+        rw (h.refers, (scoped_exactly b well s).1 h.scope, false_suffices b s s.rule h.is_refl (not_held (refl_holds b s) (forms h.refers) h.no_form) h.over)
 
 -- ---- the last REFL walked
 

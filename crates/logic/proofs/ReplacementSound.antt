@@ -27,14 +27,14 @@ module _ {b : Bundle} (w : World b) (σ : ℕ → Term) (ρ₀ : ℕ → Value) 
   -- one that no binder crossed binds, right, the value that it had outside, ρ₀.
   record Agree (ps : Crossed) (τ ρ : ℕ → Value) : Type 0 where
     matching : (x z : ℕ) → meets ps x z ≡ true → τ x ≡ ρ z
-    free-left : (x : ℕ) → has x (lefts ps) ≡ false → τ x ≡ value w ρ₀ (σ x)
+    free_left : (x : ℕ) → has x (lefts ps) ≡ false → τ x ≡ value w ρ₀ (σ x)
     others : (y : ℕ) → (Among y (rights ps) → ⊥) → ρ y ≡ ρ₀ y
 
   agree_put : (ps : Crossed) (τ ρ : ℕ → Value) (x y : ℕ) (v : Value) → Agree ps τ ρ → Agree ((x, y) ∷ ps) (put τ x v) (put ρ y v)
   unfolding meets lefts rights has
   agree_put ps τ ρ x y v h = record {
     matching = λ x' z' e. matching' x' z' (eqb x' x) refl (eqb z' y) refl e;
-    free-left = λ x' e. free' x' (eqb x' x) refl e;
+    free_left = λ x' e. free' x' (eqb x' x) refl e;
     others = λ y' out. put_other ρ y v y' (λ e. out (inl e)) ∙ h.others y' (λ m. out (inr m));
   }
     where
@@ -47,7 +47,7 @@ module _ {b : Bundle} (w : World b) (σ : ℕ → Term) (ρ₀ : ℕ → Value) 
 
       free' : (x' : ℕ) (s : Bool) → eqb x' x ≡ s → (s || has x' (lefts ps)) ≡ false → put τ x v x' ≡ value w ρ₀ (σ x')
       free' x' true p e = absurd (false≢true (sym e))
-      free' x' false p e = put_other τ x v x' (eqb-false x' x p) ∙ h.free-left x' e
+      free' x' false p e = put_other τ x v x' (eqb-false x' x p) ∙ h.free_left x' e
 
   agree_assign : (ps : Crossed) (τ ρ : ℕ → Value) (xs ys : List ℕ) (vs : List Value) → map (sort_of_variable b) xs ≡ map (sort_of_variable b) ys
       → Agree ps τ ρ → Agree (pair_up xs ys ++ ps) (assign xs vs τ) (assign ys vs ρ)
@@ -64,7 +64,7 @@ module _ {b : Bundle} (w : World b) (σ : ℕ → Term) (ρ₀ : ℕ → Value) 
   unfolding value
   variable_value ps x r τ ρ h (inl (z, e, m)) = h.matching x z m ∙ sym (ap (value w ρ) e)
   variable_value ps x r τ ρ h (inr (out, e, apart)) =
-      h.free-left x out ∙ sym (ap (value w ρ₀) e) ∙ coincide w r ρ₀ ρ (λ y f. sym (h.others y (λ m. apart y m f)))
+      h.free_left x out ∙ sym (ap (value w ρ₀) e) ∙ coincide w r ρ₀ ρ (λ y f. sym (h.others y (λ m. apart y m f)))
 
   mutual
     unfolding value
@@ -92,5 +92,5 @@ pub replacement_sound : ReplacementSound
 unfolding seen value meets lefts rights
 replacement_sound b Γ left right h w ρ =
     meets-value w (image_tree b Γ) ρ left [] right (seen b w Γ ρ) ρ
-    (record { matching = λ x z e. absurd (false≢true e); free-left = λ x e. refl; others = λ y out. refl })
+    (record { matching = λ x z e. absurd (false≢true e); free_left = λ x e. refl; others = λ y out. refl })
     ((meets_exactly b (image_tree b Γ) left right).1 h)

@@ -78,9 +78,9 @@ pub record LetAsPrinted (b : Bundle) (Γ : ℕ) (left right : Term) (premises : 
   pub last : ℕ
   pub inner : ℕ
   pub is_let_lem : left ≡ letIn variables bound body
-  pub premises-are : premises ≡ earlier ++ (last ∷ [])
-  pub bound-say : SayAll b Γ bound carried earlier
-  pub body-says : Says b last inner body right
+  pub premises_are : premises ≡ earlier ++ (last ∷ [])
+  pub bound_say : SayAll b Γ bound carried earlier
+  pub body_says : Says b last inner body right
   pub replacing : Replaces b inner variables carried Γ
   pub side : AllSettled b Γ carried
 

@@ -86,7 +86,7 @@ module _ (f : List ℕ) (b : Counts) (n : ℕ) (p₀ s₀ w₀ : List ℕ) (h de
 
     module _ (ni : i ≡ 0 → ⊥) where
       here-left : items (bundle_at f b) i ≡ (link_of (bundle_at f b) i).value ∷ items (bundle_at f b) (next_of (bundle_at f b).links i)
-      here-left = walk_some f b i ni along.left-link
+      here-left = walk_some f b i ni along.left_link
 
       pub along-uneven {ℓ} : {A : Type ℓ} → j ≡ 0 → A
       unfolding all_sorts_meet
@@ -94,10 +94,10 @@ module _ (f : List ℕ) (b : Counts) (n : ℕ) (p₀ s₀ w₀ : List ℕ) (h de
 
       module _ (nj : j ≡ 0 → ⊥) {x y : ℕ} (dx : x ≡ (link_of (bundle_at f b) i).value) (dy : y ≡ (link_of (bundle_at f b) j).value) where
         left-cons : items (bundle_at f b) i ≡ x ∷ items (bundle_at f b) (next_of (bundle_at f b).links i)
-        left-cons = walk_cons f b i x (next_of (bundle_at f b).links i) ni along.left-link dx refl
+        left-cons = walk_cons f b i x (next_of (bundle_at f b).links i) ni along.left_link dx refl
 
         right-cons : items (bundle_at f b) j ≡ y ∷ items (bundle_at f b) (next_of (bundle_at f b).links j)
-        right-cons = walk_cons f b j y (next_of (bundle_at f b).links j) nj along.right-link dy refl
+        right-cons = walk_cons f b j y (next_of (bundle_at f b).links j) nj along.right_link dy refl
 
         both-sorts : all_sorts_meet (bundle_at f b) (x ∷ items (bundle_at f b) (next_of (bundle_at f b).links i))
             (y ∷ items (bundle_at f b) (next_of (bundle_at f b).links j))
@@ -125,8 +125,8 @@ module _ (f : List ℕ) (b : Counts) (n : ℕ) (p₀ s₀ w₀ : List ℕ) (h de
             → Along f b n p₀ s₀ w₀ h depth first second p' s' w' i' j' (height + 1) (deep + 1)
         unfolding leaves all_sorts_meet crossed_by
         along-on {i'} {j'} {p'} {s'} {w'} di dj lp ls lw crossing e =
-            let u : items (bundle_at f b) i ≡ x ∷ items (bundle_at f b) i' = walk_cons f b i x i' ni along.left-link dx di in
-            let v : items (bundle_at f b) j ≡ y ∷ items (bundle_at f b) j' = walk_cons f b j y j' nj along.right-link dy dj in
+            let u : items (bundle_at f b) i ≡ x ∷ items (bundle_at f b) i' = walk_cons f b i x i' ni along.left_link dx di in
+            let v : items (bundle_at f b) j ≡ y ∷ items (bundle_at f b) j' = walk_cons f b j y j' nj along.right_link dy dj in
             let more : length (items (bundle_at f b) i) ≡ suc (length (items (bundle_at f b) i')) = ap length u in
             let up : suc height ≡ height + 1 = omega arith in
             let down : suc deep ≡ deep + 1 = omega arith in
@@ -137,9 +137,9 @@ module _ (f : List ℕ) (b : Counts) (n : ℕ) (p₀ s₀ w₀ : List ℕ) (h de
             record {
               left_link = walk_le f b i i' di;
               right_link = walk_le f b j j' dj;
-              same_places = lp ∙ along.same-places;
-              same_bound = ls ∙ along.same-bound;
-              same_agenda = lw ∙ along.same-agenda;
+              same_places = lp ∙ along.same_places;
+              same_bound = ls ∙ along.same_bound;
+              same_agenda = lw ∙ along.same_agenda;
               high = omega (arith, along.high);
               deep_is = omega (arith, along.deep_is);
               crossing = subst (λ (t : ℕ). Crossing b.variables n w' p' s' t (deep + 1)) up

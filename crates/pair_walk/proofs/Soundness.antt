@@ -133,8 +133,8 @@ module _ {b : Bundle} {c : Counts} (z : Sized b c) where
     record {
       met = p.met;
       known = p.known;
-      left_link = p.left-link;
-      right_link = p.right-link;
+      left_link = p.left_link;
+      right_link = p.right_link;
       room = omega (arith, p.room, h);
     },
     sound_less most left less fs h s,
@@ -261,7 +261,7 @@ module _ {b : Bundle} {c : Counts} (z : Sized b c) where
       unfolding crossed_by Sound
       held-taken w' m ni len e' more =
           let was = pending-held.0 in
-          let fewer : length (items b i) ≡ length (items b (next_of b.links i)) + 1 = walk_length z i (next_of b.links i) ni was.left-link refl in
+          let fewer : length (items b i) ≡ length (items b (next_of b.links i)) + 1 = walk_length z i (next_of b.links i) ni was.left_link refl in
           record {
             long = omega (arith, held.long, len);
             crossing = record { placed = rw e' pending-crossing.placed; deep = rw e' pending-crossing.deep };

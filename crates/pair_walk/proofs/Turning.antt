@@ -83,8 +83,8 @@ module _ (f : List ℕ) (b : Counts) (n most : ℕ) (w p s : List ℕ) (height d
     leave_fits =
         let few = crossed_few (frames w (height - 1)) in
         let ps = crossed_by (frames w (height - 1)) in (
-          omega (arith, few, frames_length w (height - 1), place_fits ps r leave-known.left-place refl),
-          omega (arith, few, frames_length w (height - 1), other_fits ps i leave-known.right-place refl),
+          omega (arith, few, frames_length w (height - 1), place_fits ps r leave-known.left_place refl),
+          omega (arith, few, frames_length w (height - 1), other_fits ps i leave-known.right_place refl),
         )
 
     pub leave-after : (p' s' : List ℕ) → Places b.variables n p' s' (crossed_by (frames w (height - 1)))
@@ -137,8 +137,8 @@ module _ (f : List ℕ) (b : Counts) (n most : ℕ) (w p s : List ℕ) (height d
             (finish free image (bundle_at f b) (pending l r (next_of (bundle_at f b).links i) (next_of (bundle_at f b).links j) ∷ frames w (height - 1)))
         on =
             whole_is free image
-            ∙ lists-on free image (bundle_at f b) (sized_at f b) l r i j left (frames w (height - 1)) ni pending-known.left-link nj
-            pending-known.right-link
+            ∙ lists-on free image (bundle_at f b) (sized_at f b) l r i j left (frames w (height - 1)) ni pending-known.left_link nj
+            pending-known.right_link
 
         go : (o : Bool) → closes (term_of (bundle_at f b) l).kind (next_of (bundle_at f b).links i) (next_of (bundle_at f b).links j) ≡ o
             → t ≡ turn_to l (link_of (bundle_at f b) i).value (link_of (bundle_at f b) j).value (cond o (height - 1) (suc (height - 1))) deep left
@@ -170,9 +170,9 @@ module _ (f : List ℕ) (b : Counts) (n most : ℕ) (w p s : List ℕ) (height d
     pub short-turn : ((i ≡ 0) × (j ≡ 0 → ⊥)) ⊎ ((i ≡ 0 → ⊥) × (j ≡ 0)) → (free : ℕ → ℕ → Bool) (image : ℕ → Image)
         → finish free image (bundle_at f b) (frames w height) left ≡ Different left
     short-turn (inl (z, nj)) free image =
-        whole_is free image ∙ left-short free image (bundle_at f b) (sized_at f b) l r i j left (frames w (height - 1)) z nj pending-known.right-link
+        whole_is free image ∙ left-short free image (bundle_at f b) (sized_at f b) l r i j left (frames w (height - 1)) z nj pending-known.right_link
     short-turn (inr (ni, z)) free image =
-        whole_is free image ∙ right-short free image (bundle_at f b) (sized_at f b) l r i j left (frames w (height - 1)) ni pending-known.left-link z
+        whole_is free image ∙ right-short free image (bundle_at f b) (sized_at f b) l r i j left (frames w (height - 1)) ni pending-known.left_link z
 
     -- ---- both lists have ended
 

@@ -214,7 +214,7 @@ pub fn add_step(
     premises: usize,
 ) -> Visited
     requires { Ready words.old c × (rule ≤ 4294967295) × (context ≤ 4294967295) × (left ≤ 4294967295) × (right ≤ 4294967295) × (premises ≤ 4294967295) }
-    ensures* { λ r. ⌜ (length words.new ≡ length words.old)
+    ensures { (length words.new ≡ length words.old)
         × VisitOutcome
         (record {
           bundle = with_steps (bundle_in words.old c)
@@ -222,7 +222,7 @@ pub fn add_step(
           result = right;
           step =
               suc (length (bundle_in words.old c).steps);
-        }) words.new r ⌝ }
+        }) words.new result }
 {
     let steps = c.steps;
     if steps >= Bundle::STEPS {

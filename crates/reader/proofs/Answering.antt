@@ -231,7 +231,7 @@ module _ {f : List ℕ} {φ : Formula} {w : List ℕ} {d : Counts} {t : ℕ} (h 
 
   pub term_small : {out words sets : ℕ} {c : Counts} {text : List ℕ} → Settled f out words sets c text φ → t ≤ 4294967295
   term_small {text = text} s =
-      omega (arith, h.term, (job_filed f text φ (formed s.declared) (read_as s)).placed.is-term.1, h.holds.within.terms)
+      omega (arith, h.term, (job_filed f text φ (formed s.declared) (read_as s)).placed.is_term.1, h.holds.within.terms)
 
   file_is : file_of (claiming (bundle_in w d) t 0) ≡ file_of (job_of (filed_for (bundle_of f) φ))
   file_is = λ i. file_of (claiming (bundle_held i) (h.term i) 0)

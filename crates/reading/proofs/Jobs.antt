@@ -55,7 +55,7 @@ declared_checked f d =
           symbols = d.symbols;
           variables = d.variables;
           terms = λ i n. absurd (no_number b.terms d.terms i n);
-          no-two-same = λ i j n m e. absurd (no_number b.terms d.terms i n);
+          no_two_same = λ i j n m e. absurd (no_number b.terms d.terms i n);
         };
         contexts = λ i n. absurd (no_number b.contexts d.contexts i n);
       };
@@ -80,9 +80,9 @@ module _ (f text : List ℕ) (φ : Formula) (d : DeclarationsFormed f) (r : Read
   pub not_deep : FitsLimits (bundle_of f) φ → depth (plain (bundle_of f) φ) ≤ limits.terms
   not_deep fit =
       let p : PlacedTerm = filed_for (bundle_of f) φ in
-      let low = depth_below p.bundle job_filed.placed.checked.formed.tables p.term job_filed.placed.is-term in
+      let low = depth_below p.bundle job_filed.placed.checked.formed.tables p.term job_filed.placed.is_term in
       let same : depth (tree p.bundle p.term) ≡ depth (plain (bundle_of f) φ) = ap depth job_filed.placed.stands in
-      omega (arith, low, same, job_filed.placed.is-term.1, fit.terms)
+      omega (arith, low, same, job_filed.placed.is_term.1, fit.terms)
 
   -- ---- the job's file
 
@@ -141,9 +141,9 @@ module _ (f text : List ℕ) (φ : Formula) (d : DeclarationsFormed f) (r : Read
           contexts = same.contexts ∙ d.contexts;
           steps = same.steps ∙ d.steps;
           right = refl;
-          left = job_filed.placed.is-term;
+          left = job_filed.placed.is_term;
           stands =
-              tree_kept job-longer job_filed.placed.checked.formed.tables q.term job_filed.placed.is-term.1 ∙ job_filed.placed.stands;
+              tree_kept job-longer job_filed.placed.checked.formed.tables q.term job_filed.placed.is_term.1 ∙ job_filed.placed.stands;
           symbols = same.symbols;
           variables = same.variables;
           longer = longer_trans job_filed.longer job-longer;

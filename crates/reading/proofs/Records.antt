@@ -92,7 +92,7 @@ pub record FiledAs (b : Bundle) (τ : Term) (p : PlacedTerm) : Type 0 where
 pub record AllFiled (b : Bundle) (ts : Terms) (p : PlacedTerms) : Type 0 where
   pub longer : Longer b p.bundle
   pub checked : Checked p.bundle
-  pub are-terms : All (Number (length p.bundle.terms)) p.terms
+  pub are_terms : All (Number (length p.bundle.terms)) p.terms
   pub stand : gather (tree p.bundle) p.terms ≡ ts
 
 -- b₀ has the declarations
@@ -125,7 +125,7 @@ module _ (b₀ : Bundle) (formed : TablesFormed b₀) where
         record {
           longer = longer_trans a.longer (application_longer p.bundle f p.terms);
           placed = subst (λ (us : Terms). PlacedAs (app f us) (place_application p.bundle f p.terms)) a.stand
-              (application_placed p.bundle f p.terms a.checked (known_in l f h.0) a.are-terms
+              (application_placed p.bundle f p.terms a.checked (known_in l f h.0) a.are_terms
               (sorts_kept l formed f h.0 ∙ h.1 ∙ term-sorts l ts p.terms h.2 a.stand));
         }
     filed (bind q x t) b longer old h =
@@ -135,7 +135,7 @@ module _ (b₀ : Bundle) (formed : TablesFormed b₀) where
         record {
           longer = longer_trans a.longer (binder_longer p.bundle q x p.term);
           placed = subst (λ (u : Term). PlacedAs (bind q x u) (place_binder p.bundle q x p.term)) a.placed.stands
-              (binder_placed p.bundle q x p.term a.placed.checked (wider l x h.0) a.placed.is-term
+              (binder_placed p.bundle q x p.term a.placed.checked (wider l x h.0) a.placed.is_term
               (ap (sort p.bundle) a.placed.stands ∙ sort-in l t h.2 ∙ h.1));
         }
     filed (letIn vs ts t) b longer old h =
@@ -145,30 +145,30 @@ module _ (b₀ : Bundle) (formed : TablesFormed b₀) where
         let r : PlacedTerm = file t p.bundle in
         let c : FiledAs p.bundle t r = filed t p.bundle l₁ a.checked h.5 in
         let l : Longer b₀ r.bundle = longer_trans l₁ c.longer in
-        let stand : gather (tree r.bundle) p.terms ≡ ts = gather_kept c.longer a.checked.formed.tables p.terms a.are-terms ∙ a.stand in
+        let stand : gather (tree r.bundle) p.terms ≡ ts = gather_kept c.longer a.checked.formed.tables p.terms a.are_terms ∙ a.stand in
         record {
           longer = longer_trans a.longer (longer_trans c.longer (let_longer r.bundle vs p.terms r.term));
           placed = subst (λ (us : Terms). PlacedAs (letIn vs us t) (place_let r.bundle vs p.terms r.term)) stand
               (subst (λ (u : Term). PlacedAs (letIn vs (gather (tree r.bundle) p.terms) u) (place_let r.bundle vs p.terms r.term))
               c.placed.stands
               (let_placed r.bundle vs p.terms r.term c.placed.checked (all_map (wider l) vs h.0)
-              (all_map (λ u n. (n.0, omega (arith, n.1, (sizes c.longer).terms))) p.terms a.are-terms) c.placed.is-term
+              (all_map (λ u n. (n.0, omega (arith, n.1, (sizes c.longer).terms))) p.terms a.are_terms) c.placed.is_term
               (record { some = h.1; different = h.2; sorts = variable-sorts l vs h.0 ∙ h.3 ∙ term-sorts l ts p.terms h.4 stand })));
         }
 
     pub all-filed : (ts : Terms) (b : Bundle) → Longer b₀ b → Checked b → TermsSorted b₀ ts → AllFiled b ts (fileAll ts b)
-    all-filed none b longer old h = record { longer = longer_refl b; checked = old; are-terms = tt; stand = refl }
+    all-filed none b longer old h = record { longer = longer_refl b; checked = old; are_terms = tt; stand = refl }
     all-filed (more t ts) b longer old h =
         let p : PlacedTerm = file t b in
         let a : FiledAs b t p = filed t b longer old h.0 in
         let q : PlacedTerms = fileAll ts p.bundle in
         let c : AllFiled p.bundle ts q = all-filed ts p.bundle (longer_trans longer a.longer) a.placed.checked h.1 in
         let first : tree q.bundle p.term ≡ t =
-        tree_kept c.longer a.placed.checked.formed.tables p.term a.placed.is-term.1 ∙ a.placed.stands in
+        tree_kept c.longer a.placed.checked.formed.tables p.term a.placed.is_term.1 ∙ a.placed.stands in
         record {
           longer = longer_trans a.longer c.longer;
           checked = c.checked;
-          are-terms = ((a.placed.is-term.0, omega (arith, a.placed.is-term.1, (sizes c.longer).terms)), c.are-terms);
+          are_terms = ((a.placed.is_term.0, omega (arith, a.placed.is_term.1, (sizes c.longer).terms)), c.are_terms);
           stand = ap₂ more first c.stand;
         }
 

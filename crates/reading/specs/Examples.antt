@@ -250,7 +250,7 @@ refused_calls =
 pub record ExamplesRight : Type 0 where
   pub read : All (Right (declared_with [] [] 0)) read_rows
   pub unread : All (Right (declared_with [] [] 0)) unread_rows
-  pub more-unread : All (Right (declared_with [] [] 0)) more_unread_rows
+  pub more_unread : All (Right (declared_with [] [] 0)) more_unread_rows
   pub unknown : All (Right (declared_with [] [] 0)) unknown_rows
   pub missorted : All (Right (declared_with [] [] 0)) missorted_rows
   pub crowded : All (Right crowded) crowded_rows

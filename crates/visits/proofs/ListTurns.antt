@@ -64,7 +64,7 @@ list_none {w} {s} {n} {Γ} {h} {o} {l} asks z = record { long = refl; kept = bel
 -- the first link of a list, as the code reads it
 pub record LinkReads (b : Bundle) (l value next : ℕ) : Type 0 where
   pub some : l ≡ 0 → ⊥
-  pub value-is : value ≡ (link_of b l).value
+  pub value_is : value ≡ (link_of b l).value
   pub next_is : next ≡ (link_of b l).next
 
 pub record First (b : Bundle) (o l value next : ℕ) (τ : Node) (ns : Nodes) : Type 0 where
@@ -80,10 +80,10 @@ first_of : {b : Bundle} {o l value next : ℕ} → LinkReads b l value next → 
 first_of r P f nil k = absurd (r.some k)
 first_of {b} {o} {l} {value} {next} r P f (cons τ ns) k = f τ ns record {
   link = k.0;
-  lower = omega (arith, r.value-is, k.1);
-  order = subst (λ (m : ℕ). (m ≡ 0) ⊎ ((l < m) × (m ≤ length b.links))) (sym r.next-is) k.2;
-  first = subst (λ (m : ℕ). Stands b m τ) (sym r.value-is) k.3;
-  rest = subst (λ (m : ℕ). StandAll b o m ns) (sym r.next-is) k.4;
+  lower = omega (arith, r.value_is, k.1);
+  order = subst (λ (m : ℕ). (m ≡ 0) ⊎ ((l < m) × (m ≤ length b.links))) (sym r.next_is) k.2;
+  first = subst (λ (m : ℕ). Stands b m τ) (sym r.value_is) k.3;
+  rest = subst (λ (m : ℕ). StandAll b o m ns) (sym r.next_is) k.4;
 }
 
 module _ {w s : List ℕ} {n : Counts} {Γ h o l : ℕ} (asks : ListAsks w s n Γ h o l) {value next : ℕ} (reads : LinkReads (bundle_in w n) l value next) where

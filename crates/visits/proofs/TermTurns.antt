@@ -41,10 +41,10 @@ use Rattle.placing.proofs.OutcomeFacts.{list_full, more_full, on, steps_on, step
 -- ---- the term's record, as the code reads it
 
 pub record Reads (b : Bundle) (t kind first second third : ℕ) : Type 0 where
-  pub kind-is : kind ≡ (term_of b t).kind
+  pub kind_is : kind ≡ (term_of b t).kind
   pub first_is : first ≡ (term_of b t).a
   pub second_is : second ≡ (term_of b t).b
-  pub third-is : third ≡ (term_of b t).c
+  pub third_is : third ≡ (term_of b t).c
 
 numbers_of_lem : (q : Binder) → (3 ≤ number_of (binder q)) × (number_of (binder q) ≤ 4)
 numbers_of_lem forAll = (omega arith, omega arith)
@@ -62,35 +62,35 @@ module _ {b : Bundle} {t kind first second third : ℕ} (reads : Reads b t kind 
   on_second ns k = subst (λ (m : ℕ). StandAll b t m ns) (sym reads.second_is) k
 
   numbers : {n x : ℕ} (τ : ℕ → ℕ → Node) → n ≡ t → (term_of b t).a ≡ x → P (τ t first) → P (τ n x)
-  numbers τ e f p = subst P (λ i. τ (sym e i) ((reads.first-is ∙ f) i)) p
+  numbers τ e f p = subst P (λ i. τ (sym e i) ((reads.first_is ∙ f) i)) p
 
   variable_only : kind ≡ 1 → P (leaf t first) → (τ : Node) → Stands b t τ → P τ
   variable_only e p (leaf n x) k = numbers leaf k.0 k.3 p
-  variable_only e p (node n f ns) k = absurd (omega (arith, e, reads.kind-is, k.2))
-  variable_only e p (scope n q x u) k = absurd (omega (arith, e, reads.kind-is, k.2, (numbers_of_lem q).0))
-  variable_only e p (block n s vs ns u) k = absurd (omega (arith, e, reads.kind-is, k.2))
+  variable_only e p (node n f ns) k = absurd (omega (arith, e, reads.kind_is, k.2))
+  variable_only e p (scope n q x u) k = absurd (omega (arith, e, reads.kind_is, k.2, (numbers_of_lem q).0))
+  variable_only e p (block n s vs ns u) k = absurd (omega (arith, e, reads.kind_is, k.2))
 
   binder_only : is_binder kind ≡ true → ((q : Binder) (u : Node) → kind ≡ number_of (binder q) → second < t → Stands b second u → P (scope t q first u))
       → (τ : Node) → Stands b t τ → P τ
-  binder_only e p (leaf n x) k = absurd (omega (arith, (quantified kind e).0, reads.kind-is, k.2))
-  binder_only e p (node n f ns) k = absurd (omega (arith, (quantified kind e).0, reads.kind-is, k.2))
+  binder_only e p (leaf n x) k = absurd (omega (arith, (quantified kind e).0, reads.kind_is, k.2))
+  binder_only e p (node n f ns) k = absurd (omega (arith, (quantified kind e).0, reads.kind_is, k.2))
   binder_only e p (scope n q x u) k =
       numbers (λ m y. scope m q y u) k.0 k.3
-      (p q u (reads.kind-is ∙ k.2) (omega (arith, reads.second_is, k.4)) (subst (λ (m : ℕ). Stands b m u) (sym reads.second_is) k.5))
-  binder_only e p (block n s vs ns u) k = absurd (omega (arith, (quantified kind e).1, reads.kind-is, k.2))
+      (p q u (reads.kind_is ∙ k.2) (omega (arith, reads.second_is, k.4)) (subst (λ (m : ℕ). Stands b m u) (sym reads.second_is) k.5))
+  binder_only e p (block n s vs ns u) k = absurd (omega (arith, (quantified kind e).1, reads.kind_is, k.2))
 
   module _ (not-1 : kind ≡ 1 → ⊥) (no-binder : is_binder kind ≡ false) where
     listed-only : ((ns : Nodes) → kind ≡ 2 → StandAll b t second ns → P (node t first ns))
         → ((vs : List ℕ) (ns : Nodes) (u : Node) → kind ≡ 5 → StandAll b t second ns → third < t → Stands b third u → P (block t first vs ns u))
         → (τ : Node) → Stands b t τ → P τ
-    listed-only p p' (leaf n x) k = absurd (not-1 (reads.kind-is ∙ k.2))
-    listed-only p p' (node n f ns) k = numbers (λ m y. node m y ns) k.0 k.3 (p ns (reads.kind-is ∙ k.2) (on_second ns k.4))
+    listed-only p p' (leaf n x) k = absurd (not-1 (reads.kind_is ∙ k.2))
+    listed-only p p' (node n f ns) k = numbers (λ m y. node m y ns) k.0 k.3 (p ns (reads.kind_is ∙ k.2) (on_second ns k.4))
     listed-only p p' (scope n q x u) k =
-        absurd (false≢true (sym no-binder ∙ (is_binder_exactly kind).1 (q, binder_number kind q (reads.kind-is ∙ k.2))))
+        absurd (false≢true (sym no-binder ∙ (is_binder_exactly kind).1 (q, binder_number kind q (reads.kind_is ∙ k.2))))
     listed-only p p' (block n s vs ns u) k =
         numbers (λ m y. block m y vs ns u) k.0 k.3
-        (p' vs ns u (reads.kind-is ∙ k.2) (on_second ns k.4) (omega (arith, reads.third-is, k.5))
-        (subst (λ (m : ℕ). Stands b m u) (sym reads.third-is) k.6))
+        (p' vs ns u (reads.kind_is ∙ k.2) (on_second ns k.4) (omega (arith, reads.third_is, k.5))
+        (subst (λ (m : ℕ). Stands b m u) (sym reads.third_is) k.6))
 
     application-only : kind ≡ 2 → ((ns : Nodes) → StandAll b t second ns → P (node t first ns)) → (τ : Node) → Stands b t τ → P τ
     application-only e p = listed-only (λ ns i k. p ns k) (λ vs ns u i k low st. absurd (omega (arith, e, i)))

@@ -1,4 +1,5 @@
 -- `areas::zero_words` meets its contract. The invariant: up to i the words are zeros.
+use mathlib.Core.List.{[]}
 use mathlib.Core.Path.{◌≡◌, refl}
 use Prim.Native.Nat.{◌-◌}
 use native.Mathlib.Omega.{arith}

@@ -1,6 +1,6 @@
 -- `closers::close_quantifier` meets its contract: the term, then the step.
 use mathlib.Core.Path.{◌∙◌}
-use mathlib.Core.List.{◌∷◌}
+use mathlib.Core.List.{[], ◌∷◌}
 use native.Mathlib.Omega.{arith}
 use Rattle.scratch.specs.Scratch.{bundle_in}
 use Rattle.placing.proofs.CallOutcomes.{binder_of, binder_asks, concluded_on, concluded_full}

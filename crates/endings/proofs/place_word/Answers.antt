@@ -7,7 +7,7 @@ use Rattle.scratch.specs.Stack.{halves}
 use Rattle.expansion.specs.Placed.{place_variable, place_application}
 use Rattle.endings.specs.ReadOutcomes.{TermOutcome}
 use mathlib.Core.Bool.{true}
-use mathlib.Core.List.{List}
+use mathlib.Core.List.{[], List}
 use Rattle.bundle.specs.File.{bundle_at}
 use Rattle.logic.specs.Symbols.{signature_of, result_sort}
 use Rattle.scratch.proofs.Halves.{halves_none}

@@ -1,4 +1,5 @@
 -- `pair_walk` meets its contract: a walk that ends within few pairs ends the same within more.
+use mathlib.Core.List.{[]}
 use native.Mathlib.Omega.{arith}
 use mathlib.Core.Path.{sym, ◌∙◌}
 use Rattle.bundle.specs.File.{bundle_at}

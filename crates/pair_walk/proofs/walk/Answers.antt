@@ -1,4 +1,5 @@
 -- `walk` meets its contract. The invariant: the pair, counted already, and then what is left to do on the agenda, is the whole walk. The measure is the pairs
+use mathlib.Core.List.{[]}
 use native.Mathlib.Omega.{arith}
 use mathlib.Core.Path.{refl, ◌∙◌}
 use Rattle.bundle.specs.File.{bundle_at}

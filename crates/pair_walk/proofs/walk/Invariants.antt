@@ -1,5 +1,6 @@
 -- `walk` meets its contract. The invariant: the pair, counted already, and then what is left to do on the agenda, is the whole walk. The measure is the pairs
 -- left.
+use mathlib.Core.List.{[]}
 use mathlib.Core.Path.{◌≡◌}
 use lib.ListN.{length}
 use Rattle.bundle.specs.File.{bundle_at}

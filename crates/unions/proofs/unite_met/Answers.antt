@@ -56,7 +56,7 @@ overflow_mul-n c =
     c.requires.3.room in
     omega (
       arith,
-      c.well-formed.1.1.1.1.1.1.1.0.0,
+      c.well_formed.1.1.1.1.1.1.1.0.0,
     )
 
 pub unite_known-requires : goal.unite_known-requires

@@ -18,7 +18,7 @@ returns-then-l-eq10 c =
 pub open_after-n-requires : goal.open_after-n-requires
 open_after-n-requires c =
     let l = c.loop-l in
-    omega (arith, l.invariant.few, l.invariant.inside, c.well-formed)
+    omega (arith, l.invariant.few, l.invariant.inside, c.well_formed)
 
 pub returns-then-n-eq0 : goal.returns-then-n-eq0
 returns-then-n-eq0 c =

@@ -113,8 +113,8 @@ returns-then-kind-eq-FIXES c =
     rw p.ensures
     (lower_parent b a.k
     c.requires.5) in (
-      s.ensures.lower.long-row ∙ i.ensures.0.long-row,
-      s.ensures.lower.long-set ∙ i.ensures.0.long-set,
+      s.ensures.lower.long_row ∙ i.ensures.0.long_row,
+      s.ensures.lower.long_set ∙ i.ensures.0.long_set,
       images-on b a.images.now a.scopes.now i.new.images i.new.scopes a.n a.k p.result low
           c.requires.1
           c.requires.2 i.ensures.1 s.new.images s.new.scopes
@@ -157,8 +157,8 @@ returns-else-kind-eq-FIXES c =
     c.requires.5
     (λ e. c.if-kind-eq-FIXES.false
     (c.context_field-kind.ensures ∙ e)) in (
-      s.ensures.lower.long-row ∙ i.ensures.0.long-row,
-      s.ensures.lower.long-set ∙ i.ensures.0.long-set,
+      s.ensures.lower.long_row ∙ i.ensures.0.long_row,
+      s.ensures.lower.long_set ∙ i.ensures.0.long_set,
       images-on b a.images.now a.scopes.now i.new.images i.new.scopes a.n a.k p.result low
           c.requires.1
           c.requires.2 i.ensures.1 s.new.images s.new.scopes

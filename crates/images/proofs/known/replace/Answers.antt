@@ -41,10 +41,10 @@ loop-i-init c =
     )
 
 pub shape_of-images-then-j-eq0 : goal.shape_of-images-then-j-eq0
-shape_of-images-then-j-eq0 c = c.loop-i.invariant.2.long-row
+shape_of-images-then-j-eq0 c = c.loop-i.invariant.2.long_row
 
 pub shape_of-scopes-then-j-eq0 : goal.shape_of-scopes-then-j-eq0
-shape_of-scopes-then-j-eq0 c = c.loop-i.invariant.2.long-set
+shape_of-scopes-then-j-eq0 c = c.loop-i.invariant.2.long_set
 
 pub returns-then-j-eq0 : goal.returns-then-j-eq0
 unfolding lookup or_above
@@ -147,10 +147,10 @@ loop-i-preserved c =
     )
 
 pub shape_of-images : goal.shape_of-images
-shape_of-images c = c.loop-i.invariant.2.long-row
+shape_of-images c = c.loop-i.invariant.2.long_row
 
 pub shape_of-scopes : goal.shape_of-scopes
-shape_of-scopes c = c.loop-i.invariant.2.long-set
+shape_of-scopes c = c.loop-i.invariant.2.long_set
 
 pub returns : goal.returns
 unfolding lookup or_above

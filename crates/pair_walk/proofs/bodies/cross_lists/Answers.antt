@@ -11,13 +11,13 @@ loop-i-init c = let a = c.args in
     c.first_link-i.ensures c.first_link-j.ensures h.1 h.5
 
 pub shape_of-places-then-j-eq0 : goal.shape_of-places-then-j-eq0
-shape_of-places-then-j-eq0 c = c.loop-i.invariant.same-places
+shape_of-places-then-j-eq0 c = c.loop-i.invariant.same_places
 
 pub shape_of-bound-then-j-eq0 : goal.shape_of-bound-then-j-eq0
-shape_of-bound-then-j-eq0 c = c.loop-i.invariant.same-bound
+shape_of-bound-then-j-eq0 c = c.loop-i.invariant.same_bound
 
 pub shape_of-agenda-then-j-eq0 : goal.shape_of-agenda-then-j-eq0
-shape_of-agenda-then-j-eq0 c = c.loop-i.invariant.same-agenda
+shape_of-agenda-then-j-eq0 c = c.loop-i.invariant.same_agenda
 
 pub returns-then-j-eq0 : goal.returns-then-j-eq0
 returns-then-j-eq0 c = let a = c.args in
@@ -38,7 +38,7 @@ cross_pair-requires c = let a = c.args in
     let here = along-here a.file.now a.b a.n a.places.now a.bound.now a.agenda.now a.h a.depth a.first a.second l.invariant
     c.loop-i-test.true c.if-j-eq0.false c.link_field-x.ensures c.link_field-y.ensures in (
       l.invariant.crossing,
-      omega (arith, here.1, h.2, l.invariant.same-agenda),
+      omega (arith, here.1, h.2, l.invariant.same_agenda),
       here.0.0,
       here.0.1,
       h.3,
@@ -55,7 +55,7 @@ overflow_add-height c = let a = c.args in
       arith,
       here.1,
       c.requires.2,
-      c.well-formed.1.1.1.1.1.0,
+      c.well_formed.1.1.1.1.1.0,
     )
 
 pub overflow_add-deep : goal.overflow_add-deep
@@ -80,7 +80,7 @@ loop-i-smaller c = let a = c.args in
     let l = c.loop-i in
     omega (
       arith,
-      walk_length a.file.now a.b l.i c.next_link-i.result c.loop-i-test.true l.invariant.left-link c.next_link-i.ensures,
+      walk_length a.file.now a.b l.i c.next_link-i.result c.loop-i-test.true l.invariant.left_link c.next_link-i.ensures,
     )
 
 pub loop-i-preserved : goal.loop-i-preserved
@@ -92,17 +92,17 @@ loop-i-preserved c = let a = c.args in
     r.auto.places r.auto.bound r.ensures.0 r.ensures.1 r.ensures.2
 
 pub shape_of-places : goal.shape_of-places
-shape_of-places c = c.loop-i.invariant.same-places
+shape_of-places c = c.loop-i.invariant.same_places
 
 pub shape_of-bound : goal.shape_of-bound
-shape_of-bound c = c.loop-i.invariant.same-bound
+shape_of-bound c = c.loop-i.invariant.same_bound
 
 pub shape_of-agenda : goal.shape_of-agenda
-shape_of-agenda c = c.loop-i.invariant.same-agenda
+shape_of-agenda c = c.loop-i.invariant.same_agenda
 
 pub returns : goal.returns
 returns c = let a = c.args in
     let l = c.loop-i in
     let e = along-end a.file.now a.b a.n a.places.now a.bound.now a.agenda.now a.h a.depth a.first a.second l.invariant
     c.loop-i-test.false in
-    (l.invariant.same-agenda, e.0, e.1, e.2)
+    (l.invariant.same_agenda, e.0, e.1, e.2)

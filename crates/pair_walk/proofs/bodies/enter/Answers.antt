@@ -37,7 +37,7 @@ overflow_add-result c = let a = c.args in
       arith,
       h.4,
       one,
-      c.well-formed.1.1.1.1.1.0,
+      c.well_formed.1.1.1.1.1.0,
     )
 
 pub returns-then-is_binder : goal.returns-then-is_binder

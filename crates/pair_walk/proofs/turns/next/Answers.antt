@@ -173,10 +173,10 @@ uncross-requires c = let a = c.args in
     first.ensures second.ensures none last.ensures in (
       placed.long,
       placed.words,
-      known.left-known.0,
-      known.left-known.1,
-      known.right-known.0,
-      known.right-known.1,
+      known.left_known.0,
+      known.left_known.1,
+      known.right_known.0,
+      known.right_known.1,
       c.requires.4,
       omega (
         arith,
@@ -228,8 +228,8 @@ take-requires c = let a = c.args in
         c.requires.3,
         c.loop-height-test.true,
       ),
-      (c.if-i-ne0.true, known.left-link),
-      (c.if-j-ne0.true, known.right-link),
+      (c.if-i-ne0.true, known.left_link),
+      (c.if-j-ne0.true, known.right_link),
     )
 
 pub shape_of-places-then-j-ne0 : goal.shape_of-places-then-j-ne0
@@ -368,7 +368,7 @@ loop-height-preserved-then-l-eq0 c = let a = c.args in
       leave-after a.file.now a.b a.n a.most l.agenda l.places l.bound l.height l.deep a.left l.inv.0 some top.ensures
           right.ensures
           first.ensures second.ensures none last.ensures u.new.places u.new.bound
-          (u.ensures.2 ps known.left-place known.right-place placed),
+          (u.ensures.2 ps known.left_place known.right_place placed),
       omega (arith, l.inv.1),
       l.inv.2,
       u.ensures.0 ∙ l.inv.3,

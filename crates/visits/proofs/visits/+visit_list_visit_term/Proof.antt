@@ -117,7 +117,7 @@ module _ (t : ℕ) where
       c.before.before.before.before.before.before.before.args.c) c.before.before.before.before.before.before.before.args.list
       c.before.before.link-field.result c.link-field2.result
   link_reads c =
-      record { some = c.before.before.before.before.if1.false; value-is = c.before.before.link-field.ensures.0; next_is = c.link-field2.ensures.0 }
+      record { some = c.before.before.before.before.if1.false; value_is = c.before.before.link-field.ensures.0; next_is = c.link-field2.ensures.0 }
 
   visit_list_visit_term_requires : visit-list-lts.Need-visit-term-requires (list_calls t) (visit_list_at t) visit-list.Post
   visit_list_visit_term_requires c κs =
@@ -226,10 +226,10 @@ module _ (t : ℕ) where
       c.before.before.before.before.before.before.term-field.result c.before.before.before.before.term-field2.result
       c.before.before.term-field3.result c.term-field4.result
   term_reads c = record {
-    kind-is = c.before.before.before.before.before.before.term-field.ensures.0;
+    kind_is = c.before.before.before.before.before.before.term-field.ensures.0;
     first_is = c.before.before.before.before.term-field2.ensures.0;
     second_is = c.before.before.term-field3.ensures.0;
-    third-is = c.term-field4.ensures.0;
+    third_is = c.term-field4.ensures.0;
   }
 
   -- ---- a variable
