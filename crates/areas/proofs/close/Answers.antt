@@ -8,9 +8,7 @@ use Rattle.areas.proofs.close.Goals as goal
 pub zero_bytes-requires-in-Written : goal.zero_bytes-requires-in-Written
 unfolding kept
 zero_bytes-requires-in-Written c =
-    let is = c.answer-in-Written-1.given in
-    let e : kept c.args.answer ≡
-    c.in-Written.length = ap kept c.in-Written.is in
+    let e : kept c.args.answer ≡ c.in-Written.length = ap kept c.in-Written.is in
     omega (arith, e, c.requires)
 
 pub returns-in-Refused : goal.returns-in-Refused

@@ -7,7 +7,6 @@ use Rattle.nezkaldo.proofs.nezkaldo_check.Goals as goal
 
 pub pack-requires : goal.pack-requires
 pack-requires c =
-    let k = c.answer-in-Refused-1.given in
     let s = refused_small _ _ c.in-Refused.number c.in-Refused.record (sym c.check-answer.ensures.value ∙ c.in-Refused.is) in
     omega (arith, s.0, s.1)
 

@@ -16,4 +16,9 @@ reply_number-requires c =
 pub returns : goal.returns
 returns c =
     let l = c.read-reply.ensures in
-    (c.reply_number.ensures ∙ ap packed_reply l.answer, (l.output, (l.scratch, l.stack)))
+    record {
+      value = c.reply_number.ensures ∙ ap packed_reply l.answer;
+      out_after = l.output;
+      words_after = l.scratch;
+      sets_after = l.stack;
+    }

@@ -8,7 +8,6 @@ use Rattle.nezkaldo.proofs.reply_number.Goals as goal
 pub pack-requires : goal.pack-requires
 unfolding packed_reply
 pack-requires c =
-    let k = c.reply-in-Refused-1.given in
     let e : packed_reply c.args.reply ≡ 4294967296 * c.in-Refused.number + c.in-Refused.record = ap packed_reply c.in-Refused.is in
     omega (arith, e, c.requires)
 

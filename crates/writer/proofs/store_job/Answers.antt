@@ -74,12 +74,12 @@ job_fault-number-requires c =
     (w, omega (arith, w.within.terms, areas.stack))
 
 pub shape_of-sets-then-number-ne0 : goal.shape_of-sets-then-number-ne0
-shape_of-sets-then-number-ne0 c = c.sets-1.given
+shape_of-sets-then-number-ne0 c = c.job_fault-number.auto.sets
 
 pub returns-then-number-ne0 : goal.returns-then-number-ne0
 returns-then-number-ne0 c =
     let a = c.args in
-    stored_refused refl refl c.sets-1.given
+    stored_refused refl refl c.job_fault-number.auto.sets
     (refused-late a.job.now (length a.out.now) (length a.words.now) (length a.sets.now)
     (none a.job.now (length a.out.now) (length a.words.now) (length a.sets.now) c.long_enough-enough.ensures c.tables_fault-early.ensures c.if-early-ne0.false)
     c.job_fault-number.result (early_is a.job.now c.counts-b.ensures c.job_fault-number.ensures.1) c.if-number-ne0.true)
@@ -101,7 +101,7 @@ visit_job-visited-requires c =
     let a = c.args in
     let b = begun a.job.now (length a.out.now) (length a.words.now) (length a.sets.now) c.long_enough-enough.ensures c.tables_fault-early.ensures c.if-early-ne0.false
     c.counts-b.ensures c.job_fault-number.ensures.1 c.if-number-ne0.false c.claim_left-left.ensures.0 c.copy_job.ensures.1 in
-    (visit_asks b c.words-1.given c.sets-1.given, job_formed b)
+    (visit_asks b c.copy_job.auto.words c.job_fault-number.auto.sets, job_formed b)
 
 pub store_file-requires : goal.store_file-requires
 store_file-requires c =
@@ -124,27 +124,27 @@ bytes-requires c =
     rw t.counts t.holds.within
 
 pub shape_of-words-in-Full : goal.shape_of-words-in-Full
-shape_of-words-in-Full c = c.words-2-1.given ∙ c.words-1.given
+shape_of-words-in-Full c = c.visit_job-visited.auto.words ∙ c.copy_job.auto.words
 
 pub shape_of-sets-in-Full : goal.shape_of-sets-in-Full
-shape_of-sets-in-Full c = c.sets-2-1.given ∙ c.sets-1.given
+shape_of-sets-in-Full c = c.visit_job-visited.auto.stack ∙ c.job_fault-number.auto.sets
 
 pub returns-in-Full : goal.returns-in-Full
 returns-in-Full c =
     let a = c.args in
     let b = begun a.job.now (length a.out.now) (length a.words.now) (length a.sets.now) c.long_enough-enough.ensures c.tables_fault-early.ensures c.if-early-ne0.false
     c.counts-b.ensures c.job_fault-number.ensures.1 c.if-number-ne0.false c.claim_left-left.ensures.0 c.copy_job.ensures.1 in
-    stored_refused refl (c.words-2-1.given ∙ c.words-1.given) (c.sets-2-1.given ∙ c.sets-1.given)
+    stored_refused refl (c.visit_job-visited.auto.words ∙ c.copy_job.auto.words) (c.visit_job-visited.auto.stack ∙ c.job_fault-number.auto.sets)
     (refused_full b (told_full (visit_is b _ _ c.visit_job-visited.ensures.outcome) c.in-Full.is))
 
 pub shape_of-out : goal.shape_of-out
-shape_of-out c = c.out-1.given
+shape_of-out c = c.store_file.auto.out
 
 pub shape_of-words-in-Done : goal.shape_of-words-in-Done
-shape_of-words-in-Done c = c.words-2-1.given ∙ c.words-1.given
+shape_of-words-in-Done c = c.visit_job-visited.auto.words ∙ c.copy_job.auto.words
 
 pub shape_of-sets-in-Done : goal.shape_of-sets-in-Done
-shape_of-sets-in-Done c = c.sets-2-1.given ∙ c.sets-1.given
+shape_of-sets-in-Done c = c.visit_job-visited.auto.stack ∙ c.job_fault-number.auto.sets
 
 pub returns-in-Done : goal.returns-in-Done
 returns-in-Done c =
@@ -153,6 +153,6 @@ returns-in-Done c =
     c.counts-b.ensures c.job_fault-number.ensures.1 c.if-number-ne0.false c.claim_left-left.ensures.0 c.copy_job.ensures.1 in
     stored_expanded a.job.now a.out.now a.words.now a.sets.now
     c.store_file.new.out c.visit_job-visited.new.words c.visit_job-visited.new.stack
-    c.out-1.given (c.words-2-1.given ∙ c.words-1.given) (c.sets-2-1.given ∙ c.sets-1.given)
+    c.store_file.auto.out (c.visit_job-visited.auto.words ∙ c.copy_job.auto.words) (c.visit_job-visited.auto.stack ∙ c.job_fault-number.auto.sets)
     b c.visit_job-visited.new.words c.in-Done.counts c.in-Done.result c.bytes.result
     (told_done (visit_is b _ _ c.visit_job-visited.ensures.outcome) c.in-Done.is) c.bytes.ensures c.store_file.ensures.1

@@ -43,7 +43,7 @@ copy_section-requires-in-loop-s c =
     let n = c.extent-count.ensures in
     let fits = section_fits c.args.b c.requires.0.within l.s (omega arith) in (
       rw (l.invariant.1, n) (omega (arith, fits.0, c.requires.0.exact)),
-      rw (l.invariant.2, n) (omega (arith, fits.1, fits.2, c.requires.1, c.words-1.given, l.invariant.3)),
+      rw (l.invariant.2, n) (omega (arith, fits.1, fits.2, c.requires.1, c.copy_section.auto.words, l.invariant.3)),
     )
 
 pub overflow_add-from : goal.overflow_add-from
@@ -65,21 +65,21 @@ loop-s-preserved c =
     let l = c.loop-s in
     let n = c.extent-count.ensures in
     let fits = section_fits c.args.b c.requires.0.within l.s (omega arith) in
-    let room : place_of limits l.s ≤ length l.words = omega (arith, fits.2, c.requires.1, c.words-1.given, l.invariant.3) in (
+    let room : place_of limits l.s ≤ length l.words = omega (arith, fits.2, c.requires.1, c.copy_section.auto.words, l.invariant.3) in (
       omega arith,
       rw (l.invariant.1, n, add-one l.s),
       rw (l.invariant.2, most l.s c.extent-most.ensures c.largest-room.ensures, add-one l.s),
-      c.words-in-loop-s-1.given ∙ l.invariant.3,
+      c.copy_section-in-loop-s.auto.words ∙ l.invariant.3,
       rw (c.copy_section-in-loop-s.ensures, l.invariant.1, l.invariant.2, n, add-one l.s)
           (holds_on c.args.job.now c.args.b c.requires.0.within l.s l.words room l.invariant.4),
     )
 
 pub shape_of-words : goal.shape_of-words
-shape_of-words c = c.loop-s.invariant.3 ∙ c.words-1.given
+shape_of-words c = c.loop-s.invariant.3 ∙ c.copy_section.auto.words
 
 pub returns : goal.returns
 returns c =
     let a = c.args in
     let l = c.loop-s in
     let past : l.s ≡ sections = omega arith in
-    (l.invariant.3 ∙ c.words-1.given, bundle_same a.job.now l.words a.b (rw past at l.invariant.4))
+    (l.invariant.3 ∙ c.copy_section.auto.words, bundle_same a.job.now l.words a.b (rw past at l.invariant.4))

@@ -44,7 +44,7 @@ pub store_section-requires-in-loop-s : goal.store_section-requires-in-loop-s
 store_section-requires-in-loop-s c =
     let l = c.loop-s in
     let n = c.extent-count.ensures in
-    let long = l.invariant.3.long ∙ c.out-1.given in
+    let long = l.invariant.3.long ∙ c.store_section.auto.out in
     let fits = section_fits c.args.c c.requires.0.room.within l.s (omega arith) in (
       rw (l.invariant.1, n) (omega (arith, fits.1, fits.2, c.requires.0.room.long)),
       rw (l.invariant.2, n)
@@ -77,11 +77,11 @@ loop-s-preserved c =
     )
 
 pub shape_of-out : goal.shape_of-out
-shape_of-out c = c.loop-s.invariant.3.long ∙ c.out-1.given
+shape_of-out c = c.loop-s.invariant.3.long ∙ c.store_section.auto.out
 
 pub returns : goal.returns
 returns c =
     let a = c.args in
     let l = c.loop-s in
     let past : l.s ≡ sections = omega arith in
-    (l.invariant.3.long ∙ c.out-1.given, file_stored a.words.now a.c a.left a.right (rw past at l.invariant.3))
+    (l.invariant.3.long ∙ c.store_section.auto.out, file_stored a.words.now a.c a.left a.right (rw past at l.invariant.3))

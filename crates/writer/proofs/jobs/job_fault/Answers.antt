@@ -58,14 +58,14 @@ is_closed-requires c =
       record_within n.result c.args.b.terms c.claim_left-left.result (λ z. omega (arith, k.0)) k.1,
       mul-le-mul_right c.args.b.terms n.ensures.1,
       c.requires.1,
-      c.sets-1.given,
+      c.free_sets.auto.area,
     )
 
 pub returns-then-not-is_closed : goal.returns-then-not-is_closed
 returns-then-not-is_closed c =
     let n = c.words_for-n in
     let k = left_known c.args.job.now c.args.b c.claim_left-left.result c.claim_right-right.result c.claim_left-left.ensures.0 c.claim_right-right.ensures.0 (ap not c.if-not-left-terms.false) in (
-      c.sets-1.given,
+      c.free_sets.auto.area,
       not_closed c.args.job.now c.args.b c.claim_left-left.result c.claim_right-right.result c.claim_left-left.ensures.0 c.claim_right-right.ensures.0
           c.is_closed.result
           (c.is_closed.ensures ∙ closed_is c.args.job.now c.args.b n.result (length c.args.sets.now) _ c.claim_left-left.result
@@ -78,7 +78,7 @@ pub returns : goal.returns
 returns c =
     let n = c.words_for-n in
     let k = left_known c.args.job.now c.args.b c.claim_left-left.result c.claim_right-right.result c.claim_left-left.ensures.0 c.claim_right-right.ensures.0 (ap not c.if-not-left-terms.false) in (
-      c.sets-1.given,
+      c.free_sets.auto.area,
       all_hold c.args.job.now c.args.b c.claim_left-left.result c.claim_right-right.result c.claim_left-left.ensures.0 c.claim_right-right.ensures.0
           c.is_closed.result
           (c.is_closed.ensures ∙ closed_is c.args.job.now c.args.b n.result (length c.args.sets.now) _ c.claim_left-left.result
