@@ -9,13 +9,12 @@ use Rattle.closers.proofs.close_variable.Goals as goal
 pub conclude_alone-requires-in-Gives : goal.conclude_alone-requires-in-Gives
 conclude_alone-requires-in-Gives c =
     let a = c.args in
-    let i = c.image_in-image in
-    let g = c.image-1.given in (
+    let i = c.image_in-image in (
       c.requires.0,
       omega arith,
       c.requires.1,
       c.requires.2,
-      given_word a.words.now a.c c.requires.0.version (λ j. omega (arith, c.slice_known-1.given j))
+      given_word a.words.now a.c c.requires.0.version (λ j. omega (arith, c.type_inv.words j))
           a.context a.x _ (sym i.ensures ∙ c.in-Gives.is),
     )
 
