@@ -88,7 +88,7 @@ returns-in-Ended c = let a = c.args in
     (t.ensures (free_in a.b.terms a.area.now a.n) (image_at a.b.variables a.images.now a.context)) c.in-Ended.is
     (opened-whole (free_in a.b.terms a.area.now a.n) (image_at a.b.variables a.images.now a.context) a.file.now a.b a.n a.most (within_by (free_in a.b.terms a.area.now a.n) (image_at a.b.variables a.images.now a.context) (bundle_at a.file.now a.b) a.left []
     a.right a.most)
-    l.agenda l.places l.bound l.l l.r l.height l.depth l.spare l.inv.0 (c.pair_meets.ensures (crossed_by (frames l.agenda l.height)) l.inv.0.held.crossing.placed)
+    l.agenda l.places l.bound l.l l.r l.height l.depth l.spare l.invariant.0 (c.pair_meets.ensures (crossed_by (frames l.agenda l.height)) l.invariant.0.held.crossing.placed)
     c.if-not-pair_meets.false o.new.agenda o.result o.ensures.0 o.ensures.2) in
     u
 
@@ -103,7 +103,7 @@ loop-b-smaller c = let a = c.args in
     (t.ensures (free_in a.b.terms a.area.now a.n) (image_at a.b.variables a.images.now a.context)) c.in-Pair.is
     (opened-whole (free_in a.b.terms a.area.now a.n) (image_at a.b.variables a.images.now a.context) a.file.now a.b a.n a.most (within_by (free_in a.b.terms a.area.now a.n) (image_at a.b.variables a.images.now a.context) (bundle_at a.file.now a.b) a.left []
     a.right a.most)
-    l.agenda l.places l.bound l.l l.r l.height l.depth l.spare l.inv.0 (c.pair_meets.ensures (crossed_by (frames l.agenda l.height)) l.inv.0.held.crossing.placed)
+    l.agenda l.places l.bound l.l l.r l.height l.depth l.spare l.invariant.0 (c.pair_meets.ensures (crossed_by (frames l.agenda l.height)) l.invariant.0.held.crossing.placed)
     c.if-not-pair_meets.false o.new.agenda o.result o.ensures.0 o.ensures.2) in
     omega (arith, u.1)
 
@@ -118,6 +118,6 @@ loop-b-preserved c = let a = c.args in
     (t.ensures (free_in a.b.terms a.area.now a.n) (image_at a.b.variables a.images.now a.context)) c.in-Pair.is
     (opened-whole (free_in a.b.terms a.area.now a.n) (image_at a.b.variables a.images.now a.context) a.file.now a.b a.n a.most (within_by (free_in a.b.terms a.area.now a.n) (image_at a.b.variables a.images.now a.context) (bundle_at a.file.now a.b) a.left []
     a.right a.most)
-    l.agenda l.places l.bound l.l l.r l.height l.depth l.spare l.inv.0 (c.pair_meets.ensures (crossed_by (frames l.agenda l.height)) l.inv.0.held.crossing.placed)
+    l.agenda l.places l.bound l.l l.r l.height l.depth l.spare l.invariant.0 (c.pair_meets.ensures (crossed_by (frames l.agenda l.height)) l.invariant.0.held.crossing.placed)
     c.if-not-pair_meets.false o.new.agenda o.result o.ensures.0 o.ensures.2) in
-    (u.0, t.auto.places ∙ l.inv.1, t.auto.bound ∙ l.inv.2, t.auto.agenda ∙ o.ensures.0 ∙ l.inv.3)
+    (u.0, t.auto.places ∙ l.invariant.1, t.auto.bound ∙ l.invariant.2, t.auto.agenda ∙ o.ensures.0 ∙ l.invariant.3)

@@ -1,7 +1,8 @@
 -- `nodes::all_fine` meets its contract. The invariant: all nodes pass where those from here on do. The measure is what is left of the text.
 use native.Mathlib.Omega.{arith}
 use Prim.Native.Nat.{◌-◌}
-use mathlib.Core.Path.{refl}
+use mathlib.Core.Path.{refl, ap}
+use mathlib.Core.Bool.{not}
 use Rattle.bracketing.proofs.Fronts.{lies}
 use Rattle.node_tests.proofs.NodeLaws.{fine_over, fine-fails, fine-on}
 use Rattle.node_tests.proofs.nodes.all_fine.Goals as goal
@@ -21,7 +22,7 @@ node_fine-requires c = let k = c.next_lexeme-l in (c.requires, lies _ _ k.result
 pub returns-then-not-node_fine : goal.returns-then-not-node_fine
 returns-then-not-node_fine c =
     fine-fails c.loop-b.invariant c.next_lexeme-l.ensures c.if-l-eq10.false c.node_fine.ensures
-    c.if-not-node_fine.true
+    (ap not c.if-not-node_fine.true)
 
 pub loop-b-smaller : goal.loop-b-smaller
 loop-b-smaller c =
@@ -31,4 +32,4 @@ loop-b-smaller c =
 pub loop-b-preserved : goal.loop-b-preserved
 loop-b-preserved c =
     fine-on c.loop-b.invariant c.next_lexeme-l.ensures c.if-l-eq10.false c.node_fine.ensures
-    c.if-not-node_fine.false
+    (ap not c.if-not-node_fine.false)

@@ -42,13 +42,12 @@ loop-i-smaller c =
 
 -- src/scan.rt:109:5
 pub loop-i-preserved : goal.loop-i-preserved
-loop-i-preserved c =
-    (
-      (passing-on (declared_by c.args.symbols c.args.variables) _ _ c.loop-i.p _ c.loop-i.invariant.0
-          c.loop-i-test.true _ _ c.turn-t.ensures
-          c.if-number-ne0.false).0,
-      search rules,
-    )
+loop-i-preserved c = (
+  (passing-on (declared_by c.args.symbols c.args.variables) _ _ c.loop-i.p _ c.loop-i.invariant.0
+      c.loop-i-test.true _ _ c.turn-t.ensures
+      c.if-number-ne0.false).0,
+  search rules,
+)
 
 -- src/scan.rt:121:9
 pub shape_of-area-then-spot-eq0 : goal.shape_of-area-then-spot-eq0
