@@ -3,14 +3,12 @@ use native.Mathlib.Omega.{arith}
 use borrow.Author.Rules.{rules}
 use mathlib.Core.Path.{◌≡◌, sym, ◌∙◌}
 use mathlib.Core.Bool.{true, false}
-use mathlib.Core.List.{List}
 use mir.Syntax.{w32}
 use mir.Val.{Fits}
 use lib.ListN.{get_or, set, length-set}
 use Rattle.bundle.specs.Bundle.{Bundle, link_of, term_of}
 use Rattle.scratch.specs.Stack.{halves, half_of}
 use Rattle.placing.proofs.Pairs.{Pair}
-use Rattle.placing.proofs.OutcomeFacts.{Words}
 use Rattle.visits.proofs.ListTurns.{left_le, LinkReads, list_none, first_asks, first-full, first-words, first-height, rest-asks, list-more}
 use Rattle.visits.proofs.TermTurns.{Reads, quantified, term_words_lem, term-variable, scope-closed, scope-asks, scope-full, scope-ready, scope-done}
 use Rattle.visits.proofs.TermTurns.{args-asks, args-full, args-ready, apply-done, let-closed, body-asks, body-full, body-words, body-ready, body-done}
@@ -31,11 +29,8 @@ term_reads k f s h = record { kind_is = k; first_is = f; second_is = s; third_is
 pair : {p x y : ℕ} → half_of true p ≡ x → half_of false p ≡ y → Pair p x y
 pair upper lower = record { upper = upper; lower = lower }
 
--- each word fits its type
-as_words : (w : List ℕ) → ((i : ℕ) → Fits w32 (get_or w i 0)) → Words w
-as_words w f i = omega (arith, f i)
-
 -- ---- the visit to a list
+
 pub visit_list-returns-then-list-eq0 : goal.visit_list-returns-then-list-eq0
 visit_list-returns-then-list-eq0 t c = (list_none c.requires.0 c.if-list-eq0.true, list_holds c.requires.1)
 
@@ -59,6 +54,7 @@ visit_list-pack-pair-requires t c =
     (link_reads c.if-list-eq0.false c.link_field-value.ensures.0 c.link_field-next.ensures.0) c.visit_term-visited.ensures.0 c.in-Done.is
     (λ i. omega (arith, c.type_inv.words i))
 
+-- a place for the pair
 pub visit_list-offset_bounds-stack-height : goal.visit_list-offset_bounds-stack-height
 visit_list-offset_bounds-stack-height t c = omega (arith, (first-height c.requires.0 (link_reads c.if-list-eq0.false c.link_field-value.ensures.0 c.link_field-next.ensures.0) c.visit_term-visited.ensures.0 c.in-Done.is).1)
 
@@ -94,6 +90,7 @@ visit_list-returns-in-Done t c = (
 )
 
 -- ---- the visit to a term
+
 pub visit_term-term_field-kind-requires : goal.visit_term-term_field-kind-requires
 visit_term-term_field-kind-requires t c = (c.requires.0.ready.room, omega arith)
 
@@ -107,6 +104,7 @@ pub visit_term-term_field-third-requires : goal.visit_term-term_field-third-requ
 visit_term-term_field-third-requires t c = (c.requires.0.ready.room, omega arith)
 
 -- ---- a variable
+
 pub visit_term-close_variable-requires : goal.visit_term-close_variable-requires
 visit_term-close_variable-requires t c =
     let k = term_words_lem c.requires.0 in
@@ -123,6 +121,8 @@ visit_term-returns-then-kind-eq-VARIABLE t c = (
       c.args.context
       c.close_variable.ensures.1,
 )
+
+-- ---- a quantifier
 
 pub visit_term-open_quantifier-opened-requires : goal.visit_term-open_quantifier-opened-requires
 visit_term-open_quantifier-opened-requires t c = (
@@ -145,10 +145,11 @@ visit_term-visit_term-visited-requires t c =
 pub visit_term-close_quantifier-requires : goal.visit_term-close_quantifier-requires
 visit_term-close_quantifier-requires t c =
     let q = sym c.is_binder.ensures ∙ c.if-is_binder.true in
+    let word : (i : ℕ) → Fits w32 (get_or c.visit_term-visited.new.words i 0) = search rules in
     let k = scope-ready c.requires.0 (term_reads c.term_field-kind.ensures.0 c.term_field-first.ensures.0 c.term_field-second.ensures.0 c.term_field-third.ensures.0) q
     c.open_quantifier-opened.ensures.0 c.open_quantifier-opened.ensures.1 c.in-Done.is
     c.visit_term-visited.ensures.0 c.in-Done-visited.is
-    (as_words _ (search rules)) in
+    (λ i. omega (arith, word i)) in
     let n = term_words_lem c.requires.0 in
     let range = quantified c.term_field-kind.result q in
     (k.0, n.0, n.1, q, omega (arith, range.1), k.1, k.2, k.3, c.visit_term-visited.ensures.1.held _ _ _ c.in-Done-visited.is)
@@ -178,6 +179,8 @@ visit_term-returns-in-Done-visited t c = (
   c.close_quantifier.ensures.2,
 )
 
+-- ---- the list of arguments, or of bound terms
+
 pub visit_term-visit_list-listed-requires : goal.visit_term-visit_list-listed-requires
 visit_term-visit_list-listed-requires t c = (
   omega (
@@ -202,6 +205,7 @@ visit_term-returns-in-Full-listed t c = (
 )
 
 -- ---- an application
+
 pub visit_term-close_application-requires : goal.visit_term-close_application-requires
 visit_term-close_application-requires t c =
     let k = args-ready c.requires.0 (term_reads c.term_field-kind.ensures.0 c.term_field-first.ensures.0 c.term_field-second.ensures.0 c.term_field-third.ensures.0)
@@ -229,6 +233,7 @@ visit_term-returns-then-kind-eq-APPLICATION t c = (
 )
 
 -- ---- a let
+
 pub visit_term-open_let-opened-requires : goal.visit_term-open_let-opened-requires
 visit_term-open_let-opened-requires t c =
     let k = args-ready c.requires.0 (term_reads c.term_field-kind.ensures.0 c.term_field-first.ensures.0 c.term_field-second.ensures.0 c.term_field-third.ensures.0)
@@ -256,6 +261,7 @@ visit_term-visit_term-visited-requires-in-Done-opened t c =
     c.in-Done-opened.is in
     (omega (arith, c.decreases, k.1), (k.0, indexed))
 
+-- numbers for the body's pair
 pub visit_term-pack-pair-requires : goal.visit_term-pack-pair-requires
 visit_term-pack-pair-requires t c =
     body-words c.requires.0 (term_reads c.term_field-kind.ensures.0 c.term_field-first.ensures.0 c.term_field-second.ensures.0 c.term_field-third.ensures.0)
@@ -264,6 +270,7 @@ visit_term-pack-pair-requires t c =
     c.open_let-opened.ensures.1 c.in-Done-opened.is c.visit_term-visited-in-Done-opened.ensures.0 c.in-Done-visited-2.is
     (λ i. omega (arith, c.type_inv.words i))
 
+-- a place for the body's pair
 pub visit_term-offset_bounds-stack-top : goal.visit_term-offset_bounds-stack-top
 visit_term-offset_bounds-stack-top t c = omega (
   arith,
