@@ -34,12 +34,6 @@ pair upper lower = record { upper = upper; lower = lower }
 pub visit_list-returns-then-list-eq0 : goal.visit_list-returns-then-list-eq0
 visit_list-returns-then-list-eq0 t c = (list_none c.requires.0 c.if-list-eq0.true, list_holds c.requires.1)
 
-pub visit_list-link_field-value-requires : goal.visit_list-link_field-value-requires
-visit_list-link_field-value-requires t c = (c.requires.0.ready.room, omega arith)
-
-pub visit_list-link_field-next-requires : goal.visit_list-link_field-next-requires
-visit_list-link_field-next-requires t c = (c.requires.0.ready.room, omega arith)
-
 pub visit_list-visit_term-visited-requires : goal.visit_list-visit_term-visited-requires
 visit_list-visit_term-visited-requires t c =
     let k = first_asks c.requires.0
@@ -56,13 +50,22 @@ visit_list-pack-pair-requires t c =
 
 -- a place for the pair
 pub visit_list-offset_bounds-stack-height : goal.visit_list-offset_bounds-stack-height
-visit_list-offset_bounds-stack-height t c = omega (arith, (first-height c.requires.0 (link_reads c.if-list-eq0.false c.link_field-value.ensures.0 c.link_field-next.ensures.0) c.visit_term-visited.ensures.0 c.in-Done.is).1)
+visit_list-offset_bounds-stack-height t c =
+    let k = first-height c.requires.0 (link_reads c.if-list-eq0.false c.link_field-value.ensures.0 c.link_field-next.ensures.0)
+    c.visit_term-visited.ensures.0 c.in-Done.is in
+    omega (arith, k.1)
 
 pub visit_list-bounds-stack-height : goal.visit_list-bounds-stack-height
-visit_list-bounds-stack-height t c = (first-height c.requires.0 (link_reads c.if-list-eq0.false c.link_field-value.ensures.0 c.link_field-next.ensures.0) c.visit_term-visited.ensures.0 c.in-Done.is).2
+visit_list-bounds-stack-height t c =
+    let k = first-height c.requires.0 (link_reads c.if-list-eq0.false c.link_field-value.ensures.0 c.link_field-next.ensures.0)
+    c.visit_term-visited.ensures.0 c.in-Done.is in
+    k.2
 
 pub visit_list-overflow_add-height : goal.visit_list-overflow_add-height
-visit_list-overflow_add-height t c = omega (arith, (first-height c.requires.0 (link_reads c.if-list-eq0.false c.link_field-value.ensures.0 c.link_field-next.ensures.0) c.visit_term-visited.ensures.0 c.in-Done.is).1)
+visit_list-overflow_add-height t c =
+    let k = first-height c.requires.0 (link_reads c.if-list-eq0.false c.link_field-value.ensures.0 c.link_field-next.ensures.0)
+    c.visit_term-visited.ensures.0 c.in-Done.is in
+    omega (arith, k.1)
 
 pub visit_list-visit_list-requires : goal.visit_list-visit_list-requires
 visit_list-visit_list-requires t c =
@@ -90,18 +93,6 @@ visit_list-returns-in-Done t c = (
 )
 
 -- ---- the visit to a term
-
-pub visit_term-term_field-kind-requires : goal.visit_term-term_field-kind-requires
-visit_term-term_field-kind-requires t c = (c.requires.0.ready.room, omega arith)
-
-pub visit_term-term_field-first-requires : goal.visit_term-term_field-first-requires
-visit_term-term_field-first-requires t c = (c.requires.0.ready.room, omega arith)
-
-pub visit_term-term_field-second-requires : goal.visit_term-term_field-second-requires
-visit_term-term_field-second-requires t c = (c.requires.0.ready.room, omega arith)
-
-pub visit_term-term_field-third-requires : goal.visit_term-term_field-third-requires
-visit_term-term_field-third-requires t c = (c.requires.0.ready.room, omega arith)
 
 -- ---- a variable
 
