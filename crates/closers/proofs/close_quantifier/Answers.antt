@@ -11,7 +11,7 @@ pub conclude_one-requires : goal.conclude_one-requires
 conclude_one-requires c =
     let a = c.args in
     let q = binder_of a.kind c.requires.3 in
-    let k = binder_asks (bundle_in a.words.now a.c) q.0 a.y a.result
+    let k = binder_asks (bundle_in a.words.now a.c) q.0 a.y a.res
     (c.place_binder-placed.ensures.1 q.0 q.1)
     c.in-Done.is in
     (k.0, omega arith, c.requires.1, c.requires.2, k.1, c.requires.7)
