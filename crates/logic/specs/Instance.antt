@@ -77,7 +77,7 @@ pub record LetAsPrinted (b : Bundle) (Γ : ℕ) (left right : Term) (premises : 
   pub earlier : List ℕ
   pub last : ℕ
   pub inner : ℕ
-  pub is_let_lem : left ≡ letIn variables bound body
+  pub is_let : left ≡ letIn variables bound body
   pub premises_are : premises ≡ earlier ++ (last ∷ [])
   pub bound_say : SayAll b Γ bound carried earlier
   pub body_says : Says b last inner body right
