@@ -72,12 +72,12 @@ pass_applied-overflow_add-at t c = omega (
 
 pub pass_applied-apply-requires : goal.pass_applied-apply-requires
 pass_applied-apply-requires t c = let v = c.loop-c.invariant in (
-      c.requires.0,
-      v.asks.held,
-      subst (λ (n : ℕ). n ≤ 4294967295) (sym c.equal_on-f.ensures) (P.equal_on_small c.args.symbol c.half-first.result c.requires.2),
-      v.above,
-      v.asks.height,
-    )
+  c.requires.0,
+  v.asks.held,
+  subst (λ (n : ℕ). n ≤ 4294967295) (sym c.equal_on-f.ensures) (P.equal_on_small c.args.symbol c.half-first.result c.requires.2),
+  v.above,
+  v.asks.height,
+)
 
 pub pass_applied-shape_of-words : goal.pass_applied-shape_of-words
 pass_applied-shape_of-words t c = c.apply.ensures.0 ∙ c.loop-c.invariant.long
@@ -109,12 +109,12 @@ pass_bound-returns-then-not-is_new t c = (refl, λ ne. absurd (ne refl))
 
 pub pass_bound-pass_formula-e-requires : goal.pass_bound-pass_formula-e-requires
 pass_bound-pass_formula-e-requires t c = let x = c.bound_in-x.ensures in (
-      omega (arith, c.decreases, (x.listed c.if-from-eq0.false).0, x.inside),
-      (
-        c.requires.0,
-        P.asks_at c.requires.1 x.inside,
-      ),
-    )
+  omega (arith, c.decreases, (x.listed c.if-from-eq0.false).0, x.inside),
+  (
+    c.requires.0,
+    P.asks_at c.requires.1 x.inside,
+  ),
+)
 
 pub pass_bound-shape_of-words-then-e-eq0 : goal.pass_bound-shape_of-words-then-e-eq0
 pass_bound-shape_of-words-then-e-eq0 t c = c.pass_formula-e.ensures.0
@@ -334,12 +334,12 @@ pass_quantified-past_blanks-from-requires t c = omega (
 
 pub pass_quantified-pass_formula-body-requires : goal.pass_quantified-pass_formula-body-requires
 pass_quantified-pass_formula-body-requires t c = let b = c.past_blanks-from.ensures in (
-      omega (arith, c.decreases, c.past_blanks-at.ensures.after, b.after, b.inside),
-      (
-        c.requires.0,
-        P.asks_at c.requires.1 b.inside,
-      ),
-    )
+  omega (arith, c.decreases, c.past_blanks-at.ensures.after, b.after, b.inside),
+  (
+    c.requires.0,
+    P.asks_at c.requires.1 b.inside,
+  ),
+)
 
 pub pass_quantified-closed_truth-requires : goal.pass_quantified-closed_truth-requires
 pass_quantified-closed_truth-requires t c = P.within_or c.pass_formula-body.result _ (λ ne. (c.pass_formula-body.ensures.1 ne).inside)
@@ -371,29 +371,29 @@ pass_quantified-returns-then-after-eq0 t c = (refl, λ ne. absurd (ne refl))
 
 pub pass_quantified-pass_quantified-body-requires : goal.pass_quantified-pass_quantified-body-requires
 pass_quantified-pass_quantified-body-requires t c = let x = c.sorted_in-x.ensures.listed in (
-      omega (
-        arith,
-        c.decreases,
-        c.past_blanks-at.ensures.after,
-        (x.listed c.if-after-eq0.false).0,
-        x.inside,
-      ),
-      (
-        c.requires.0,
-        P.asks_at c.requires.1 x.inside,
-        c.requires.2,
-        c.requires.3,
-      ),
-    )
+  omega (
+    arith,
+    c.decreases,
+    c.past_blanks-at.ensures.after,
+    (x.listed c.if-after-eq0.false).0,
+    x.inside,
+  ),
+  (
+    c.requires.0,
+    P.asks_at c.requires.1 x.inside,
+    c.requires.2,
+    c.requires.3,
+  ),
+)
 
 pub pass_quantified-place_bound-requires : goal.pass_quantified-place_bound-requires
 pass_quantified-place_bound-requires t c = let z = kind_binder c.args.kind c.requires.2 in (
-      c.requires.0,
-      (λ ne. (c.pass_quantified-body.ensures.1 ne z.0 z.1).put.held),
-      c.requires.2,
-      c.requires.3,
-      c.sorted_in-x.ensures.listed.small,
-    )
+  c.requires.0,
+  (λ ne. (c.pass_quantified-body.ensures.1 ne z.0 z.1).put.held),
+  c.requires.2,
+  c.requires.3,
+  c.sorted_in-x.ensures.listed.small,
+)
 
 pub pass_quantified-shape_of-words : goal.pass_quantified-shape_of-words
 pass_quantified-shape_of-words t c = c.place_bound.ensures.0 ∙ c.pass_quantified-body.ensures.0
