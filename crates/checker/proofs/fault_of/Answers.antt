@@ -40,17 +40,16 @@ module _ (f : List ℕ) (m : ℕ) where
         ap (λ (x : Bundle). or_next (sections_fault (bundle_at f b)) (late_fault x)) (bundle_is f p)
         ∙ ap (λ (t : Fault). or_next t (late_fault (bundle_of f))) (sym (tables_on f m (lent_for f) p e) ∙ lent_is f m)
 
--- past the test of the header
-none : (c : goal.Else-number-ne0)
-    → let a = c.args in
-    header_fault a.file.now (length a.free.now) (lent_for a.file.now) ≡ 0
-none c = rw (← c.lent_for-required.ensures) (sym c.header_fault-number.ensures ∙ c.if-number-ne0.false)
+-- past the test of the header, whose fault is n, where r is the room that is asked for and b the counts that were read
+module _ (f : List ℕ) (m : ℕ) {n r : ℕ} (lent : r ≡ lent_for f) (tested : n ≡ header_fault f m r) (zero : n ≡ 0) where
+  none : header_fault f m (lent_for f) ≡ 0
+  none = rw (← lent) (sym tested ∙ zero)
 
-whole : (c : goal.After-counts-b) → Whole c.args.file.now c.counts-b.result
-whole c = rw c.counts-b.ensures ((header_exactly _ _ _).0 (none c)).0.whole
+  whole : {b : Counts} → b ≡ counts_of f → Whole f b
+  whole e = rw e ((header_exactly _ _ _).0 none).0.whole
 
-enough : (c : goal.After-counts-b) → set_words * c.counts-b.result.terms ≤ length c.args.free.now
-enough c = rw c.counts-b.ensures (room _ _ (none c))
+  enough : {b : Counts} → b ≡ counts_of f → set_words * b.terms ≤ m
+  enough e = rw e (room _ _ none)
 
 pub returns-then-number-ne0 : goal.returns-then-number-ne0
 returns-then-number-ne0 c =
@@ -63,21 +62,21 @@ returns-then-number-ne0 c =
     }
 
 pub counts-b-requires : goal.counts-b-requires
-counts-b-requires c = ((header_exactly _ _ _).0 (none c)).0.long
+counts-b-requires c = ((header_exactly _ _ _).0 (none _ _ c.lent_for-required.ensures c.header_fault-number.ensures c.if-number-ne0.false)).0.long
 
 pub note_sorts-requires : goal.note_sorts-requires
-note_sorts-requires c = (whole c, c.if-b-lt256.true, zeros 256)
+note_sorts-requires c = (whole _ _ c.lent_for-required.ensures c.header_fault-number.ensures c.if-number-ne0.false c.counts-b.ensures, c.if-b-lt256.true, zeros 256)
 
 pub sorted_fault-requires : goal.sorted_fault-requires
 sorted_fault-requires c =
-    (whole n, c.note_sorts.ensures, enough n)
+    (whole _ _ c.lent_for-required.ensures c.header_fault-number.ensures c.if-number-ne0.false c.counts-b.ensures, c.note_sorts.ensures, enough _ _ c.lent_for-required.ensures c.header_fault-number.ensures c.if-number-ne0.false c.counts-b.ensures)
 
 pub returns-then-b-lt256 : goal.returns-then-b-lt256
 returns-then-b-lt256 c =
     let s = c.sorted_fault.ensures in
     record {
       found = record {
-        fault = s.fact.fault ∙ later _ _ (none n) c.counts-b.ensures;
+        fault = s.fact.fault ∙ later _ _ (none _ _ c.lent_for-required.ensures c.header_fault-number.ensures c.if-number-ne0.false) c.counts-b.ensures;
         pairs = λ z. rw (← bundle_is _ c.counts-b.ensures) (s.fact.pairs z);
       };
       free_after = λ z. rw (← bundle_is _ c.counts-b.ensures) (s.free_after z);
@@ -85,19 +84,19 @@ returns-then-b-lt256 c =
 
 pub note_sorts-requires-2 : goal.note_sorts-requires-2
 note_sorts-requires-2 c =
-    let w = whole c in
+    let w = whole c.args.file.now (length c.args.free.now) c.lent_for-required.ensures c.header_fault-number.ensures c.if-number-ne0.false c.counts-b.ensures in
     (w, omega (arith, w.within.terms), zeros 1025)
 
 pub sorted_fault-requires-2 : goal.sorted_fault-requires-2
 sorted_fault-requires-2 c =
-    (whole n, c.note_sorts-2.ensures, enough n)
+    (whole _ _ c.lent_for-required.ensures c.header_fault-number.ensures c.if-number-ne0.false c.counts-b.ensures, c.note_sorts-2.ensures, enough _ _ c.lent_for-required.ensures c.header_fault-number.ensures c.if-number-ne0.false c.counts-b.ensures)
 
 pub returns : goal.returns
 returns c =
     let s = c.sorted_fault-2.ensures in
     record {
       found = record {
-        fault = s.fact.fault ∙ later _ _ (none n) c.counts-b.ensures;
+        fault = s.fact.fault ∙ later _ _ (none _ _ c.lent_for-required.ensures c.header_fault-number.ensures c.if-number-ne0.false) c.counts-b.ensures;
         pairs = λ z. rw (← bundle_is _ c.counts-b.ensures) (s.fact.pairs z);
       };
       free_after = λ z. rw (← bundle_is _ c.counts-b.ensures) (s.free_after z);

@@ -42,12 +42,12 @@ late_fault-late-requires c =
 
 pub returns-then-later-ne0 : goal.returns-then-later-ne0
 returns-then-later-ne0 c = record {
-      fact = record {
+  fact = record {
     fault = rw (← c.sections_fault-early.ensures, or_else_on _ _ _ c.if-early-ne0.false) c.late_fault-late.ensures.fault;
     pairs = λ z. absurd (c.if-later-ne0.true z);
   };
-      free_after = λ z. absurd (c.if-later-ne0.true z);
-    }
+  free_after = λ z. absurd (c.if-later-ne0.true z);
+}
 
 pub returns : goal.returns
 returns c =

@@ -1,6 +1,7 @@
 -- `copies::copy_job` meets its contract. The invariant: the header and the first s sections are copied, and the next one starts at `from` in the file
+-- and at `to` in the scratch.
 use mathlib.Core.Path.{◌≡◌, refl, ap, ◌∙◌}
-use Prim.Native.Nat.{◌-◌, ◌≤◌}
+use Prim.Native.Nat.{ℕ, ◌≤◌}
 use native.Mathlib.Numerals.{add-one}
 use native.Mathlib.Omega.{arith}
 use lib.ListN.{length}
@@ -11,12 +12,9 @@ use Rattle.scratch.proofs.ScratchFields.{limits_within}
 use Rattle.files.proofs.JobCopied.{holds_header, holds_on, bundle_same}
 use Rattle.files.proofs.copies.copy_job.Goals as goal
 
-room_is : (c : goal.In-loop-s) → c.largest-room.result ≡ limits
-room_is c = c.largest-room.ensures
-
--- the words that the limits give to the section
-most : (c : goal.After-extent-most) → c.extent-most.result ≡ extent_of limits c.loop-s.s
-most c = c.extent-most.ensures ∙ ap (λ (k : Counts). extent_of k c.loop-s.s) (room_is c)
+-- the words that the limits, which the room gives, give to section s
+most : {n : ℕ} (s : ℕ) {room : Counts} → n ≡ extent_of room s → room ≡ limits → n ≡ extent_of limits s
+most s e r = e ∙ ap (λ (k : Counts). extent_of k s) r
 
 pub copy_section-requires : goal.copy_section-requires
 unfolding header_words
@@ -37,7 +35,7 @@ pub extent-count-requires : goal.extent-count-requires
 extent-count-requires c = (c.requires.0.within, omega arith)
 
 pub extent-most-requires : goal.extent-most-requires
-extent-most-requires c = (rw (room_is c) limits_within, omega arith)
+extent-most-requires c = (rw c.largest-room.ensures limits_within, omega arith)
 
 pub copy_section-requires-in-loop-s : goal.copy_section-requires-in-loop-s
 copy_section-requires-in-loop-s c =
@@ -59,7 +57,7 @@ pub overflow_add-to : goal.overflow_add-to
 unfolding header_words
 overflow_add-to c =
     let l = c.loop-s in
-    rw (l.invariant.2, most c) (omega (arith, (section_fits c.args.b c.requires.0.within l.s (omega arith)).2))
+    rw (l.invariant.2, most l.s c.extent-most.ensures c.largest-room.ensures) (omega (arith, (section_fits c.args.b c.requires.0.within l.s (omega arith)).2))
 
 pub loop-s-preserved : goal.loop-s-preserved
 unfolding place_of
@@ -70,7 +68,7 @@ loop-s-preserved c =
     let room : place_of limits l.s ≤ length l.words = omega (arith, fits.2, c.requires.1, c.words-1.given, l.invariant.3) in (
       omega arith,
       rw (l.invariant.1, n, add-one l.s),
-      rw (l.invariant.2, most c, add-one l.s),
+      rw (l.invariant.2, most l.s c.extent-most.ensures c.largest-room.ensures, add-one l.s),
       c.words-in-loop-s-1.given ∙ l.invariant.3,
       rw (c.copy_section-in-loop-s.ensures, l.invariant.1, l.invariant.2, n, add-one l.s)
           (holds_on c.args.job.now c.args.b c.requires.0.within l.s l.words room l.invariant.4),

@@ -1,6 +1,7 @@
 -- `stores::store_file` meets its contract. The invariant: the header and the first s sections are stored, and the next one starts at `from` in the
+-- scratch and at `place` in the file.
 use mathlib.Core.Path.{◌≡◌, ap, ◌∙◌}
-use Prim.Native.Nat.{◌-◌}
+use Prim.Native.Nat.{ℕ}
 use native.Mathlib.Numerals.{add-one}
 use native.Mathlib.Omega.{arith}
 use Rattle.bundle.specs.declared.Bundle.{Bundle as Counts}
@@ -10,12 +11,9 @@ use Rattle.scratch.proofs.ScratchFields.{limits_within}
 use Rattle.files.proofs.FileStored.{header_stored, section_stored, file_stored}
 use Rattle.files.proofs.stores.store_file.Goals as goal
 
-room_is : (c : goal.In-loop-s) → c.largest-room.result ≡ limits
-room_is c = c.largest-room.ensures
-
--- the words that the limits give to the section
-most : (c : goal.After-extent-most) → c.extent-most.result ≡ extent_of limits c.loop-s.s
-most c = c.extent-most.ensures ∙ ap (λ (k : Counts). extent_of k c.loop-s.s) (room_is c)
+-- the words that the limits, which the room gives, give to section s
+most : {n : ℕ} (s : ℕ) {room : Counts} → n ≡ extent_of room s → room ≡ limits → n ≡ extent_of limits s
+most s e r = e ∙ ap (λ (k : Counts). extent_of k s) r
 
 pub header-header-requires : goal.header-header-requires
 header-header-requires c = (c.requires.0.room.within, omega (arith, c.requires.0.version), c.requires.1, c.requires.2)
@@ -27,21 +25,20 @@ store_section-requires c =
 
 pub loop-s-init : goal.loop-s-init
 unfolding place_of
-loop-s-init c =
-    (
-      omega arith,
-      c.symbols_at-from.ensures.0 ∙ ap symbols_at c.largest-room.ensures,
-      c.symbols_at-place.ensures.0,
-      header_stored c.args.words.now c.args.c c.args.left c.args.right
-          c.header-header.ensures c.store_section.ensures,
-    )
+loop-s-init c = (
+  omega arith,
+  c.symbols_at-from.ensures.0 ∙ ap symbols_at c.largest-room.ensures,
+  c.symbols_at-place.ensures.0,
+  header_stored c.args.words.now c.args.c c.args.left c.args.right
+      c.header-header.ensures c.store_section.ensures,
+)
 
 pub extent-count-requires : goal.extent-count-requires
 extent-count-requires c =
     (c.requires.0.room.within, omega arith)
 
 pub extent-most-requires : goal.extent-most-requires
-extent-most-requires c = (rw (room_is c) limits_within, omega arith)
+extent-most-requires c = (rw c.largest-room.ensures limits_within, omega arith)
 
 pub store_section-requires-in-loop-s : goal.store_section-requires-in-loop-s
 store_section-requires-in-loop-s c =
@@ -58,7 +55,7 @@ pub overflow_add-from : goal.overflow_add-from
 unfolding header_words
 overflow_add-from c =
     let l = c.loop-s in
-    rw (l.invariant.1, most c) (omega (arith, (section_fits c.args.c c.requires.0.room.within l.s (omega arith)).2))
+    rw (l.invariant.1, most l.s c.extent-most.ensures c.largest-room.ensures) (omega (arith, (section_fits c.args.c c.requires.0.room.within l.s (omega arith)).2))
 
 pub overflow_add-place : goal.overflow_add-place
 unfolding header_words
@@ -73,7 +70,7 @@ loop-s-preserved c =
     let l = c.loop-s in
     let n = c.extent-count.ensures in (
       omega arith,
-      rw (l.invariant.1, most c, add-one l.s),
+      rw (l.invariant.1, most l.s c.extent-most.ensures c.largest-room.ensures, add-one l.s),
       rw (l.invariant.2, n, add-one l.s),
       rw (add-one l.s) (section_stored c.args.words.now c.args.c c.args.left c.args.right c.requires.0.room l.s l.invariant.3
           (rw (l.invariant.1, l.invariant.2, n) at c.store_section-in-loop-s.ensures)),

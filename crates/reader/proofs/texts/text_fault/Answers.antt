@@ -1,22 +1,10 @@
 -- `texts::text_fault` meets its contract: the verdict of the scan, then that of the sorts.
-use mathlib.Core.Path.{◌≡◌, sym, ap, ◌∙◌}
+use mathlib.Core.Path.{sym, ap, ◌∙◌}
 use mathlib.Core.Bool.{Bool, cond}
 use native.Mathlib.Omega.{arith}
-use Rattle.bundle.specs.File.{bundle_at}
 use Rattle.logic.specs.Tests.{fault}
-use Rattle.grammar.specs.Names.{resolve}
-use Rattle.reading.specs.Called.{known_in}
-use Rattle.reader.specs.Texts.{text_fault}
 use Rattle.reader.proofs.TextTests.{scan-refuses, scan-passes}
 use Rattle.reader.proofs.texts.text_fault.Goals as goal
-
--- what the sorts' test says where the scan does not refuse
-sorts : (c : goal.After-text_fine) → let a = c.args in
-    cond c.text_fine.result (fault 0 0) (fault 8 0)
-    ≡ text_fault (bundle_at a.file.now a.b) (resolve (known_in (bundle_at a.file.now a.b)) a.text.now)
-sorts c =
-    let a = c.args in
-    scan-passes a.file.now a.b a.text.now c.scan-verdict.result c.scan-verdict.ensures c.text_fine.result c.text_fine.ensures c.if-verdict-ne0.false
 
 pub scan-verdict-requires : goal.scan-verdict-requires
 scan-verdict-requires c =
@@ -31,13 +19,18 @@ returns-then-verdict-ne0 c =
 pub text_fine-requires : goal.text_fine-requires
 text_fine-requires c = c.requires.0
 
+-- `sorts` is what the sorts' test says where the scan does not refuse
 pub returns-then-not-text_fine : goal.returns-then-not-text_fine
 returns-then-not-text_fine c =
-    let p = c.text_fine.result in
-    ap (λ (q : Bool). cond q (fault 0 0) (fault 8 0)) (sym c.if-not-text_fine.true) ∙ sorts c
+    let a = c.args in
+    let sorts = scan-passes a.file.now a.b a.text.now c.scan-verdict.result c.scan-verdict.ensures c.text_fine.result c.text_fine.ensures
+    c.if-verdict-ne0.false in
+    ap (λ (q : Bool). cond q (fault 0 0) (fault 8 0)) (sym c.if-not-text_fine.true) ∙ sorts
 
 pub returns : goal.returns
 returns c =
-    let p = c.text_fine.result in
+    let a = c.args in
+    let sorts = scan-passes a.file.now a.b a.text.now c.scan-verdict.result c.scan-verdict.ensures c.text_fine.result c.text_fine.ensures
+    c.if-verdict-ne0.false in
     c.no_fault.ensures
-    ∙ ap (λ (q : Bool). cond q (fault 0 0) (fault 8 0)) (sym c.if-not-text_fine.false) ∙ sorts c
+    ∙ ap (λ (q : Bool). cond q (fault 0 0) (fault 8 0)) (sym c.if-not-text_fine.false) ∙ sorts

@@ -25,8 +25,7 @@ term_refers-requires c = (
 
 pub returns-then-not-term_refers : goal.returns-then-not-term_refers
 returns-then-not-term_refers c =
-    let q = c.term_refers in
-    (
+    let q = c.term_refers in (
       rw (told _ _ (as_term c.args.w) c.requires.fact.5, ← q.ensures.0, c.if-not-term_refers.true),
       λ e. absurd (omega (arith, e)),
     )
@@ -41,8 +40,7 @@ term_sorted-requires c = (
 pub returns-then-not-term_sorted : goal.returns-then-not-term_sorted
 returns-then-not-term_sorted c =
     let q = c.term_refers in
-    let fit = c.term_sorted in
-    (
+    let fit = c.term_sorted in (
       rw (
         told _ _ (as_term c.args.w) c.requires.fact.5,
         ← q.ensures.0,

@@ -3,11 +3,13 @@ use mathlib.Core.Path.{◌≡◌, refl, sym, ◌∙◌}
 use mathlib.Core.Bool.{Bool, true, false, cond}
 use lib.Dec.{eqb}
 use Rattle.bundle.specs.Bundle.{Bundle, TermRecord}
+use Rattle.bundle.specs.File.{bundle_at}
 use Rattle.bundle.proofs.Fields.{symbols_length}
 use Rattle.logic.specs.Terms.{variable, other}
 use Rattle.logic.specs.Tests.{passed}
 use Rattle.logic.specs.Checks.{lists_agree, sorted_as}
 use Rattle.logic.proofs.KindTests.{kind_binder, kind_rest}
+use Rattle.duplicates.specs.TermWords.{as_term}
 use Rattle.terms.proofs.terms.term_sorted.Goals as goal
 
 -- of a variable, and of a record of no kind, nothing is asked
@@ -46,6 +48,6 @@ unfolding sorted_as
 returns c =
     let k = c.args.w.kind in
     let no-binder = sym c.is_binder.ensures ∙ c.if-is_binder.false in (
-      rw (kind_rest k c.if-kind-eq-APPLICATION.false no-binder c.if-kind-eq-LET.false) (nothing_asked _ _ (eqb k 1)),
+      rw (kind_rest k c.if-kind-eq-APPLICATION.false no-binder c.if-kind-eq-LET.false) (nothing_asked (bundle_at c.args.file.now c.args.b) (as_term c.args.w) (eqb k 1)),
       λ e. c.requires.2,
     )
