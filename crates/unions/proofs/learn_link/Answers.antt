@@ -4,7 +4,6 @@ use Prim.Native.Nat.{◌+◌, ◌*◌, ◌-◌, ◌≤◌}
 use mathlib.Core.Path.{◌≡◌, refl, sym, ◌∙◌}
 use mathlib.Core.Bool.{true}
 use lib.ListN.{length}
-use borrow.Author.Tests.{not-false}
 use Rattle.bundle.specs.Lists.{numbers}
 use Rattle.bundle.specs.File.{bundle_at}
 use Rattle.bundle.proofs.Fields.{links_length, record_within}
@@ -163,8 +162,7 @@ returns c =
     ) in
     let low : numbers (a.t - 1) c.link_field-term.result
     ≡ true = sym c.is_lower.ensures
-    ∙ not-false c.is_lower.result
-    c.if-not-is_lower.false in
+    ∙ c.if-not-is_lower.false in
     let then : known a.marks.now c.next_link-next.result
     ≡ true = sym c.is_known.ensures
     ∙ c.if-not-is_known.false in (

@@ -1,5 +1,5 @@
 -- `header::header_fault` meets its contract: at each `return` the tests that led there say which test of `header_fault` is the first that fails.
-use borrow.Author.Tests.{eq-eqb, ne_eqb, le-leb, lt-leb, not-false}
+use borrow.Author.Tests.{eq-eqb, ne_eqb, le-leb, lt-leb}
 use mathlib.Core.Path.{◌≡◌, sym, ◌∙◌}
 use mathlib.Core.Bool.{cond}
 use lib.ListN.{length}
@@ -27,8 +27,7 @@ past_within c =
       le-leb _ _ c.if-file-lt-LEAST.false,
       eq-eqb _ _ c.if-b-ne1.false,
       ← c.within.ensures,
-      not-false c.within.result
-          c.if-not-within.false,
+      c.if-not-within.false,
       ← c.bytes.ensures,
     )
 
