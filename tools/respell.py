@@ -219,6 +219,19 @@ def main():
             with open(p, "w", encoding="utf-8") as f:
                 f.write(to)
             changed += 1
+    # The texts of must-fail edits name what their files name.
+    for c in names:
+        folder = f"crates/{c}/must-fail"
+        for f in sorted(os.listdir(folder)) if os.path.isdir(folder) else []:
+            if f.endswith(".edit"):
+                p = os.path.join(folder, f)
+                with open(p, encoding="utf-8") as it:
+                    text = it.read()
+                lines = [renamed(l, ren, set(), set(), False, own_fields) if l.startswith(("old:", "new:")) else l for l in text.split("\n")]
+                if "\n".join(lines) != text:
+                    with open(p, "w", encoding="utf-8") as it:
+                        it.write("\n".join(lines))
+                    changed += 1
     with open("/tmp/respell.tsv", "w") as f:
         f.writelines(f"{n}\t{s}\n" for n, s in sorted(ren.items()))
     print(f"respell: {len(ren)} names, {changed} files")

@@ -4,7 +4,7 @@ use mathlib.Core.List.{[], ◌∷◌}
 use native.Mathlib.Omega.{arith}
 use Rattle.scratch.specs.Scratch.{bundle_in}
 use Rattle.placing.proofs.CallOutcomes.{binder_of, binder_asks, concluded_on, concluded_full}
-use Rattle.placing.proofs.Indexes.{full_visit, step-indexed}
+use Rattle.placing.proofs.Indexes.{full_visit, step_indexed}
 use Rattle.closers.proofs.close_quantifier.Goals as goal
 
 pub conclude_one-requires : goal.conclude_one-requires
@@ -33,6 +33,6 @@ returns-in-Done c =
       t.ensures.0 ∙ p.ensures.0,
       λ q e. concluded_on (p.ensures.1 q e) c.in-Done.is 4 a.context a.term (a.step ∷ [])
           t.ensures.1,
-      step-indexed (p.ensures.2.held _ _ c.in-Done.is) 4 a.context a.term _ (a.step ∷ [])
+      step_indexed (p.ensures.2.held _ _ c.in-Done.is) 4 a.context a.term _ (a.step ∷ [])
           t.ensures.1,
     )

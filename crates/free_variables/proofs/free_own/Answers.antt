@@ -9,7 +9,7 @@ pub returns-then-kind-eq-APPLICATION : goal.returns-then-kind-eq-APPLICATION
 returns-then-kind-eq-APPLICATION c =
     let a = c.args in
     let r : Ready (bundle_at a.file.now a.b) a.b.variables a.area.now c.clear.new.area a.n a.t a.at c.term_field-kind.result
-        c.term_field-first.result c.term_field-second.result c.term_field-third.result =
+    c.term_field-first.result c.term_field-second.result c.term_field-third.result =
     record {
       variables = variables_length a.file.now a.b;
       enough = c.requires.2;
@@ -26,7 +26,7 @@ pub returns-then-first-b : goal.returns-then-first-b
 returns-then-first-b c =
     let a = c.args in
     let r : Ready (bundle_at a.file.now a.b) a.b.variables a.area.now c.clear.new.area a.n a.t a.at c.term_field-kind.result
-        c.term_field-first.result c.term_field-second.result c.term_field-third.result =
+    c.term_field-first.result c.term_field-second.result c.term_field-third.result =
     record {
       variables = variables_length a.file.now a.b;
       enough = c.requires.2;
@@ -44,7 +44,7 @@ pub returns-else-first-b : goal.returns-else-first-b
 returns-else-first-b c =
     let a = c.args in
     let r : Ready (bundle_at a.file.now a.b) a.b.variables a.area.now c.clear.new.area a.n a.t a.at c.term_field-kind.result
-        c.term_field-first.result c.term_field-second.result c.term_field-third.result =
+    c.term_field-first.result c.term_field-second.result c.term_field-third.result =
     record {
       variables = variables_length a.file.now a.b;
       enough = c.requires.2;
@@ -61,7 +61,7 @@ pub returns-then-is_binder : goal.returns-then-is_binder
 returns-then-is_binder c =
     let a = c.args in
     let r : Ready (bundle_at a.file.now a.b) a.b.variables a.area.now c.clear.new.area a.n a.t a.at c.term_field-kind.result
-        c.term_field-first.result c.term_field-second.result c.term_field-third.result =
+    c.term_field-first.result c.term_field-second.result c.term_field-third.result =
     record {
       variables = variables_length a.file.now a.b;
       enough = c.requires.2;
@@ -82,7 +82,7 @@ pub returns-then-kind-eq-LET : goal.returns-then-kind-eq-LET
 returns-then-kind-eq-LET c =
     let a = c.args in
     let r : Ready (bundle_at a.file.now a.b) a.b.variables a.area.now c.clear.new.area a.n a.t a.at c.term_field-kind.result
-        c.term_field-first.result c.term_field-second.result c.term_field-third.result =
+    c.term_field-first.result c.term_field-second.result c.term_field-third.result =
     record {
       variables = variables_length a.file.now a.b;
       enough = c.requires.2;
@@ -102,7 +102,7 @@ pub returns : goal.returns
 returns c =
     let a = c.args in
     let r : Ready (bundle_at a.file.now a.b) a.b.variables a.area.now c.clear.new.area a.n a.t a.at c.term_field-kind.result
-        c.term_field-first.result c.term_field-second.result c.term_field-third.result =
+    c.term_field-first.result c.term_field-second.result c.term_field-third.result =
     record {
       variables = variables_length a.file.now a.b;
       enough = c.requires.2;

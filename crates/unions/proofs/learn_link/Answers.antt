@@ -10,7 +10,7 @@ use Rattle.bundle.proofs.Fields.{links_length, record_within}
 use Rattle.bundle.proofs.Walks.{walk_le, walk_up, walk_cons}
 use Rattle.logic.proofs.Tests.{numbers_of_lem}
 use Rattle.unions.specs.Unions.{known}
-use Rattle.unions.proofs.Unions.{apart, next_side, link_fits, unions-learnt}
+use Rattle.unions.proofs.Unions.{apart, next_side, link_fits, unions_learnt}
 use Rattle.unions.proofs.learn_link.Goals as goal
 
 pub bounds-marks-k : goal.bounds-marks-k
@@ -167,7 +167,7 @@ returns c =
     ≡ true = sym c.is_known.ensures
     ∙ c.if-not-is_known.false in (
       c.if-before-k.false,
-      unions-learnt a.area.now a.lists.now a.marks.now a.n a.t a.k
+      unions_learnt a.area.now a.lists.now a.marks.now a.n a.t a.k
           c.link_field-term.result
           c.next_link-next.result B
           c.requires.1 c.requires.2

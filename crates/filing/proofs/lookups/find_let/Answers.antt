@@ -6,7 +6,7 @@ use lib.ListN.{get_or}
 use mathlib.Core.Bool.{true, false}
 use Rattle.bundle.specs.Bundle.{term_of}
 use Rattle.scratch.specs.Stack.{halves}
-use Rattle.bundle.proofs.Filed.{sought_start, sought_less, sought-hit, sought-miss}
+use Rattle.bundle.proofs.Filed.{sought_start, sought_less, sought_hit, sought_miss}
 use Rattle.scratch.specs.Scratch.{bundle_in}
 use Rattle.scratch.proofs.ScratchFields.{sized_in}
 use Rattle.filing.proofs.Filed.{let_digest_lem, held_own, sought_end}
@@ -48,12 +48,12 @@ loop-t-preserved c =
     let e : c.wide-t-in-loop-t.result ≡ get_or a.index.now (2048 + l.t) 0 = c.wide-t-in-loop-t.ensures in (
       omega (arith, l.invariant.0, sought_less filed some e),
       elim c.if-same.branch [
-        then-same w ↦ sought-hit filed
-          {p = λ j. same (bundle_in a.words.now a.c) a.body a.stack.now a.from a.to (term_of (bundle_in a.words.now a.c) j)}
-          l.invariant.1 some e c.is_let-same.ensures w.if-same.true w.found-is
-        | else-same w ↦ sought-miss filed
-          {p = λ j. same (bundle_in a.words.now a.c) a.body a.stack.now a.from a.to (term_of (bundle_in a.words.now a.c) j)}
-          l.invariant.1 some e c.is_let-same.ensures w.if-same.false w.found-is
+        | then-same w ↦ sought_hit filed
+            {p = λ j. same (bundle_in a.words.now a.c) a.body a.stack.now a.from a.to (term_of (bundle_in a.words.now a.c) j)}
+            l.invariant.1 some e c.is_let-same.ensures w.if-same.true w.found-is
+        | else-same w ↦ sought_miss filed
+            {p = λ j. same (bundle_in a.words.now a.c) a.body a.stack.now a.from a.to (term_of (bundle_in a.words.now a.c) j)}
+            l.invariant.1 some e c.is_let-same.ensures w.if-same.false w.found-is
       ],
     )
 

@@ -4,7 +4,7 @@ use Prim.Native.Nat.{◌+◌}
 use mathlib.Core.Path.{◌≡◌, sym, ◌∙◌}
 use lib.ListN.{get_or}
 use Rattle.logic.specs.Lookup.{same_variable}
-use Rattle.bundle.proofs.Filed.{sought_start, sought_less, sought-hit, sought-miss}
+use Rattle.bundle.proofs.Filed.{sought_start, sought_less, sought_hit, sought_miss}
 use Rattle.scratch.specs.Scratch.{bundle_in}
 use Rattle.scratch.proofs.ScratchFields.{sized_in}
 use Rattle.filing.proofs.Filed.{variable_digest, held_own, sought_end}
@@ -43,8 +43,8 @@ loop-t-preserved c =
     let e : c.wide-t-in-loop-t.result ≡ get_or c.args.index.now (2048 + l.t) 0 = c.wide-t-in-loop-t.ensures in (
       omega (arith, l.invariant.0, sought_less filed some e),
       elim c.if-same.branch [
-        then-same w ↦ sought-hit filed l.invariant.1 some e c.is_variable-same.ensures w.if-same.true w.found-is
-        | else-same w ↦ sought-miss filed l.invariant.1 some e c.is_variable-same.ensures w.if-same.false w.found-is
+        | then-same w ↦ sought_hit filed l.invariant.1 some e c.is_variable-same.ensures w.if-same.true w.found-is
+        | else-same w ↦ sought_miss filed l.invariant.1 some e c.is_variable-same.ensures w.if-same.false w.found-is
       ],
     )
 

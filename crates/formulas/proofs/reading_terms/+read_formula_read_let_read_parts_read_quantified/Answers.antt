@@ -32,7 +32,7 @@ read_formula-returns-then-kind-eq0 t c = let a = c.args in
     let h = c.head_at-head.ensures in
     let g = c.place_word.ensures in
     let e = c.if-kind-eq0.true in
-    (F.word_leaves a.height g.0 g.1 g.2 (h.further (λ z. omega (arith, e, z))) h.within, F.word-reads h a.file.now a.b e g.2)
+    (F.word_leaves a.height g.0 g.1 g.2 (h.further (λ z. omega (arith, e, z))) h.within, F.word_reads h a.file.now a.b e g.2)
 
 pub read_formula-read_parts-parts-requires : goal.read_formula-read_parts-parts-requires
 read_formula-read_parts-parts-requires t c = let a = c.args in
@@ -57,7 +57,7 @@ read_formula-returns-then-kind-eq1 t c = let a = c.args in
     let p = c.read_parts-parts.ensures in
     let g = c.apply_parts.ensures in (
       F.application_leaves (h.further (λ z. omega (arith, e, z))) p.0 g.0 g.1 g.2 g.3,
-      F.application-reads h a.file.now a.b g.2 g.3 n e p.1,
+      F.application_reads h a.file.now a.b g.2 g.3 n e p.1,
     )
 
 pub read_formula-read_quantified-requires : goal.read_formula-read_quantified-requires
@@ -144,7 +144,7 @@ read_let-read_formula-body-requires t c = let s =
     let p = c.read_parts-parts.ensures in
     let d = c.in-Done.is in
     let q = s.requires.1.places in
-    (omega (arith, s.decreases, P.let-later D p.0 p.1 d q, s.requires.1.here), (s.requires.0, P.let_asks D p.0 p.1 d q))
+    (omega (arith, s.decreases, P.let_later D p.0 p.1 d q, s.requires.1.here), (s.requires.0, P.let_asks D p.0 p.1 d q))
 
 pub read_let-closed-whole-requires : goal.read_let-closed-whole-requires
 read_let-closed-whole-requires t c = F.inside_of c.read_formula-body.ensures.0
@@ -159,7 +159,7 @@ read_let-let_term-requires t c = let s =
     let q = s.requires.1.places in
     let g = c.read_formula-body.ensures in
     let z = c.closed-whole.ensures in
-    P.let-held D p.0 p.1 d q g.0 g.1 z
+    P.let_held D p.0 p.1 d q g.0 g.1 z
 
 pub read_let-returns-in-Full : goal.read_let-returns-in-Full
 read_let-returns-in-Full t c = let a = c.args in
@@ -204,7 +204,7 @@ read_parts-returns-then-top-ge-LINKS t c = let a = c.args in
     let l = c.loop-last in
     let v = l.invariant in
     let on = c.loop-last-test.true in
-    let g = v.on _ _ _ _ (P.no-more-places a.file.now a.b a.text.now a.left a.bound v.asks v.at l.known l.sort on (omega
+    let g = v.on _ _ _ _ (P.no_more_places a.file.now a.b a.text.now a.left a.bound v.asks v.at l.known l.sort on (omega
     (arith, c.if-top-ge-LINKS.true))) in
     (g.leaves, g.reads)
 
@@ -221,7 +221,7 @@ read_parts-returns-in-Full t c = let a = c.args in
     let on = c.loop-last-test.true in
     let room : l.top < limits.links = omega (arith, c.if-top-ge-LINKS.false) in
     let p = c.read_formula-read.ensures in
-    let g = v.on _ _ _ _ (P.part-full a.file.now a.b a.text.now a.left a.bound v.asks v.at l.known l.sort on room p.0
+    let g = v.on _ _ _ _ (P.part_full a.file.now a.b a.text.now a.left a.bound v.asks v.at l.known l.sort on room p.0
     p.1 c.in-Full.is) in
     (g.leaves, g.reads)
 
@@ -266,7 +266,7 @@ read_parts-part_end-after-requires t c = let s =
     ) in
     let p = c.read_formula-read.ensures in
     let d = c.in-Done.is in
-    P.part-inside a.file.now a.b a.text.now a.left a.bound v.asks v.at l.known l.sort on room p.0 p.1 d
+    P.part_inside a.file.now a.b a.text.now a.left a.bound v.asks v.at l.known l.sort on room p.0 p.1 d
 
 pub read_parts-part_at-next-requires : goal.read_parts-part_at-next-requires
 read_parts-part_at-next-requires t c = (
@@ -286,7 +286,7 @@ read_parts-loop-last-smaller t c = let a = c.args in
     let p = c.read_formula-read.ensures in
     let d = c.in-Done.is in
     let z = c.part_end-after.ensures in
-    let y = P.part-later a.file.now a.b a.text.now a.left a.bound v.asks v.at l.known l.sort on room p.0 p.1 d
+    let y = P.part_later a.file.now a.b a.text.now a.left a.bound v.asks v.at l.known l.sort on room p.0 p.1 d
     (record { upper = c.pack-pair.ensures.0; lower = c.pack-pair.ensures.1 }) z in
     omega (arith, y, c.part_at-next.ensures.item.after, c.part_at-next.ensures.item.within)
 
@@ -303,7 +303,7 @@ read_parts-loop-last-preserved t c = let a = c.args in
     let d = c.in-Done.is in
     let z = c.part_end-after.ensures in
     let own = c.in-Done.own in
-    let y = P.part-later a.file.now a.b a.text.now a.left a.bound v.asks v.at l.known l.sort on room p.0 p.1 d
+    let y = P.part_later a.file.now a.b a.text.now a.left a.bound v.asks v.at l.known l.sort on room p.0 p.1 d
     (record { upper = c.pack-pair.ensures.0; lower = c.pack-pair.ensures.1 }) z in
     let sort : c.if-known.sort ≡ cond l.known l.sort own =
     elim c.if-known.branch [
@@ -313,7 +313,7 @@ read_parts-loop-last-preserved t c = let a = c.args in
     record {
       here = c.part_end-after.result;
       from = omega (arith, v.from, v.at.item.after, y);
-      asks = P.part-asks a.file.now a.b a.text.now a.left a.bound v.asks v.at l.known l.sort on room p.0 p.1 d
+      asks = P.part_asks a.file.now a.b a.text.now a.left a.bound v.asks v.at l.known l.sort on room p.0 p.1 d
           (record { upper = c.pack-pair.ensures.0; lower = c.pack-pair.ensures.1 }) z;
       at = c.part_at-next.ensures;
       on = λ w' st' ix' r g. v.on w' st' ix' r (P.part_more a.file.now a.b a.text.now a.left a.bound v.asks v.at l.known
@@ -401,8 +401,8 @@ read_quantified-returns t c = let a = c.args in
     let p = c.read_quantified-body.ensures in
     let g = c.bind_term.ensures in
     let z = kind_binder a.kind c.requires.2 in (
-      F.next-leaves a.file.now a.b v g.2 g.3 e z.0 z.1 p.0 g.0 g.1,
-      F.next-quantified a.file.now a.b v g.2 g.3 n e p.1,
+      F.next_leaves a.file.now a.b v g.2 g.3 e z.0 z.1 p.0 g.0 g.1,
+      F.next_quantified a.file.now a.b v g.2 g.3 n e p.1,
     )
 
 pub read_quantified-shape_of-words-then-last : goal.read_quantified-shape_of-words-then-last

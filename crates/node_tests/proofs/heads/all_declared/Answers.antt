@@ -5,7 +5,7 @@ use mathlib.Core.Path.{refl, ap}
 use mathlib.Core.Bool.{not}
 use Rattle.bracketing.specs.Nodes.{as_declared}
 use Rattle.node_tests.proofs.PartLaws.{part_further}
-use Rattle.node_tests.proofs.HeadLaws.{pass_end, pass-fails, pass_on}
+use Rattle.node_tests.proofs.HeadLaws.{pass_end, pass_fails, pass_on}
 use Rattle.node_tests.proofs.heads.all_declared.Goals as goal
 
 pub loop-b-init : goal.loop-b-init
@@ -22,7 +22,7 @@ as_declared-requires c = (c.requires.0, c.loop-b.invariant.inside)
 
 pub returns-then-not-as_declared : goal.returns-then-not-as_declared
 returns-then-not-as_declared c =
-    pass-fails c.loop-b.invariant c.part_at.ensures (ap not c.if-not-part_at.false) c.as_declared.ensures (ap not c.if-not-as_declared.true)
+    pass_fails c.loop-b.invariant c.part_at.ensures (ap not c.if-not-part_at.false) c.as_declared.ensures (ap not c.if-not-as_declared.true)
 
 pub after_formula-at-requires : goal.after_formula-at-requires
 after_formula-at-requires c = c.loop-b.invariant.inside

@@ -4,7 +4,7 @@ use Prim.Native.Nat.{◌-◌}
 use mathlib.Core.Path.{refl, ap}
 use mathlib.Core.Bool.{not}
 use Rattle.node_tests.proofs.PartLaws.{part_further}
-use Rattle.node_tests.proofs.HeadLaws.{fresh_end, fresh-zero, fresh-seen, fresh_on}
+use Rattle.node_tests.proofs.HeadLaws.{fresh_end, fresh_zero, fresh_seen, fresh_on}
 use Rattle.node_tests.proofs.heads.all_fresh.Goals as goal
 
 pub loop-b-init : goal.loop-b-init
@@ -27,7 +27,7 @@ shape_of-seen-then-x-eq0 c = c.loop-b.invariant.room
 
 pub returns-then-x-eq0 : goal.returns-then-x-eq0
 returns-then-x-eq0 c =
-    fresh-zero c.loop-b.invariant c.part_at.ensures (ap not c.if-not-part_at.false) c.bound_at-x.ensures c.if-x-eq0.true
+    fresh_zero c.loop-b.invariant c.part_at.ensures (ap not c.if-not-part_at.false) c.bound_at-x.ensures c.if-x-eq0.true
 
 pub member-requires : goal.member-requires
 member-requires c =
@@ -38,7 +38,7 @@ shape_of-seen-then-member c = c.loop-b.invariant.room
 
 pub returns-then-member : goal.returns-then-member
 returns-then-member c =
-    fresh-seen c.loop-b.invariant c.part_at.ensures (ap not c.if-not-part_at.false) c.bound_at-x.ensures c.if-x-eq0.false
+    fresh_seen c.loop-b.invariant c.part_at.ensures (ap not c.if-not-part_at.false) c.bound_at-x.ensures c.if-x-eq0.false
     c.member.ensures c.if-member.true
 
 pub insert-requires : goal.insert-requires

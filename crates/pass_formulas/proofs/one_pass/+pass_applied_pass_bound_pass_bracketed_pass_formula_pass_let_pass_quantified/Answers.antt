@@ -156,7 +156,7 @@ pass_bracketed-shape_of-words-then-code-eq4 t c = c.pass_applied.ensures.0
 pub pass_bracketed-returns-then-code-eq4 : goal.pass_bracketed-returns-then-code-eq4
 pass_bracketed-returns-then-code-eq4 t c = let v = c.head_in-head.ensures.symbol c.if-code-eq4.true in (
   c.pass_applied.ensures.0,
-  λ ne. P.gives-from c.args.file.now c.args.text.now (omega (arith, v.0)) (ap (λ (l :
+  λ ne. P.gives_from c.args.file.now c.args.text.now (omega (arith, v.0)) (ap (λ (l :
       List Lexeme). opens ∷ l) (sym v.1.1))
       (c.pass_applied.ensures.1 ne v.1.0 v.1.2),
 )
@@ -173,7 +173,7 @@ pass_bracketed-shape_of-words-then-code-eq5 t c = c.pass_quantified.ensures.0
 pub pass_bracketed-returns-then-code-eq5 : goal.pass_bracketed-returns-then-code-eq5
 pass_bracketed-returns-then-code-eq5 t c = let v = c.head_in-head.ensures.binder c.if-code-eq5.true in (
   c.pass_quantified.ensures.0,
-  λ ne. P.quantifier-gives c.args.file.now c.args.text.now (omega
+  λ ne. P.quantifier_gives c.args.file.now c.args.text.now (omega
       (arith, v.0)) v.1.2 v.1.4
       (c.pass_quantified.ensures.1 ne v.1.0 v.1.3),
 )
@@ -189,7 +189,7 @@ pass_bracketed-shape_of-words-then-code-eq6 t c = c.pass_let.ensures.0
 pub pass_bracketed-returns-then-code-eq6 : goal.pass_bracketed-returns-then-code-eq6
 pass_bracketed-returns-then-code-eq6 t c = let v = c.head_in-head.ensures.letting c.if-code-eq6.true in (
   c.pass_let.ensures.0,
-  λ ne. P.gives-from c.args.file.now c.args.text.now
+  λ ne. P.gives_from c.args.file.now c.args.text.now
       (omega (arith, v.0)) (ap (λ (l : List Lexeme). opens ∷ l) (sym v.1.1))
       (c.pass_let.ensures.1 ne v.1.0 v.1.2),
 )
@@ -215,7 +215,7 @@ pass_formula-shape_of-words-then-c-eq40 t c = c.pass_bracketed.ensures.0
 pub pass_formula-returns-then-c-eq40 : goal.pass_formula-returns-then-c-eq40
 pass_formula-returns-then-c-eq40 t c = (
   c.pass_bracketed.ensures.0,
-  λ ne. P.bracket-gives c.args.file.now c.args.text.now (sym c.byte_at-c.ensures ∙ c.if-c-eq40.true) (c.pass_bracketed.ensures.1 ne),
+  λ ne. P.bracket_gives c.args.file.now c.args.text.now (sym c.byte_at-c.ensures ∙ c.if-c-eq40.true) (c.pass_bracketed.ensures.1 ne),
 )
 
 pub pass_formula-word_in-t-requires : goal.pass_formula-word_in-t-requires
@@ -233,7 +233,7 @@ pass_formula-shape_of-words t c = c.place_alone.ensures.0
 pub pass_formula-returns : goal.pass_formula-returns
 pass_formula-returns t c = (
   c.place_alone.ensures.0,
-  λ ne. P.alone-gives c.args.file.now c.args.text.now c.word_in-t.ensures c.if-number-eq0.false (c.place_alone.ensures.1 ne),
+  λ ne. P.alone_gives c.args.file.now c.args.text.now c.word_in-t.ensures c.if-number-eq0.false (c.place_alone.ensures.1 ne),
 )
 
 pub pass_let-past_blanks-at-requires : goal.pass_let-past_blanks-at-requires

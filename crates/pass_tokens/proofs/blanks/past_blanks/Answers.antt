@@ -27,7 +27,7 @@ pub loop-j-preserved : goal.loop-j-preserved
 loop-j-preserved c =
     let a = c.args in
     elim c.if-c-ne32.branch [
-      then-c-ne32+else-c w ↦ on_other a.text.now a.i c.loop-j.j c.loop-j.invariant c.loop-j-test.true w.if-c.false
+      | then-c-ne32+else-c w ↦ on_other a.text.now a.i c.loop-j.j c.loop-j.invariant c.loop-j-test.true w.if-c.false
       | else-c-ne32 w ↦ on_space a.text.now a.i c.loop-j.j c.loop-j.invariant c.loop-j-test.true w.if-c-ne32.false
     ]
 

@@ -41,7 +41,7 @@ returns-then-term_field-ne1 c =
     let a = c.args in
     let n : (eqb a.s.left a.s.right && settled_in a.b.terms a.area.now a.scopes.now a.n (moved_at a.n a.s.context) a.s.left) ≡ false =
     elim c.if-left-right.branch [
-      then-left-right+else-is_settled w ↦ rw (eq-eqb _ _ w.if-left-right.true, ← w.is_settled.ensures, w.if-is_settled.false)
+      | then-left-right+else-is_settled w ↦ rw (eq-eqb _ _ w.if-left-right.true, ← w.is_settled.ensures, w.if-is_settled.false)
       | else-left-right w ↦ rw (ne_eqb _ _ w.if-left-right.false)
     ] in
     rw (le-leb _ _ c.requires.2, n, ← c.term_field.ensures, ne_eqb _ 1 c.if-term_field-ne1.true)
@@ -57,7 +57,7 @@ returns c =
     let a = c.args in
     let n : (eqb a.s.left a.s.right && settled_in a.b.terms a.area.now a.scopes.now a.n (moved_at a.n a.s.context) a.s.left) ≡ false =
     elim c.if-left-right.branch [
-      then-left-right+else-is_settled w ↦ rw (eq-eqb _ _ w.if-left-right.true, ← w.is_settled.ensures, w.if-is_settled.false)
+      | then-left-right+else-is_settled w ↦ rw (eq-eqb _ _ w.if-left-right.true, ← w.is_settled.ensures, w.if-is_settled.false)
       | else-left-right w ↦ rw (ne_eqb _ _ w.if-left-right.false)
     ] in
     rw (

@@ -13,7 +13,7 @@ loop-j-preserved c =
     let t = c.loop-j-test.true in
     let e = c.ends_line in
     elim c.if-ends_line.branch [
-      then-ends_line w ↦ rw (w.line-is, w.start-is) (counted_end a.text.now a.at c.loop-j.line c.loop-j.start c.loop-j.j c.loop-j.invariant t e.result e.ensures w.if-ends_line.true)
+      | then-ends_line w ↦ rw (w.line-is, w.start-is) (counted_end a.text.now a.at c.loop-j.line c.loop-j.start c.loop-j.j c.loop-j.invariant t e.result e.ensures w.if-ends_line.true)
       | else-ends_line w ↦ rw (w.line-is, w.start-is) (counted_on a.text.now a.at c.loop-j.line c.loop-j.start c.loop-j.j c.loop-j.invariant t e.result e.ensures w.if-ends_line.false)
     ]
 

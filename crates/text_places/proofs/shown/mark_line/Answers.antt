@@ -1,7 +1,7 @@
 -- `shown::mark_line` meets its contract. The invariant: what stands under the bytes before j is in the area.
 use Prim.Native.Nat.{◌-◌}
 use borrow.Author.Tests.{not-true, not-false}
-use Rattle.text_places.proofs.ShownLaws.{marking_none, marking-more, marking-on, marking_all}
+use Rattle.text_places.proofs.ShownLaws.{marking_none, marking_more, marking_on, marking_all}
 use Rattle.text_places.proofs.shown.mark_line.Goals as goal
 use Rattle.text_places.proofs.shown.mark_line.Goals.{then-not-goes_on, else-not-goes_on}
 
@@ -14,14 +14,14 @@ loop-j-preserved c =
     let t = c.loop-j-test.true in
     let e = c.goes_on in
     elim c.if-not-goes_on.branch [
-      then-not-goes_on w ↦ rw (w.line-is, w.n-is)
-        (marking-more c.args.text.now c.args.from c.args.at c.loop-j.line c.loop-j.n c.loop-j.j c.loop-j.invariant
-        c.requires.2 c.requires.1 t e.result e.ensures
-        w.under_byte.result w.if-not-goes_on.true w.under_byte.ensures)
+      | then-not-goes_on w ↦ rw (w.line-is, w.n-is)
+          (marking_more c.args.text.now c.args.from c.args.at c.loop-j.line c.loop-j.n c.loop-j.j c.loop-j.invariant
+          c.requires.2 c.requires.1 t e.result e.ensures
+          w.under_byte.result w.if-not-goes_on.true w.under_byte.ensures)
       | else-not-goes_on w ↦ rw (w.line-is, w.n-is)
-        (marking-on c.args.text.now c.args.from c.args.at c.loop-j.line c.loop-j.n c.loop-j.j c.loop-j.invariant
-        c.requires.2 c.requires.1 t e.result e.ensures
-        w.if-not-goes_on.false)
+          (marking_on c.args.text.now c.args.from c.args.at c.loop-j.line c.loop-j.n c.loop-j.j c.loop-j.invariant
+          c.requires.2 c.requires.1 t e.result e.ensures
+          w.if-not-goes_on.false)
     ]
 
 pub returns : goal.returns

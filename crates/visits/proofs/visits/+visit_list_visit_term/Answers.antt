@@ -9,10 +9,10 @@ use lib.ListN.{get_or, set, length-set}
 use Rattle.bundle.specs.Bundle.{Bundle, link_of, term_of}
 use Rattle.scratch.specs.Stack.{halves, half_of}
 use Rattle.placing.proofs.Pairs.{Pair}
-use Rattle.visits.proofs.ListTurns.{left_le, LinkReads, list_none, first_asks, first-full, first-words, first-height, rest-asks, list-more}
-use Rattle.visits.proofs.TermTurns.{Reads, quantified, term_words_lem, term-variable, scope-closed, scope-asks, scope-full, scope-ready, scope-done}
-use Rattle.visits.proofs.TermTurns.{args-asks, args-full, args-ready, apply-done, let-closed, body-asks, body-full, body-words, body-ready, body-done}
-use Rattle.placing.proofs.Indexes.{list_holds, full_visit, full_list, step-indexed, leaf-indexed, let-indexed}
+use Rattle.visits.proofs.ListTurns.{left_le, LinkReads, list_none, first_asks, first_full, first_words, first_height, rest_asks, list_more}
+use Rattle.visits.proofs.TermTurns.{Reads, quantified, term_words_lem, term_variable, scope_closed, scope_asks, scope_full, scope_ready, scope_done}
+use Rattle.visits.proofs.TermTurns.{args_asks, args_full, args_ready, apply_done, let_closed, body_asks, body_full, body_words, body_ready, body_done}
+use Rattle.placing.proofs.Indexes.{list_holds, full_visit, full_list, step_indexed, leaf_indexed, let_indexed}
 use Rattle.visits.proofs.visits.+visit_list_visit_term.Goals as goal
 
 -- the list's first link
@@ -44,32 +44,32 @@ visit_list-visit_term-visited-requires t c =
 
 pub visit_list-pack-pair-requires : goal.visit_list-pack-pair-requires
 visit_list-pack-pair-requires t c =
-    first-words c.requires.0
+    first_words c.requires.0
     (link_reads c.if-list-eq0.false c.link_field-value.ensures.0 c.link_field-next.ensures.0) c.visit_term-visited.ensures.0 c.in-Done.is
     (λ i. omega (arith, c.type_inv.words i))
 
 -- a place for the pair
 pub visit_list-offset_bounds-stack-height : goal.visit_list-offset_bounds-stack-height
 visit_list-offset_bounds-stack-height t c =
-    let k = first-height c.requires.0 (link_reads c.if-list-eq0.false c.link_field-value.ensures.0 c.link_field-next.ensures.0)
+    let k = first_height c.requires.0 (link_reads c.if-list-eq0.false c.link_field-value.ensures.0 c.link_field-next.ensures.0)
     c.visit_term-visited.ensures.0 c.in-Done.is in
     omega (arith, k.1)
 
 pub visit_list-bounds-stack-height : goal.visit_list-bounds-stack-height
 visit_list-bounds-stack-height t c =
-    let k = first-height c.requires.0 (link_reads c.if-list-eq0.false c.link_field-value.ensures.0 c.link_field-next.ensures.0)
+    let k = first_height c.requires.0 (link_reads c.if-list-eq0.false c.link_field-value.ensures.0 c.link_field-next.ensures.0)
     c.visit_term-visited.ensures.0 c.in-Done.is in
     k.2
 
 pub visit_list-overflow_add-height : goal.visit_list-overflow_add-height
 visit_list-overflow_add-height t c =
-    let k = first-height c.requires.0 (link_reads c.if-list-eq0.false c.link_field-value.ensures.0 c.link_field-next.ensures.0)
+    let k = first_height c.requires.0 (link_reads c.if-list-eq0.false c.link_field-value.ensures.0 c.link_field-next.ensures.0)
     c.visit_term-visited.ensures.0 c.in-Done.is in
     omega (arith, k.1)
 
 pub visit_list-visit_list-requires : goal.visit_list-visit_list-requires
 visit_list-visit_list-requires t c =
-    let k = rest-asks c.requires.0
+    let k = rest_asks c.requires.0
     (link_reads c.if-list-eq0.false c.link_field-value.ensures.0 c.link_field-next.ensures.0) c.visit_term-visited.ensures.0 c.in-Done.is
     (pair c.pack-pair.ensures.0 c.pack-pair.ensures.1) in (
       omega (arith, c.decreases, k.1),
@@ -78,14 +78,14 @@ visit_list-visit_list-requires t c =
 
 pub visit_list-returns-in-Full : goal.visit_list-returns-in-Full
 visit_list-returns-in-Full t c = (
-  first-full c.requires.0
+  first_full c.requires.0
       (link_reads c.if-list-eq0.false c.link_field-value.ensures.0 c.link_field-next.ensures.0) c.visit_term-visited.ensures.0 c.in-Full.is,
   full_list,
 )
 
 pub visit_list-returns-in-Done : goal.visit_list-returns-in-Done
 visit_list-returns-in-Done t c = (
-  list-more c.requires.0
+  list_more c.requires.0
       (link_reads c.if-list-eq0.false c.link_field-value.ensures.0 c.link_field-next.ensures.0) c.visit_term-visited.ensures.0
       c.in-Done.is
       (pair c.pack-pair.ensures.0 c.pack-pair.ensures.1) c.visit_list.ensures.0,
@@ -103,9 +103,9 @@ visit_term-close_variable-requires t c =
 
 pub visit_term-returns-then-kind-eq-VARIABLE : goal.visit_term-returns-then-kind-eq-VARIABLE
 visit_term-returns-then-kind-eq-VARIABLE t c = (
-  term-variable c.requires.0
+  term_variable c.requires.0
       (term_reads c.term_field-kind.ensures.0 c.term_field-first.ensures.0 c.term_field-second.ensures.0 c.term_field-third.ensures.0) c.if-kind-eq-VARIABLE.true c.close_variable.ensures.0 c.close_variable.ensures.1,
-  leaf-indexed
+  leaf_indexed
       c.requires.1
       c.args.term
       c.term_field-first.result
@@ -126,7 +126,7 @@ visit_term-open_quantifier-opened-requires t c = (
 
 pub visit_term-visit_term-visited-requires : goal.visit_term-visit_term-visited-requires
 visit_term-visit_term-visited-requires t c =
-    let k = scope-asks c.requires.0 (term_reads c.term_field-kind.ensures.0 c.term_field-first.ensures.0 c.term_field-second.ensures.0 c.term_field-third.ensures.0)
+    let k = scope_asks c.requires.0 (term_reads c.term_field-kind.ensures.0 c.term_field-first.ensures.0 c.term_field-second.ensures.0 c.term_field-third.ensures.0)
     (sym c.is_binder.ensures ∙ c.if-is_binder.true) c.open_quantifier-opened.ensures.0 c.open_quantifier-opened.ensures.1
     c.in-Done.is in (
       omega (arith, c.decreases, k.1),
@@ -137,7 +137,7 @@ pub visit_term-close_quantifier-requires : goal.visit_term-close_quantifier-requ
 visit_term-close_quantifier-requires t c =
     let q = sym c.is_binder.ensures ∙ c.if-is_binder.true in
     let word : (i : ℕ) → Fits w32 (get_or c.visit_term-visited.new.words i 0) = search rules in
-    let k = scope-ready c.requires.0 (term_reads c.term_field-kind.ensures.0 c.term_field-first.ensures.0 c.term_field-second.ensures.0 c.term_field-third.ensures.0) q
+    let k = scope_ready c.requires.0 (term_reads c.term_field-kind.ensures.0 c.term_field-first.ensures.0 c.term_field-second.ensures.0 c.term_field-third.ensures.0) q
     c.open_quantifier-opened.ensures.0 c.open_quantifier-opened.ensures.1 c.in-Done.is
     c.visit_term-visited.ensures.0 c.in-Done-visited.is
     (λ i. omega (arith, word i)) in
@@ -147,14 +147,14 @@ visit_term-close_quantifier-requires t c =
 
 pub visit_term-returns-in-Full : goal.visit_term-returns-in-Full
 visit_term-returns-in-Full t c = (
-  scope-closed c.requires.0 (term_reads c.term_field-kind.ensures.0 c.term_field-first.ensures.0 c.term_field-second.ensures.0 c.term_field-third.ensures.0)
+  scope_closed c.requires.0 (term_reads c.term_field-kind.ensures.0 c.term_field-first.ensures.0 c.term_field-second.ensures.0 c.term_field-third.ensures.0)
       (sym c.is_binder.ensures ∙ c.if-is_binder.true) c.open_quantifier-opened.ensures.0 c.open_quantifier-opened.ensures.1 c.in-Full.is,
   full_visit,
 )
 
 pub visit_term-returns-in-Full-visited : goal.visit_term-returns-in-Full-visited
 visit_term-returns-in-Full-visited t c = (
-  scope-full c.requires.0 (term_reads c.term_field-kind.ensures.0 c.term_field-first.ensures.0 c.term_field-second.ensures.0 c.term_field-third.ensures.0)
+  scope_full c.requires.0 (term_reads c.term_field-kind.ensures.0 c.term_field-first.ensures.0 c.term_field-second.ensures.0 c.term_field-third.ensures.0)
       (sym c.is_binder.ensures ∙ c.if-is_binder.true) c.open_quantifier-opened.ensures.0 c.open_quantifier-opened.ensures.1
       c.in-Done.is c.visit_term-visited.ensures.0 c.in-Full-visited.is,
   full_visit,
@@ -162,7 +162,7 @@ visit_term-returns-in-Full-visited t c = (
 
 pub visit_term-returns-in-Done-visited : goal.visit_term-returns-in-Done-visited
 visit_term-returns-in-Done-visited t c = (
-  scope-done c.requires.0 (term_reads c.term_field-kind.ensures.0 c.term_field-first.ensures.0 c.term_field-second.ensures.0 c.term_field-third.ensures.0)
+  scope_done c.requires.0 (term_reads c.term_field-kind.ensures.0 c.term_field-first.ensures.0 c.term_field-second.ensures.0 c.term_field-third.ensures.0)
       (sym c.is_binder.ensures ∙ c.if-is_binder.true) c.open_quantifier-opened.ensures.0 c.open_quantifier-opened.ensures.1
       c.in-Done.is c.visit_term-visited.ensures.0
       c.in-Done-visited.is c.close_quantifier.ensures.0
@@ -181,7 +181,7 @@ visit_term-visit_list-listed-requires t c = (
         c.term_field-second.result,
   ),
   (
-    args-asks c.requires.0 (term_reads c.term_field-kind.ensures.0 c.term_field-first.ensures.0 c.term_field-second.ensures.0 c.term_field-third.ensures.0)
+    args_asks c.requires.0 (term_reads c.term_field-kind.ensures.0 c.term_field-first.ensures.0 c.term_field-second.ensures.0 c.term_field-third.ensures.0)
         c.if-kind-eq-VARIABLE.false (sym c.is_binder.ensures ∙ c.if-is_binder.false),
     c.requires.1,
   ),
@@ -189,7 +189,7 @@ visit_term-visit_list-listed-requires t c = (
 
 pub visit_term-returns-in-Full-listed : goal.visit_term-returns-in-Full-listed
 visit_term-returns-in-Full-listed t c = (
-  args-full c.requires.0 (term_reads c.term_field-kind.ensures.0 c.term_field-first.ensures.0 c.term_field-second.ensures.0 c.term_field-third.ensures.0)
+  args_full c.requires.0 (term_reads c.term_field-kind.ensures.0 c.term_field-first.ensures.0 c.term_field-second.ensures.0 c.term_field-third.ensures.0)
       c.if-kind-eq-VARIABLE.false (sym c.is_binder.ensures ∙ c.if-is_binder.false) c.visit_list-listed.ensures.0
       c.in-Full-listed.is,
   full_visit,
@@ -199,7 +199,7 @@ visit_term-returns-in-Full-listed t c = (
 
 pub visit_term-close_application-requires : goal.visit_term-close_application-requires
 visit_term-close_application-requires t c =
-    let k = args-ready c.requires.0 (term_reads c.term_field-kind.ensures.0 c.term_field-first.ensures.0 c.term_field-second.ensures.0 c.term_field-third.ensures.0)
+    let k = args_ready c.requires.0 (term_reads c.term_field-kind.ensures.0 c.term_field-first.ensures.0 c.term_field-second.ensures.0 c.term_field-third.ensures.0)
     c.if-kind-eq-VARIABLE.false (sym c.is_binder.ensures ∙ c.if-is_binder.false) c.visit_list-listed.ensures.0
     c.in-Done-listed.is in
     let n = term_words_lem c.requires.0 in (
@@ -215,7 +215,7 @@ visit_term-close_application-requires t c =
 
 pub visit_term-returns-then-kind-eq-APPLICATION : goal.visit_term-returns-then-kind-eq-APPLICATION
 visit_term-returns-then-kind-eq-APPLICATION t c = (
-  apply-done c.requires.0 (term_reads c.term_field-kind.ensures.0 c.term_field-first.ensures.0 c.term_field-second.ensures.0 c.term_field-third.ensures.0)
+  apply_done c.requires.0 (term_reads c.term_field-kind.ensures.0 c.term_field-first.ensures.0 c.term_field-second.ensures.0 c.term_field-third.ensures.0)
       c.if-kind-eq-VARIABLE.false (sym c.is_binder.ensures ∙ c.if-is_binder.false) c.visit_list-listed.ensures.0
       c.in-Done-listed.is
       c.if-kind-eq-APPLICATION.true
@@ -227,7 +227,7 @@ visit_term-returns-then-kind-eq-APPLICATION t c = (
 
 pub visit_term-open_let-opened-requires : goal.visit_term-open_let-opened-requires
 visit_term-open_let-opened-requires t c =
-    let k = args-ready c.requires.0 (term_reads c.term_field-kind.ensures.0 c.term_field-first.ensures.0 c.term_field-second.ensures.0 c.term_field-third.ensures.0)
+    let k = args_ready c.requires.0 (term_reads c.term_field-kind.ensures.0 c.term_field-first.ensures.0 c.term_field-second.ensures.0 c.term_field-third.ensures.0)
     c.if-kind-eq-VARIABLE.false (sym c.is_binder.ensures ∙ c.if-is_binder.false) c.visit_list-listed.ensures.0
     c.in-Done-listed.is in (
       k.0,
@@ -240,11 +240,11 @@ visit_term-open_let-opened-requires t c =
 
 pub visit_term-visit_term-visited-requires-in-Done-opened : goal.visit_term-visit_term-visited-requires-in-Done-opened
 visit_term-visit_term-visited-requires-in-Done-opened t c =
-    let k = body-asks c.requires.0 (term_reads c.term_field-kind.ensures.0 c.term_field-first.ensures.0 c.term_field-second.ensures.0 c.term_field-third.ensures.0)
+    let k = body_asks c.requires.0 (term_reads c.term_field-kind.ensures.0 c.term_field-first.ensures.0 c.term_field-second.ensures.0 c.term_field-third.ensures.0)
     c.if-kind-eq-VARIABLE.false (sym c.is_binder.ensures ∙ c.if-is_binder.false) c.visit_list-listed.ensures.0
     c.in-Done-listed.is c.if-kind-eq-APPLICATION.false c.open_let-opened.ensures.0
     c.open_let-opened.ensures.1 c.in-Done-opened.is in
-    let indexed = (let-indexed (c.visit_list-listed.ensures.1.held _ _ c.in-Done-listed.is)
+    let indexed = (let_indexed (c.visit_list-listed.ensures.1.held _ _ c.in-Done-listed.is)
     c.term_field-first.result
     c.args.context
     (halves true c.visit_list-listed.new.stack c.args.height
@@ -255,7 +255,7 @@ visit_term-visit_term-visited-requires-in-Done-opened t c =
 -- numbers for the body's pair
 pub visit_term-pack-pair-requires : goal.visit_term-pack-pair-requires
 visit_term-pack-pair-requires t c =
-    body-words c.requires.0 (term_reads c.term_field-kind.ensures.0 c.term_field-first.ensures.0 c.term_field-second.ensures.0 c.term_field-third.ensures.0)
+    body_words c.requires.0 (term_reads c.term_field-kind.ensures.0 c.term_field-first.ensures.0 c.term_field-second.ensures.0 c.term_field-third.ensures.0)
     c.if-kind-eq-VARIABLE.false (sym c.is_binder.ensures ∙ c.if-is_binder.false) c.visit_list-listed.ensures.0
     c.in-Done-listed.is c.if-kind-eq-APPLICATION.false c.open_let-opened.ensures.0
     c.open_let-opened.ensures.1 c.in-Done-opened.is c.visit_term-visited-in-Done-opened.ensures.0 c.in-Done-visited-2.is
@@ -265,14 +265,14 @@ visit_term-pack-pair-requires t c =
 pub visit_term-offset_bounds-stack-top : goal.visit_term-offset_bounds-stack-top
 visit_term-offset_bounds-stack-top t c = omega (
   arith,
-  (body-ready c.requires.0 (term_reads c.term_field-kind.ensures.0 c.term_field-first.ensures.0 c.term_field-second.ensures.0 c.term_field-third.ensures.0)
+  (body_ready c.requires.0 (term_reads c.term_field-kind.ensures.0 c.term_field-first.ensures.0 c.term_field-second.ensures.0 c.term_field-third.ensures.0)
       c.if-kind-eq-VARIABLE.false (sym c.is_binder.ensures ∙ c.if-is_binder.false) c.visit_list-listed.ensures.0
       c.in-Done-listed.is c.if-kind-eq-APPLICATION.false c.open_let-opened.ensures.0
       c.open_let-opened.ensures.1 c.in-Done-opened.is c.visit_term-visited-in-Done-opened.ensures.0 c.in-Done-visited-2.is).1,
 )
 
 pub visit_term-bounds-stack-top : goal.visit_term-bounds-stack-top
-visit_term-bounds-stack-top t c = (body-ready c.requires.0 (term_reads c.term_field-kind.ensures.0 c.term_field-first.ensures.0 c.term_field-second.ensures.0 c.term_field-third.ensures.0)
+visit_term-bounds-stack-top t c = (body_ready c.requires.0 (term_reads c.term_field-kind.ensures.0 c.term_field-first.ensures.0 c.term_field-second.ensures.0 c.term_field-third.ensures.0)
     c.if-kind-eq-VARIABLE.false (sym c.is_binder.ensures ∙ c.if-is_binder.false) c.visit_list-listed.ensures.0
     c.in-Done-listed.is c.if-kind-eq-APPLICATION.false c.open_let-opened.ensures.0
     c.open_let-opened.ensures.1 c.in-Done-opened.is c.visit_term-visited-in-Done-opened.ensures.0 c.in-Done-visited-2.is).2
@@ -280,7 +280,7 @@ visit_term-bounds-stack-top t c = (body-ready c.requires.0 (term_reads c.term_fi
 pub visit_term-overflow_add-top : goal.visit_term-overflow_add-top
 visit_term-overflow_add-top t c = omega (
   arith,
-  (body-ready c.requires.0 (term_reads c.term_field-kind.ensures.0 c.term_field-first.ensures.0 c.term_field-second.ensures.0 c.term_field-third.ensures.0)
+  (body_ready c.requires.0 (term_reads c.term_field-kind.ensures.0 c.term_field-first.ensures.0 c.term_field-second.ensures.0 c.term_field-third.ensures.0)
       c.if-kind-eq-VARIABLE.false (sym c.is_binder.ensures ∙ c.if-is_binder.false) c.visit_list-listed.ensures.0
       c.in-Done-listed.is c.if-kind-eq-APPLICATION.false c.open_let-opened.ensures.0
       c.open_let-opened.ensures.1 c.in-Done-opened.is c.visit_term-visited-in-Done-opened.ensures.0 c.in-Done-visited-2.is).1,
@@ -288,13 +288,13 @@ visit_term-overflow_add-top t c = omega (
 
 pub visit_term-conclude-requires : goal.visit_term-conclude-requires
 visit_term-conclude-requires t c =
-    let k = body-ready c.requires.0 (term_reads c.term_field-kind.ensures.0 c.term_field-first.ensures.0 c.term_field-second.ensures.0 c.term_field-third.ensures.0)
+    let k = body_ready c.requires.0 (term_reads c.term_field-kind.ensures.0 c.term_field-first.ensures.0 c.term_field-second.ensures.0 c.term_field-third.ensures.0)
     c.if-kind-eq-VARIABLE.false (sym c.is_binder.ensures ∙ c.if-is_binder.false) c.visit_list-listed.ensures.0
     c.in-Done-listed.is c.if-kind-eq-APPLICATION.false c.open_let-opened.ensures.0
     c.open_let-opened.ensures.1 c.in-Done-opened.is c.visit_term-visited-in-Done-opened.ensures.0 c.in-Done-visited-2.is in
     let n = term_words_lem
     c.requires.0 in
-    let h = (args-ready c.requires.0 (term_reads c.term_field-kind.ensures.0 c.term_field-first.ensures.0 c.term_field-second.ensures.0 c.term_field-third.ensures.0)
+    let h = (args_ready c.requires.0 (term_reads c.term_field-kind.ensures.0 c.term_field-first.ensures.0 c.term_field-second.ensures.0 c.term_field-third.ensures.0)
     c.if-kind-eq-VARIABLE.false (sym c.is_binder.ensures ∙ c.if-is_binder.false) c.visit_list-listed.ensures.0
     c.in-Done-listed.is).1 in (
       k.0,
@@ -313,7 +313,7 @@ visit_term-conclude-requires t c =
 
 pub visit_term-returns-in-Full-opened : goal.visit_term-returns-in-Full-opened
 visit_term-returns-in-Full-opened t c = (
-  let-closed c.requires.0 (term_reads c.term_field-kind.ensures.0 c.term_field-first.ensures.0 c.term_field-second.ensures.0 c.term_field-third.ensures.0)
+  let_closed c.requires.0 (term_reads c.term_field-kind.ensures.0 c.term_field-first.ensures.0 c.term_field-second.ensures.0 c.term_field-third.ensures.0)
       c.if-kind-eq-VARIABLE.false (sym c.is_binder.ensures ∙ c.if-is_binder.false) c.visit_list-listed.ensures.0
       c.in-Done-listed.is c.if-kind-eq-APPLICATION.false c.open_let-opened.ensures.0
       c.open_let-opened.ensures.1 c.in-Full-opened.is,
@@ -322,7 +322,7 @@ visit_term-returns-in-Full-opened t c = (
 
 pub visit_term-returns-in-Full-visited-2 : goal.visit_term-returns-in-Full-visited-2
 visit_term-returns-in-Full-visited-2 t c = (
-  body-full c.requires.0 (term_reads c.term_field-kind.ensures.0 c.term_field-first.ensures.0 c.term_field-second.ensures.0 c.term_field-third.ensures.0)
+  body_full c.requires.0 (term_reads c.term_field-kind.ensures.0 c.term_field-first.ensures.0 c.term_field-second.ensures.0 c.term_field-third.ensures.0)
       c.if-kind-eq-VARIABLE.false (sym c.is_binder.ensures ∙ c.if-is_binder.false) c.visit_list-listed.ensures.0
       c.in-Done-listed.is c.if-kind-eq-APPLICATION.false c.open_let-opened.ensures.0
       c.open_let-opened.ensures.1 c.in-Done-opened.is c.visit_term-visited-in-Done-opened.ensures.0 c.in-Full-visited-2.is,
@@ -332,13 +332,13 @@ visit_term-returns-in-Full-visited-2 t c = (
 pub visit_term-returns-in-Done-visited-2 : goal.visit_term-returns-in-Done-visited-2
 visit_term-returns-in-Done-visited-2 t c =
     let top = c.in-Done-listed.top in (
-      body-done c.requires.0 (term_reads c.term_field-kind.ensures.0 c.term_field-first.ensures.0 c.term_field-second.ensures.0 c.term_field-third.ensures.0)
+      body_done c.requires.0 (term_reads c.term_field-kind.ensures.0 c.term_field-first.ensures.0 c.term_field-second.ensures.0 c.term_field-third.ensures.0)
           c.if-kind-eq-VARIABLE.false (sym c.is_binder.ensures ∙ c.if-is_binder.false) c.visit_list-listed.ensures.0
           c.in-Done-listed.is c.if-kind-eq-APPLICATION.false c.open_let-opened.ensures.0
           c.open_let-opened.ensures.1 c.in-Done-opened.is c.visit_term-visited-in-Done-opened.ensures.0
           c.in-Done-visited-2.is (pair c.pack-pair.ensures.0 c.pack-pair.ensures.1)
           c.conclude.ensures.0 c.conclude.ensures.1,
-      step-indexed (c.visit_term-visited-in-Done-opened.ensures.1.held _ _ _ c.in-Done-visited-2.is) 5
+      step_indexed (c.visit_term-visited-in-Done-opened.ensures.1.held _ _ _ c.in-Done-visited-2.is) 5
           c.args.context
           c.args.term
           c.in-Done-visited-2.result
