@@ -40,33 +40,36 @@ def wants(n):
 
 
 def declared(text):
-    """The names that a file of antt declares: at its left margin, or below a `module _ .. where`, or as constructors."""
+    """The names that a file of antt declares, at any depth: by a signature with its equations below it, or as constructors. Not what answers a goal."""
     found = set()
-    kind = None
-    inner = False
-    for line in text.split("\n"):
-        if line.startswith("module "):
-            inner = True
+    lines = text.split("\n")
+    at = None
+    for i, line in enumerate(lines):
+        if not line.strip() or line.lstrip().startswith("--"):
             continue
-        if line and not line.startswith((" ", "--", "use ", "unfolding")):
-            kind = None
-            if not re.match(r"(?:abbrev |unfoldable |pub )*\S+ .*|\S+", line):
-                continue
-            m = re.match(r"(?:(?:abbrev|unfoldable|pub) )*(data|record) ", line)
-            if m:
-                kind = m.group(1)
-                continue
-        m = re.match(r"^(\s*)(?:(?:abbrev|unfoldable|pub) )*([^\s(){}:.;,]+)(?: [({][^\n]*?[)}])* :(?!=)(.*)$", line)
-        if not m or line.lstrip().startswith("--"):
+        depth = len(line) - len(line.lstrip())
+        if re.match(r"\s*(?:(?:pub|abbrev|unfoldable) )*data \S", line):
+            at = depth
             continue
-        depth = len(m.group(1))
-        name, kind_of = m.group(2), m.group(3).strip()
-        if depth and not (kind == "data" or (inner and depth == 2)):
+        if at is not None and depth <= at:
+            at = None
+        m = re.match(r"^(\s*)(?:(?:abbrev|unfoldable|pub) )*([^\s(){}:.;,]+)(?: [({][^\n]*?[)}])*(?: :(?!=)(.*))?$", line)
+        if not m or not wants(m.group(2)):
             continue
-        if re.match(r"tie\.|\{M : Type 1\} → statement|statement", kind_of):
+        name, kind = m.group(2), (m.group(3) or "").strip()
+        if re.match(r"tie\.|goal\.|\{M : Type 1\} → statement|statement", kind) or re.match(r"\S*[Ll]ts\.", kind):
             continue
-        if wants(name):
+        if at is not None and depth == at + 2 and m.group(3) is not None:
             found.add(name)
+            continue
+        below = [x for x in lines[i + 1 : i + 40] if x.strip()]
+        for x in below:
+            inside = len(x) - len(x.lstrip())
+            if inside > depth or x.lstrip().startswith(("unfolding", "--")):
+                continue
+            if inside == depth and x.lstrip().startswith(name) and x.lstrip()[len(name) :][:1] in (" ", "="):
+                found.add(name)
+            break
     return found
 
 
@@ -132,9 +135,11 @@ def imports(text, names):
 def renamed(text, ren, library, alias, rust, own_fields=()):
     out = []
     last = 0
+    # The names of goals, which Rattle makes.
+    goals = set(re.findall(r"(?m)^(?:pub )?(\S+) : (?:goal|tie)\.", text)) | set(re.findall(r"(?:goal|tie)\.([^\s(){}.;,]+)", text))
     for m in TOKEN.finditer(text):
         n = m.group(0)
-        if n not in ren or n in library or (rust and not wants(n)):
+        if n not in ren or n in library or (rust and not wants(n)) or n in goals:
             continue
         # The field for-all, and not the words of a comment.
         if n in own_fields and text[text.rfind("\n", 0, m.start()) + 1 :].lstrip().startswith(("--", "//")):
@@ -214,6 +219,19 @@ def main():
             with open(p, "w", encoding="utf-8") as f:
                 f.write(to)
             changed += 1
+    # The texts of must-fail edits name what their files name.
+    for c in names:
+        folder = f"crates/{c}/must-fail"
+        for f in sorted(os.listdir(folder)) if os.path.isdir(folder) else []:
+            if f.endswith(".edit"):
+                p = os.path.join(folder, f)
+                with open(p, encoding="utf-8") as it:
+                    text = it.read()
+                lines = [renamed(l, ren, set(), set(), False, own_fields) if l.startswith(("old:", "new:")) else l for l in text.split("\n")]
+                if "\n".join(lines) != text:
+                    with open(p, "w", encoding="utf-8") as it:
+                        it.write("\n".join(lines))
+                    changed += 1
     with open("/tmp/respell.tsv", "w") as f:
         f.writelines(f"{n}\t{s}\n" for n, s in sorted(ren.items()))
     print(f"respell: {len(ren)} names, {changed} files")

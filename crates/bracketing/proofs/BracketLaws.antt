@@ -1,6 +1,6 @@
 -- Brackets of a spelling, counted.
 --     skip_whole      what follows a formula
---     skip-in         within open brackets a formula is skipped
+--     skip_in         within open brackets a formula is skipped
 --     skip_variable_list, skip_binding_list    what follows the list of a quantifier and of a let
 --     parts_on        one part, and then the rest
 --     parts_formula   a formula is a part
@@ -11,8 +11,8 @@ use mathlib.Core.Bool.{true, false, true≢false}
 use mathlib.Core.List.{List, [], ◌∷◌}
 use Rattle.grammar.specs.Bytes.{name}
 use Rattle.grammar.specs.Grammar.{SortedVariable, declares, Formula, called, truth, bracketed, Bracketed, denies, connects, applies, quantifies, lets}
-use Rattle.grammar.specs.Grammar.{Formulas, noFormula, andFormula, Bindings, noBinding, andBinding, Lexeme, opens, closes, word, stray, spell}
-use Rattle.grammar.specs.Grammar.{spell_variable, spell_variables, spellBracketed, spellFormulas, spellBindings}
+use Rattle.grammar.specs.Grammar.{Formulas, no_formula, and_formula, Bindings, no_binding, and_binding, Lexeme, opens, closes, word, stray, spell}
+use Rattle.grammar.specs.Grammar.{spell_variable, spell_variables, spell_bracketed, spell_formulas, spell_bindings}
 use Rattle.bracketing.specs.Brackets.{is_closing, skip, after_formula, parts, parts_from}
 
 -- ---- what is skipped
@@ -30,34 +30,34 @@ skip_variables (x ∷ xs) n rest = skip_variable x (suc n) (spell_variables xs r
 mutual
   unfolding skip spell
 
-  pub skip-in : (φ : Formula) (n : ℕ) (rest : List Lexeme) → skip (suc n) (spell φ rest) ≡ skip (suc n) rest
-  skip-in (called w) n rest = refl
-  skip-in (truth v) n rest = refl
-  skip-in (bracketed φ) n rest = skip-inside φ (suc n) rest
+  pub skip_in : (φ : Formula) (n : ℕ) (rest : List Lexeme) → skip (suc n) (spell φ rest) ≡ skip (suc n) rest
+  skip_in (called w) n rest = refl
+  skip_in (truth v) n rest = refl
+  skip_in (bracketed φ) n rest = skip_inside φ (suc n) rest
 
-  skip-inside : (φ : Bracketed) (n : ℕ) (rest : List Lexeme) → skip (suc n) (spellBracketed φ rest) ≡ skip (suc n) (closes ∷ rest)
-  skip-inside (denies φ) n rest = skip-in φ n (closes ∷ rest)
-  skip-inside (connects c φ ψ) n rest = skip-in φ n (spell ψ (closes ∷ rest)) ∙ skip-in ψ n (closes ∷ rest)
-  skip-inside (applies f φ φs) n rest = skip-in φ n (spellFormulas φs rest) ∙ skip-formulas φs n rest
-  skip-inside (quantifies q x xs φ) n rest =
-      skip_variable x (suc n) (spell_variables xs (spell φ (closes ∷ rest))) ∙ (skip_variables xs n (spell φ (closes ∷ rest)) ∙ skip-in φ n (closes ∷ rest))
-  skip-inside (lets x φ xs ψ) n rest =
-      skip-in φ (suc (suc n)) (closes ∷ spellBindings xs (spell ψ (closes ∷ rest)))
-      ∙ (skip-bindings xs n (spell ψ (closes ∷ rest)) ∙ skip-in ψ n (closes ∷ rest))
+  skip_inside : (φ : Bracketed) (n : ℕ) (rest : List Lexeme) → skip (suc n) (spell_bracketed φ rest) ≡ skip (suc n) (closes ∷ rest)
+  skip_inside (denies φ) n rest = skip_in φ n (closes ∷ rest)
+  skip_inside (connects c φ ψ) n rest = skip_in φ n (spell ψ (closes ∷ rest)) ∙ skip_in ψ n (closes ∷ rest)
+  skip_inside (applies f φ φs) n rest = skip_in φ n (spell_formulas φs rest) ∙ skip_formulas φs n rest
+  skip_inside (quantifies q x xs φ) n rest =
+      skip_variable x (suc n) (spell_variables xs (spell φ (closes ∷ rest))) ∙ (skip_variables xs n (spell φ (closes ∷ rest)) ∙ skip_in φ n (closes ∷ rest))
+  skip_inside (lets x φ xs ψ) n rest =
+      skip_in φ (suc (suc n)) (closes ∷ spell_bindings xs (spell ψ (closes ∷ rest)))
+      ∙ (skip_bindings xs n (spell ψ (closes ∷ rest)) ∙ skip_in ψ n (closes ∷ rest))
 
-  skip-formulas : (φs : Formulas) (n : ℕ) (rest : List Lexeme) → skip (suc n) (spellFormulas φs rest) ≡ skip (suc n) (closes ∷ rest)
-  skip-formulas noFormula n rest = refl
-  skip-formulas (andFormula φ φs) n rest = skip-in φ n (spellFormulas φs rest) ∙ skip-formulas φs n rest
+  skip_formulas : (φs : Formulas) (n : ℕ) (rest : List Lexeme) → skip (suc n) (spell_formulas φs rest) ≡ skip (suc n) (closes ∷ rest)
+  skip_formulas no_formula n rest = refl
+  skip_formulas (and_formula φ φs) n rest = skip_in φ n (spell_formulas φs rest) ∙ skip_formulas φs n rest
 
-  skip-bindings : (xs : Bindings) (n : ℕ) (rest : List Lexeme) → skip (suc (suc n)) (spellBindings xs rest) ≡ skip (suc n) rest
-  skip-bindings noBinding n rest = refl
-  skip-bindings (andBinding x φ xs) n rest = skip-in φ (suc (suc n)) (closes ∷ spellBindings xs rest) ∙ skip-bindings xs n rest
+  skip_bindings : (xs : Bindings) (n : ℕ) (rest : List Lexeme) → skip (suc (suc n)) (spell_bindings xs rest) ≡ skip (suc n) rest
+  skip_bindings no_binding n rest = refl
+  skip_bindings (and_binding x φ xs) n rest = skip_in φ (suc (suc n)) (closes ∷ spell_bindings xs rest) ∙ skip_bindings xs n rest
 
 pub skip_whole : (φ : Formula) (rest : List Lexeme) → after_formula (spell φ rest) ≡ rest
 unfolding skip spell
 skip_whole (called w) rest = refl
 skip_whole (truth v) rest = refl
-skip_whole (bracketed φ) rest = skip-inside φ 0 rest
+skip_whole (bracketed φ) rest = skip_inside φ 0 rest
 
 -- the lists of a quantifier and of a let
 pub skip_variable_list : (xs : List SortedVariable) (rest : List Lexeme) → after_formula (opens ∷ spell_variables xs rest) ≡ rest
@@ -65,10 +65,10 @@ unfolding skip spell_variables
 skip_variable_list [] rest = refl
 skip_variable_list (x ∷ xs) rest = skip_variable x 0 (spell_variables xs rest) ∙ skip_variable_list xs rest
 
-pub skip_binding_list : (xs : Bindings) (rest : List Lexeme) → after_formula (opens ∷ spellBindings xs rest) ≡ rest
+pub skip_binding_list : (xs : Bindings) (rest : List Lexeme) → after_formula (opens ∷ spell_bindings xs rest) ≡ rest
 unfolding skip spell
-skip_binding_list noBinding rest = refl
-skip_binding_list (andBinding x φ xs) rest = skip-in φ 1 (closes ∷ spellBindings xs rest) ∙ skip_binding_list xs rest
+skip_binding_list no_binding rest = refl
+skip_binding_list (and_binding x φ xs) rest = skip_in φ 1 (closes ∷ spell_bindings xs rest) ∙ skip_binding_list xs rest
 
 -- ---- parts
 
@@ -94,12 +94,12 @@ module _ {A : Type 0} (f : List Lexeme → A) where
   parts_formula (called w) rest = refl
   parts_formula (truth v) rest = refl
   parts_formula (bracketed φ) rest =
-      parts_on opens (spellBracketed φ rest) refl
-      ∙ ap (λ (ls : List Lexeme). f (opens ∷ spellBracketed φ rest) ∷ parts_from f ls) (skip_whole (bracketed φ) rest)
+      parts_on opens (spell_bracketed φ rest) refl
+      ∙ ap (λ (ls : List Lexeme). f (opens ∷ spell_bracketed φ rest) ∷ parts_from f ls) (skip_whole (bracketed φ) rest)
 
   pub parts_binding : (x : List ℕ) (φ : Formula) (rest : List Lexeme)
       → parts_from f (opens ∷ word (name x) ∷ spell φ (closes ∷ rest)) ≡ f (opens ∷ word (name x) ∷ spell φ (closes ∷ rest)) ∷ parts_from f rest
   unfolding is_closing skip
   parts_binding x φ rest =
       parts_on opens (word (name x) ∷ spell φ (closes ∷ rest)) refl
-      ∙ ap (λ (ls : List Lexeme). f (opens ∷ word (name x) ∷ spell φ (closes ∷ rest)) ∷ parts_from f ls) (skip-in φ 0 (closes ∷ rest))
+      ∙ ap (λ (ls : List Lexeme). f (opens ∷ word (name x) ∷ spell φ (closes ∷ rest)) ∷ parts_from f ls) (skip_in φ 0 (closes ∷ rest))

@@ -12,18 +12,18 @@ use Rattle.logic.proofs.Tests.{and_left, and_right}
 use Rattle.logic.specs.Terms.{Binder}
 use Rattle.grammar.specs.Bytes.{Connective, conjunction, disjunction, implication, equality, letting, name, sort}
 use Rattle.grammar.specs.Grammar.{SortedVariable, declares, Formula, called, truth, bracketed, Bracketed, denies, connects, applies, quantifies, lets}
-use Rattle.grammar.specs.Grammar.{Formulas, noFormula, andFormula, Bindings, noBinding, andBinding, Lexeme, opens, closes, word, spell}
-use Rattle.grammar.specs.Grammar.{spell_variable, spell_variables, spellBracketed, spellFormulas, spellBindings}
-use Rattle.grammar.specs.Names.{Name, symbolOnly, variableOnly, variable_names, names, namesInside, namesOfAll, namesBound, all_known}
+use Rattle.grammar.specs.Grammar.{Formulas, no_formula, and_formula, Bindings, no_binding, and_binding, Lexeme, opens, closes, word, spell}
+use Rattle.grammar.specs.Grammar.{spell_variable, spell_variables, spell_bracketed, spell_formulas, spell_bindings}
+use Rattle.grammar.specs.Names.{Name, symbolOnly, variableOnly, variable_names, names, names_inside, names_of_all, names_bound, all_known}
 use Rattle.reading.specs.Called.{number_after, variable_called, symbol_called, known_in, VariableName}
 use Rattle.reading.specs.Typing.{connective_symbol, sort_number, sorts_declared}
-use Rattle.reading.specs.Local.{accepts, headSort, head_sorts, bound_sorts, bound_names, fine, fineInside, fineAll, fineBound}
+use Rattle.reading.specs.Local.{accepts, head_sort, head_sorts, bound_sorts, bound_names, fine, fine_inside, fine_all, fine_bound}
 use Rattle.reading.proofs.KnownNames.{known_exactly}
 use Rattle.bracketing.specs.Brackets.{after_formula, parts, parts_from}
 use Rattle.bracketing.specs.Nodes.{joins, takes, as_declared, every, bound_from, distinct, inside_fine}
-use Rattle.bracketing.specs.Nodes.{sortFrom, fine_from, BracketByBracket}
+use Rattle.bracketing.specs.Nodes.{sort_from, fine_from, BracketByBracket}
 use Rattle.bracketing.proofs.BracketLaws.{skip_whole, skip_variable_list, parts_formula, parts_binding}
-use Rattle.bracketing.proofs.SortsOff.{sort-off}
+use Rattle.bracketing.proofs.SortsOff.{sort_off}
 
 -- ---- truth values
 
@@ -82,26 +82,26 @@ module _ (b : Bundle) where
   mutual
     unfolding names
 
-    after-known : (φ : Formula) (ns : List Name) → Known (names φ ns) → Known ns
-    after-known (called w) ns e = rest_known _ ns e
-    after-known (truth v) ns e = e
-    after-known (bracketed φ) ns e = inside-known φ ns e
+    after_known : (φ : Formula) (ns : List Name) → Known (names φ ns) → Known ns
+    after_known (called w) ns e = rest_known _ ns e
+    after_known (truth v) ns e = e
+    after_known (bracketed φ) ns e = inside_known φ ns e
 
-    inside-known : (φ : Bracketed) (ns : List Name) → Known (namesInside φ ns) → Known ns
-    inside-known (denies φ) ns e = after-known φ ns e
-    inside-known (connects c φ ψ) ns e = after-known ψ ns (after-known φ (names ψ ns) e)
-    inside-known (applies f φ φs) ns e = all_known_lem φs ns (after-known φ (namesOfAll φs ns) (rest_known _ _ e))
-    inside-known (quantifies q x xs φ) ns e = after-known φ ns (variables_known (x ∷ xs) (names φ ns) e)
-    inside-known (lets x φ xs ψ) ns e =
-        after-known ψ ns (bound_known xs (names ψ ns) (after-known φ (namesBound xs (names ψ ns)) (rest_known _ _ e)))
+    inside_known : (φ : Bracketed) (ns : List Name) → Known (names_inside φ ns) → Known ns
+    inside_known (denies φ) ns e = after_known φ ns e
+    inside_known (connects c φ ψ) ns e = after_known ψ ns (after_known φ (names ψ ns) e)
+    inside_known (applies f φ φs) ns e = all_known_lem φs ns (after_known φ (names_of_all φs ns) (rest_known _ _ e))
+    inside_known (quantifies q x xs φ) ns e = after_known φ ns (variables_known (x ∷ xs) (names φ ns) e)
+    inside_known (lets x φ xs ψ) ns e =
+        after_known ψ ns (bound_known xs (names ψ ns) (after_known φ (names_bound xs (names ψ ns)) (rest_known _ _ e)))
 
-    all_known_lem : (φs : Formulas) (ns : List Name) → Known (namesOfAll φs ns) → Known ns
-    all_known_lem noFormula ns e = e
-    all_known_lem (andFormula φ φs) ns e = all_known_lem φs ns (after-known φ (namesOfAll φs ns) e)
+    all_known_lem : (φs : Formulas) (ns : List Name) → Known (names_of_all φs ns) → Known ns
+    all_known_lem no_formula ns e = e
+    all_known_lem (and_formula φ φs) ns e = all_known_lem φs ns (after_known φ (names_of_all φs ns) e)
 
-    bound_known : (xs : Bindings) (ns : List Name) → Known (namesBound xs ns) → Known ns
-    bound_known noBinding ns e = e
-    bound_known (andBinding x φ xs) ns e = bound_known xs ns (after-known φ (namesBound xs ns) (rest_known _ _ e))
+    bound_known : (xs : Bindings) (ns : List Name) → Known (names_bound xs ns) → Known ns
+    bound_known no_binding ns e = e
+    bound_known (and_binding x φ xs) ns e = bound_known xs ns (after_known φ (names_bound xs ns) (rest_known _ _ e))
 
   -- a variable's name is no symbol's
   with_v : (w ds : List ℕ) → w ≡ 118 ∷ ds → symbol_called b w ≡ 0
@@ -147,11 +147,11 @@ module _ (b : Bundle) where
 
   -- ---- arguments, a quantifier's variables, a let's bindings
 
-  sorts_all : (φs : Formulas) (rest : List Lexeme) → parts_from (sortFrom b) (spellFormulas φs rest) ≡ head_sorts b φs
-  unfolding spellFormulas head_sorts parts
-  sorts_all noFormula rest = refl
-  sorts_all (andFormula φ φs) rest =
-      rw (parts_formula (sortFrom b) φ (spellFormulas φs rest), sort-off b φ (spellFormulas φs rest), sorts_all φs rest)
+  sorts_all_lem : (φs : Formulas) (rest : List Lexeme) → parts_from (sort_from b) (spell_formulas φs rest) ≡ head_sorts b φs
+  unfolding spell_formulas head_sorts parts
+  sorts_all_lem no_formula rest = refl
+  sorts_all_lem (and_formula φ φs) rest =
+      rw (parts_formula (sort_from b) φ (spell_formulas φs rest), sort_off b φ (spell_formulas φs rest), sorts_all_lem φs rest)
 
   declared_off : (xs : List SortedVariable) (rest : List Lexeme) → every (parts_from (as_declared b) (spell_variables xs rest)) ≡ sorts_declared b xs
   unfolding spell_variables sorts_declared parts every as_declared
@@ -161,14 +161,14 @@ module _ (b : Bundle) where
 
   -- a let's variables, 0 for each whose formula is not of its sort
   unfoldable fitting : Bindings → List ℕ
-  fitting noBinding = []
-  fitting (andBinding x φ xs) = cond (eqb (sort_of_variable b (variable_called b x)) (headSort b φ)) (variable_called b x) 0 ∷ fitting xs
+  fitting no_binding = []
+  fitting (and_binding x φ xs) = cond (eqb (sort_of_variable b (variable_called b x)) (head_sort b φ)) (variable_called b x) 0 ∷ fitting xs
 
-  bounds_off : (xs : Bindings) (rest : List Lexeme) → parts_from (bound_from b) (spellBindings xs rest) ≡ fitting xs
-  unfolding spellBindings fitting parts bound_from
-  bounds_off noBinding rest = refl
-  bounds_off (andBinding x φ xs) rest =
-      rw (parts_binding (bound_from b) x φ (spellBindings xs rest), sort-off b φ (closes ∷ spellBindings xs rest), bounds_off xs rest)
+  bounds_off : (xs : Bindings) (rest : List Lexeme) → parts_from (bound_from b) (spell_bindings xs rest) ≡ fitting xs
+  unfolding spell_bindings fitting parts bound_from
+  bounds_off no_binding rest = refl
+  bounds_off (and_binding x φ xs) rest =
+      rw (parts_binding (bound_from b) x φ (spell_bindings xs rest), sort_off b φ (closes ∷ spell_bindings xs rest), bounds_off xs rest)
 
   some_fits : (p : Bool) (v : ℕ) → ltb 0 v ≡ true → ltb 0 (cond p v 0) ≡ p
   some_fits true v e = e
@@ -178,27 +178,27 @@ module _ (b : Bundle) where
   fit_same true v e = refl
   fit_same false v e = absurd (false≢true e)
 
-  fitting_sorts : (xs : Bindings) (ns : List Name) → Known (namesBound xs ns)
+  fitting_sorts : (xs : Bindings) (ns : List Name) → Known (names_bound xs ns)
       → each (ltb 0) (fitting xs) ≡ same_list (map (sort_of_variable b) (bound_names b xs)) (bound_sorts b xs)
   unfolding fitting bound_names bound_sorts names same_list each
-  fitting_sorts noBinding ns e = refl
-  fitting_sorts (andBinding x φ xs) ns e =
+  fitting_sorts no_binding ns e = refl
+  fitting_sorts (and_binding x φ xs) ns e =
       rw (
-        some_fits (eqb (sort_of_variable b (variable_called b x)) (headSort b φ)) (variable_called b x) (a_variable x (first_known _ _ e)),
-        fitting_sorts xs ns (after-known φ (namesBound xs ns) (rest_known _ _ e)),
+        some_fits (eqb (sort_of_variable b (variable_called b x)) (head_sort b φ)) (variable_called b x) (a_variable x (first_known _ _ e)),
+        fitting_sorts xs ns (after_known φ (names_bound xs ns) (rest_known _ _ e)),
       )
 
   fitting_names : (xs : Bindings) → each (ltb 0) (fitting xs) ≡ true → fitting xs ≡ bound_names b xs
   unfolding fitting bound_names each
-  fitting_names noBinding e = refl
-  fitting_names (andBinding x φ xs) e =
-      let v : ℕ = cond (eqb (sort_of_variable b (variable_called b x)) (headSort b φ)) (variable_called b x) 0 in
+  fitting_names no_binding e = refl
+  fitting_names (and_binding x φ xs) e =
+      let v : ℕ = cond (eqb (sort_of_variable b (variable_called b x)) (head_sort b φ)) (variable_called b x) 0 in
       rw (
-        fit_same (eqb (sort_of_variable b (variable_called b x)) (headSort b φ)) (variable_called b x) (and_left (ltb 0 v) (each (ltb 0) (fitting xs)) e),
+        fit_same (eqb (sort_of_variable b (variable_called b x)) (head_sort b φ)) (variable_called b x) (and_left (ltb 0 v) (each (ltb 0) (fitting xs)) e),
         fitting_names xs (and_right (ltb 0 v) (each (ltb 0) (fitting xs)) e),
       )
 
-  distinct_off : (xs : Bindings) (ns : List Name) → Known (namesBound xs ns)
+  distinct_off : (xs : Bindings) (ns : List Name) → Known (names_bound xs ns)
       → distinct (fitting xs) ≡ (different (bound_names b xs) && same_list (map (sort_of_variable b) (bound_names b xs)) (bound_sorts b xs))
   unfolding distinct
   distinct_off xs ns e = go (each (ltb 0) (fitting xs)) refl
@@ -216,41 +216,41 @@ module _ (b : Bundle) where
   -- the bracket of a pair is no node
   pair_off : (w : List ℕ) (ls : List Lexeme) → known_in b (name_as w) ≡ true → inside_fine b (word (name w) ∷ ls) ≡ true
   unfolding inside_fine
-  pair_off w ls e = takes_none (symbol_called b w) (parts_from (sortFrom b) ls) (no_symbol_lem w e)
+  pair_off w ls e = takes_none (symbol_called b w) (parts_from (sort_from b) ls) (no_symbol_lem w e)
 
-  symbol_off : (w : List ℕ) (ls : List Lexeme) (ss : List ℕ) → known_in b (symbol_as w) ≡ true → parts_from (sortFrom b) ls ≡ ss
+  symbol_off : (w : List ℕ) (ls : List Lexeme) (ss : List ℕ) → known_in b (symbol_as w) ≡ true → parts_from (sort_from b) ls ≡ ss
       → inside_fine b (word (name w) ∷ ls) ≡ accepts b (symbol_called b w) ss
   unfolding inside_fine
   symbol_off w ls ss k e =
-      takes_known (symbol_called b w) (parts_from (sortFrom b) ls) (a_symbol w k) ∙ ap (λ (xs : List ℕ). accepts b (symbol_called b w) xs) e
+      takes_known (symbol_called b w) (parts_from (sort_from b) ls) (a_symbol w k) ∙ ap (λ (xs : List ℕ). accepts b (symbol_called b w) xs) e
 
   connects_off : (c : Connective) (φ ψ : Formula) (rest : List Lexeme)
-      → inside_fine b (spellBracketed (connects c φ ψ) rest) ≡ accepts b (connective_symbol c (headSort b φ)) (headSort b φ ∷ headSort b ψ ∷ [])
+      → inside_fine b (spell_bracketed (connects c φ ψ) rest) ≡ accepts b (connective_symbol c (head_sort b φ)) (head_sort b φ ∷ head_sort b ψ ∷ [])
   unfolding inside_fine spell
   connects_off c φ ψ rest =
-      let e : sortFrom b (after_formula (spell φ (spell ψ (closes ∷ rest)))) ≡ headSort b ψ =
-      ap (sortFrom b) (skip_whole φ (spell ψ (closes ∷ rest))) ∙ sort-off b ψ (closes ∷ rest) in
-      ap (λ (s : ℕ). joins c s (sortFrom b (after_formula (spell φ (spell ψ (closes ∷ rest)))))) (sort-off b φ (spell ψ (closes ∷ rest)))
-      ∙ (ap (λ (s : ℕ). joins c (headSort b φ) s) e ∙ joins_accepts c (headSort b φ) (headSort b ψ))
+      let e : sort_from b (after_formula (spell φ (spell ψ (closes ∷ rest)))) ≡ head_sort b ψ =
+      ap (sort_from b) (skip_whole φ (spell ψ (closes ∷ rest))) ∙ sort_off b ψ (closes ∷ rest) in
+      ap (λ (s : ℕ). joins c s (sort_from b (after_formula (spell φ (spell ψ (closes ∷ rest)))))) (sort_off b φ (spell ψ (closes ∷ rest)))
+      ∙ (ap (λ (s : ℕ). joins c (head_sort b φ) s) e ∙ joins_accepts c (head_sort b φ) (head_sort b ψ))
 
   applies_off : (f : List ℕ) (φ : Formula) (φs : Formulas) (rest : List Lexeme) → known_in b (symbol_as f) ≡ true
-      → inside_fine b (spellBracketed (applies f φ φs) rest) ≡ accepts b (symbol_called b f) (headSort b φ ∷ head_sorts b φs)
+      → inside_fine b (spell_bracketed (applies f φ φs) rest) ≡ accepts b (symbol_called b f) (head_sort b φ ∷ head_sorts b φs)
   unfolding spell head_sorts
-  applies_off f φ φs rest k = symbol_off f (spell φ (spellFormulas φs rest)) (headSort b φ ∷ head_sorts b φs) k (sorts_all (andFormula φ φs) rest)
+  applies_off f φ φs rest k = symbol_off f (spell φ (spell_formulas φs rest)) (head_sort b φ ∷ head_sorts b φs) k (sorts_all_lem (and_formula φ φs) rest)
 
   quantifies_off : (q : Binder) (x : SortedVariable) (xs : List SortedVariable) (φ : Formula) (rest : List Lexeme)
-      → inside_fine b (spellBracketed (quantifies q x xs φ) rest) ≡ (sorts_declared b (x ∷ xs) && eqb (headSort b φ) truth_sort)
+      → inside_fine b (spell_bracketed (quantifies q x xs φ) rest) ≡ (sorts_declared b (x ∷ xs) && eqb (head_sort b φ) truth_sort)
   unfolding inside_fine spell
   quantifies_off q x xs φ rest =
       both (declared_off (x ∷ xs) (spell φ (closes ∷ rest)))
-      (ap (λ (s : ℕ). eqb s truth_sort) (ap (sortFrom b) (skip_variable_list (x ∷ xs) (spell φ (closes ∷ rest))) ∙ sort-off b φ (closes ∷ rest)))
+      (ap (λ (s : ℕ). eqb s truth_sort) (ap (sort_from b) (skip_variable_list (x ∷ xs) (spell φ (closes ∷ rest))) ∙ sort_off b φ (closes ∷ rest)))
 
-  lets_off : (x : List ℕ) (φ : Formula) (xs : Bindings) (ns : List Name) (rest : List Lexeme) → Known (namesBound (andBinding x φ xs) ns)
-      → inside_fine b (word letting ∷ opens ∷ spellBindings (andBinding x φ xs) rest)
-      ≡ (different (bound_names b (andBinding x φ xs))
-      && same_list (map (sort_of_variable b) (bound_names b (andBinding x φ xs))) (bound_sorts b (andBinding x φ xs)))
+  lets_off : (x : List ℕ) (φ : Formula) (xs : Bindings) (ns : List Name) (rest : List Lexeme) → Known (names_bound (and_binding x φ xs) ns)
+      → inside_fine b (word letting ∷ opens ∷ spell_bindings (and_binding x φ xs) rest)
+      ≡ (different (bound_names b (and_binding x φ xs))
+      && same_list (map (sort_of_variable b) (bound_names b (and_binding x φ xs))) (bound_sorts b (and_binding x φ xs)))
   unfolding inside_fine
-  lets_off x φ xs ns rest e = ap distinct (bounds_off (andBinding x φ xs) rest) ∙ distinct_off (andBinding x φ xs) ns e
+  lets_off x φ xs ns rest e = ap distinct (bounds_off (and_binding x φ xs) rest) ∙ distinct_off (and_binding x φ xs) ns e
 
   -- the bracket of a list is no node
   list_off : (x : SortedVariable) (rest : List Lexeme) → inside_fine b (spell_variable x rest) ≡ true
@@ -268,63 +268,63 @@ module _ (b : Bundle) where
   mutual
     unfolding fine_from fine spell names
 
-    fine-off : (φ : Formula) (ns : List Name) (rest : List Lexeme) → Known (names φ ns)
+    fine_off : (φ : Formula) (ns : List Name) (rest : List Lexeme) → Known (names φ ns)
         → fine_from b false (spell φ rest) ≡ (fine b φ && fine_from b false rest)
-    fine-off (called w) ns rest e = refl
-    fine-off (truth v) ns rest e = refl
-    fine-off (bracketed φ) ns rest e = inside-off φ ns rest e
+    fine_off (called w) ns rest e = refl
+    fine_off (truth v) ns rest e = refl
+    fine_off (bracketed φ) ns rest e = inside_off φ ns rest e
 
-    inside-off : (φ : Bracketed) (ns : List Name) (rest : List Lexeme) → Known (namesInside φ ns)
-        → (inside_fine b (spellBracketed φ rest) && fine_from b true (spellBracketed φ rest)) ≡ (fineInside b φ && fine_from b false rest)
-    inside-off (denies φ) ns rest e =
-        both (ap (eqb truth_sort) (sort-off b φ (closes ∷ rest)) ∙ denies_accepts (headSort b φ)) (fine-off φ ns (closes ∷ rest) e)
-        ∙ own_last (accepts b 3 (headSort b φ ∷ [])) (fine b φ) (fine_from b false rest)
-    inside-off (connects c φ ψ) ns rest e =
+    inside_off : (φ : Bracketed) (ns : List Name) (rest : List Lexeme) → Known (names_inside φ ns)
+        → (inside_fine b (spell_bracketed φ rest) && fine_from b true (spell_bracketed φ rest)) ≡ (fine_inside b φ && fine_from b false rest)
+    inside_off (denies φ) ns rest e =
+        both (ap (eqb truth_sort) (sort_off b φ (closes ∷ rest)) ∙ denies_accepts (head_sort b φ)) (fine_off φ ns (closes ∷ rest) e)
+        ∙ own_last (accepts b 3 (head_sort b φ ∷ [])) (fine b φ) (fine_from b false rest)
+    inside_off (connects c φ ψ) ns rest e =
         both (connects_off c φ ψ rest)
-        (fine-off φ (names ψ ns) (spell ψ (closes ∷ rest)) e ∙ ap (λ (p : Bool). fine b φ && p) (fine-off ψ ns (closes ∷ rest) (after-known φ (names ψ ns) e)))
-        ∙ own_last_2 (accepts b (connective_symbol c (headSort b φ)) (headSort b φ ∷ headSort b ψ ∷ [])) (fine b φ) (fine b ψ) (fine_from b false rest)
-    inside-off (applies f φ φs) ns rest e =
-        let k : Known (names φ (namesOfAll φs ns)) = rest_known (symbol_as f) (names φ (namesOfAll φs ns)) e in
-        both (applies_off f φ φs rest (first_known (symbol_as f) (names φ (namesOfAll φs ns)) e))
-        (fine-off φ (namesOfAll φs ns) (spellFormulas φs rest) k
-        ∙ ap (λ (p : Bool). fine b φ && p) (all-off φs ns rest (after-known φ (namesOfAll φs ns) k)))
-        ∙ own_last_2 (accepts b (symbol_called b f) (headSort b φ ∷ head_sorts b φs)) (fine b φ) (fineAll b φs) (fine_from b false rest)
-    inside-off (quantifies q x xs φ) ns rest e =
+        (fine_off φ (names ψ ns) (spell ψ (closes ∷ rest)) e ∙ ap (λ (p : Bool). fine b φ && p) (fine_off ψ ns (closes ∷ rest) (after_known φ (names ψ ns) e)))
+        ∙ own_last_2 (accepts b (connective_symbol c (head_sort b φ)) (head_sort b φ ∷ head_sort b ψ ∷ [])) (fine b φ) (fine b ψ) (fine_from b false rest)
+    inside_off (applies f φ φs) ns rest e =
+        let k : Known (names φ (names_of_all φs ns)) = rest_known (symbol_as f) (names φ (names_of_all φs ns)) e in
+        both (applies_off f φ φs rest (first_known (symbol_as f) (names φ (names_of_all φs ns)) e))
+        (fine_off φ (names_of_all φs ns) (spell_formulas φs rest) k
+        ∙ ap (λ (p : Bool). fine b φ && p) (all_off φs ns rest (after_known φ (names_of_all φs ns) k)))
+        ∙ own_last_2 (accepts b (symbol_called b f) (head_sort b φ ∷ head_sorts b φs)) (fine b φ) (fine_all b φs) (fine_from b false rest)
+    inside_off (quantifies q x xs φ) ns rest e =
         both (quantifies_off q x xs φ rest)
         (both (list_off x (spell_variables xs (spell φ (closes ∷ rest)))) (variables_off (x ∷ xs) true (names φ ns) (spell φ (closes ∷ rest)) e)
-        ∙ fine-off φ ns (closes ∷ rest) (variables_known (x ∷ xs) (names φ ns) e))
-        ∙ own_last (sorts_declared b (x ∷ xs) && eqb (headSort b φ) truth_sort) (fine b φ) (fine_from b false rest)
-    inside-off (lets x φ xs ψ) ns rest e =
-        let k : Known (names φ (namesBound xs (names ψ ns))) = rest_known (name_as x) (names φ (namesBound xs (names ψ ns))) e in
-        let l : Known (namesBound xs (names ψ ns)) = after-known φ (namesBound xs (names ψ ns)) k in
+        ∙ fine_off φ ns (closes ∷ rest) (variables_known (x ∷ xs) (names φ ns) e))
+        ∙ own_last (sorts_declared b (x ∷ xs) && eqb (head_sort b φ) truth_sort) (fine b φ) (fine_from b false rest)
+    inside_off (lets x φ xs ψ) ns rest e =
+        let k : Known (names φ (names_bound xs (names ψ ns))) = rest_known (name_as x) (names φ (names_bound xs (names ψ ns))) e in
+        let l : Known (names_bound xs (names ψ ns)) = after_known φ (names_bound xs (names ψ ns)) k in
         both (lets_off x φ xs (names ψ ns) (spell ψ (closes ∷ rest)) e)
-        (both (pair_off x (spell φ (closes ∷ spellBindings xs (spell ψ (closes ∷ rest)))) (first_known (name_as x) _ e))
-        (fine-off φ (namesBound xs (names ψ ns)) (closes ∷ spellBindings xs (spell ψ (closes ∷ rest))) k
+        (both (pair_off x (spell φ (closes ∷ spell_bindings xs (spell ψ (closes ∷ rest)))) (first_known (name_as x) _ e))
+        (fine_off φ (names_bound xs (names ψ ns)) (closes ∷ spell_bindings xs (spell ψ (closes ∷ rest))) k
         ∙ ap (λ (p : Bool). fine b φ && p)
-        (bound-off xs (names ψ ns) (spell ψ (closes ∷ rest)) l
-        ∙ ap (λ (p : Bool). fineBound b xs && p) (fine-off ψ ns (closes ∷ rest) (bound_known xs (names ψ ns) l)))))
+        (bound_off xs (names ψ ns) (spell ψ (closes ∷ rest)) l
+        ∙ ap (λ (p : Bool). fine_bound b xs && p) (fine_off ψ ns (closes ∷ rest) (bound_known xs (names ψ ns) l)))))
         ∙ own_last_3
-        (different (bound_names b (andBinding x φ xs))
-        && same_list (map (sort_of_variable b) (bound_names b (andBinding x φ xs))) (bound_sorts b (andBinding x φ xs))) (fine b φ) (fineBound b xs) (fine b ψ)
+        (different (bound_names b (and_binding x φ xs))
+        && same_list (map (sort_of_variable b) (bound_names b (and_binding x φ xs))) (bound_sorts b (and_binding x φ xs))) (fine b φ) (fine_bound b xs) (fine b ψ)
         (fine_from b false rest)
 
-    all-off : (φs : Formulas) (ns : List Name) (rest : List Lexeme) → Known (namesOfAll φs ns)
-        → fine_from b false (spellFormulas φs rest) ≡ (fineAll b φs && fine_from b false rest)
-    all-off noFormula ns rest e = refl
-    all-off (andFormula φ φs) ns rest e =
-        fine-off φ (namesOfAll φs ns) (spellFormulas φs rest) e
-        ∙ (ap (λ (p : Bool). fine b φ && p) (all-off φs ns rest (after-known φ (namesOfAll φs ns) e))
-        ∙ and_assoc (fine b φ) (fineAll b φs) (fine_from b false rest))
+    all_off : (φs : Formulas) (ns : List Name) (rest : List Lexeme) → Known (names_of_all φs ns)
+        → fine_from b false (spell_formulas φs rest) ≡ (fine_all b φs && fine_from b false rest)
+    all_off no_formula ns rest e = refl
+    all_off (and_formula φ φs) ns rest e =
+        fine_off φ (names_of_all φs ns) (spell_formulas φs rest) e
+        ∙ (ap (λ (p : Bool). fine b φ && p) (all_off φs ns rest (after_known φ (names_of_all φs ns) e))
+        ∙ and_assoc (fine b φ) (fine_all b φs) (fine_from b false rest))
 
-    bound-off : (xs : Bindings) (ns : List Name) (rest : List Lexeme) → Known (namesBound xs ns)
-        → fine_from b false (spellBindings xs rest) ≡ (fineBound b xs && fine_from b false rest)
-    bound-off noBinding ns rest e = refl
-    bound-off (andBinding x φ xs) ns rest e =
-        let k : Known (names φ (namesBound xs ns)) = rest_known (name_as x) (names φ (namesBound xs ns)) e in
-        both (pair_off x (spell φ (closes ∷ spellBindings xs rest)) (first_known (name_as x) (names φ (namesBound xs ns)) e))
-        (fine-off φ (namesBound xs ns) (closes ∷ spellBindings xs rest) k
-        ∙ ap (λ (p : Bool). fine b φ && p) (bound-off xs ns rest (after-known φ (namesBound xs ns) k)))
-        ∙ and_assoc (fine b φ) (fineBound b xs) (fine_from b false rest)
+    bound_off : (xs : Bindings) (ns : List Name) (rest : List Lexeme) → Known (names_bound xs ns)
+        → fine_from b false (spell_bindings xs rest) ≡ (fine_bound b xs && fine_from b false rest)
+    bound_off no_binding ns rest e = refl
+    bound_off (and_binding x φ xs) ns rest e =
+        let k : Known (names φ (names_bound xs ns)) = rest_known (name_as x) (names φ (names_bound xs ns)) e in
+        both (pair_off x (spell φ (closes ∷ spell_bindings xs rest)) (first_known (name_as x) (names φ (names_bound xs ns)) e))
+        (fine_off φ (names_bound xs ns) (closes ∷ spell_bindings xs rest) k
+        ∙ ap (λ (p : Bool). fine b φ && p) (bound_off xs ns rest (after_known φ (names_bound xs ns) k)))
+        ∙ and_assoc (fine b φ) (fine_bound b xs) (fine_from b false rest)
 
 pub bracket_by_bracket : BracketByBracket
-bracket_by_bracket b φ rest k = record { sort = sort-off b φ rest; after = skip_whole φ rest; nodes = fine-off b φ [] rest k }
+bracket_by_bracket b φ rest k = record { sort = sort_off b φ rest; after = skip_whole φ rest; nodes = fine_off b φ [] rest k }

@@ -1,7 +1,7 @@
 -- Places of a text: what follows a lexeme, what follows a formula.
 --     past_over, past_on, past_two                            what follows a lexeme, and what follows two
 --     starts_part_lem                                             whether a part starts here
---     Skipping, skip_start, skip_over, skip-here, skip-next   a formula skipped, as `brackets::after_formula` goes over it
+--     Skipping, skip_start, skip_over, skip_here, skip_next   a formula skipped, as `brackets::after_formula` goes over it
 use Prim.Native.Nat.{ℕ, zero, suc, ◌+◌, ◌-◌, ◌≤◌, ◌<◌}
 use native.Mathlib.Omega.{arith}
 use native.Mathlib.Numerals.{add-one}
@@ -129,18 +129,18 @@ module _ (text : List ℕ) (i n at : ℕ) (s : Skipping text i n at) (r : Lexed)
     unfolding skip
     turned = s.same ∙ (ap (skip n) (h.found ne).next ∙ rw now)
 
-    pub skip-here : m ≡ 0 → Reaches text i r.end (after_formula (lexemes_at text i))
+    pub skip_here : m ≡ 0 → Reaches text i r.end (after_formula (lexemes_at text i))
     unfolding if_none
-    skip-here z = record {
+    skip_here z = record {
       after = omega (arith, s.after, h.after, h.order);
       inside = h.inside;
       there = rw (turned, z);
       moves = λ some. omega (arith, s.after, h.after, (h.found ne).some);
     }
 
-    pub skip-next : (m ≡ 0 → ⊥) → Skipping text i m r.end
+    pub skip_next : (m ≡ 0 → ⊥) → Skipping text i m r.end
     unfolding if_none
-    skip-next nz = record {
+    skip_next nz = record {
       after = omega (arith, s.after, h.after, h.order);
       inside = h.inside;
       few = omega (arith, s.few, h.after, (h.found ne).some, open_few r.code n);

@@ -3,7 +3,7 @@
 --     result_named, sort_none, sort_some                  the sorts of a head and of a word alone, as code finds them
 --     none_here, name_at_lem                                  the name that a found lexeme is
 --     sort_word, sort_bracket, sort_result, sort_let      the sort from a place on, by the next lexeme
---     Sorting, sorting_word to sorting-further            the same, as `sorts::sort_at` goes over lets
+--     Sorting, sorting_word to sorting_further            the same, as `sorts::sort_at` goes over lets
 --     said_none, said_item, said_other                    the sort that the word at a place says
 use Prim.Native.Nat.{ℕ, zero, suc, ◌≤◌, ◌<◌}
 use native.Mathlib.Omega.{arith}
@@ -31,9 +31,9 @@ use Rattle.lexing.proofs.LexemeLaws.{word_small}
 use Rattle.reading.specs.Called.{number_after, variable_called, symbol_called}
 use Rattle.reading.specs.Local.{alone_sort}
 use Rattle.bracketing.specs.Brackets.{front_of, after_formula}
-use Rattle.bracketing.specs.Nodes.{name_of, is_let, sort_said, sort_in, result_of, sortFrom, sortInside, sortPast}
+use Rattle.bracketing.specs.Nodes.{name_of, is_let, sort_said, sort_in, result_of, sort_from, sort_inside, sort_past}
 use Rattle.bracketing.specs.Places.{Reaches, name_here, named_sort, named_result}
-use Rattle.bracketing.proofs.SortsOff.{sort_past}
+use Rattle.bracketing.proofs.SortsOff.{sort_past_lem}
 use Rattle.bracketing.proofs.Fronts.{name_of_lem, Front, front, over, opening, closing, other, run}
 
 -- ---- what a name names
@@ -112,78 +112,78 @@ module _ (b : Bundle) (text : List ℕ) (i : ℕ) (r : Lexed) (h : Lexes text i 
   unfolding name_here
   named w is c = rw (c, is) (name_of_lem (part text r.start r.end))
 
-  sort_word : (r.code ≡ 0 → ⊥) → sortFrom b (lexemes_at text i) ≡ named_sort b (name_here text r)
-  unfolding sortFrom named_sort name_here number_after signature_of
+  sort_word : (r.code ≡ 0 → ⊥) → sort_from b (lexemes_at text i) ≡ named_sort b (name_here text r)
+  unfolding sort_from named_sort name_here number_after signature_of
   sort_word ne = go (front text i r h)
     where
-      go : Front text i r → sortFrom b (lexemes_at text i) ≡ named_sort b (name_here text r)
+      go : Front text i r → sort_from b (lexemes_at text i) ≡ named_sort b (name_here text r)
       go (over c e) = rw (c, e)
       go (opening c e) = absurd (ne c)
       go (closing c e) = rw (c, e)
       go (other c e) = rw (c, e)
-      go (run w is c e) = ap (sortFrom b) e ∙ ap (named_sort b) (named w is c)
+      go (run w is c e) = ap (sort_from b) e ∙ ap (named_sort b) (named w is c)
 
-  sort_bracket : r.code ≡ 0 → sortFrom b (lexemes_at text i) ≡ sortInside b (lexemes_at text r.end)
-  unfolding sortFrom word_code
+  sort_bracket : r.code ≡ 0 → sort_from b (lexemes_at text i) ≡ sort_inside b (lexemes_at text r.end)
+  unfolding sort_from word_code
   sort_bracket z = go (front text i r h)
     where
-      go : Front text i r → sortFrom b (lexemes_at text i) ≡ sortInside b (lexemes_at text r.end)
+      go : Front text i r → sort_from b (lexemes_at text i) ≡ sort_inside b (lexemes_at text r.end)
       go (over c e) = absurd (omega arith)
       go (opening c e) = rw e
       go (closing c e) = absurd (omega arith)
       go (other c e) = absurd (omega arith)
       go (run w is c e) = absurd (omega (arith, (word_small w).0))
 
-  sort_result : (r.code ≡ 7 → ⊥) → sortInside b (lexemes_at text i) ≡ named_result b (name_here text r)
-  unfolding sortFrom named_result name_here number_after signature_of
+  sort_result : (r.code ≡ 7 → ⊥) → sort_inside b (lexemes_at text i) ≡ named_result b (name_here text r)
+  unfolding sort_from named_result name_here number_after signature_of
   sort_result ne = go (front text i r h)
     where
-      go : Front text i r → sortInside b (lexemes_at text i) ≡ named_result b (name_here text r)
+      go : Front text i r → sort_inside b (lexemes_at text i) ≡ named_result b (name_here text r)
       go (over c e) = rw (c, e)
       go (opening c e) = rw (c, e)
       go (closing c e) = rw (c, e)
       go (other c e) = rw (c, e)
       go (run w is c e) =
-          ap (sortInside b) e
-          ∙ (ap (λ (p : Bool). cond p (sortPast b 0 (lexemes_at text r.end)) (result_of b w)) (no_let w (λ s. ne (c ∙ s)))
+          ap (sort_inside b) e
+          ∙ (ap (λ (p : Bool). cond p (sort_past b 0 (lexemes_at text r.end)) (result_of b w)) (no_let w (λ s. ne (c ∙ s)))
           ∙ ap (named_result b) (named w is c))
 
-  sort_let : r.code ≡ 7 → sortInside b (lexemes_at text i) ≡ sortFrom b (after_formula (lexemes_at text r.end))
-  unfolding sortFrom
+  sort_let : r.code ≡ 7 → sort_inside b (lexemes_at text i) ≡ sort_from b (after_formula (lexemes_at text r.end))
+  unfolding sort_from
   sort_let s = go (front text i r h)
     where
-      go : Front text i r → sortInside b (lexemes_at text i) ≡ sortFrom b (after_formula (lexemes_at text r.end))
+      go : Front text i r → sort_inside b (lexemes_at text i) ≡ sort_from b (after_formula (lexemes_at text r.end))
       go (over c e) = absurd (omega arith)
       go (opening c e) = absurd (omega arith)
       go (closing c e) = absurd (omega arith)
       go (other c e) = absurd (omega arith)
       go (run w is c e) =
-          ap (sortInside b) e
-          ∙ (ap (λ (p : Bool). cond p (sortPast b 0 (lexemes_at text r.end)) (result_of b w)) (is_let_lem w (sym c ∙ s))
-          ∙ sort_past b 0 (lexemes_at text r.end))
+          ap (sort_inside b) e
+          ∙ (ap (λ (p : Bool). cond p (sort_past b 0 (lexemes_at text r.end)) (result_of b w)) (is_let_lem w (sym c ∙ s))
+          ∙ sort_past_lem b 0 (lexemes_at text r.end))
 
 -- the sort from i on is that from `at` on, as `sorts::sort_at` goes over lets
 pub record Sorting (b : Bundle) (text : List ℕ) (i at : ℕ) : Type 0 where
   pub inside : at ≤ length text
-  pub same : sortFrom b (lexemes_at text i) ≡ sortFrom b (lexemes_at text at)
+  pub same : sort_from b (lexemes_at text i) ≡ sort_from b (lexemes_at text at)
 
 module _ {b : Bundle} {text : List ℕ} {i at : ℕ} (w : Sorting b text i at) {r : Lexed} (h : Lexes text at r) where
-  pub sorting_word : (r.code ≡ 0 → ⊥) → {s : ℕ} → s ≡ named_sort b (name_here text r) → s ≡ sortFrom b (lexemes_at text i)
+  pub sorting_word : (r.code ≡ 0 → ⊥) → {s : ℕ} → s ≡ named_sort b (name_here text r) → s ≡ sort_from b (lexemes_at text i)
   sorting_word ne e = e ∙ sym (w.same ∙ sort_word b text at r h ne)
 
   module _ (z : r.code ≡ 0) {m : Lexed} (g : Lexes text r.end m) where
-    pub sorting-result : (m.code ≡ 7 → ⊥) → {s : ℕ} → s ≡ named_result b (name_here text m) → s ≡ sortFrom b (lexemes_at text i)
-    sorting-result ne e = e ∙ sym (w.same ∙ (sort_bracket b text at r h z ∙ sort_result b text r.end m g ne))
+    pub sorting_result : (m.code ≡ 7 → ⊥) → {s : ℕ} → s ≡ named_result b (name_here text m) → s ≡ sort_from b (lexemes_at text i)
+    sorting_result ne e = e ∙ sym (w.same ∙ (sort_bracket b text at r h z ∙ sort_result b text r.end m g ne))
 
-    pub sorting-let : m.code ≡ 7 → {next : ℕ} → Reaches text m.end next (after_formula (lexemes_at text m.end)) → Sorting b text i next
-    sorting-let e there = record {
+    pub sorting_let : m.code ≡ 7 → {next : ℕ} → Reaches text m.end next (after_formula (lexemes_at text m.end)) → Sorting b text i next
+    sorting_let e there = record {
       inside = there.inside;
-      same = w.same ∙ (sort_bracket b text at r h z ∙ (sort_let b text r.end m g e ∙ ap (sortFrom b) (sym there.there)));
+      same = w.same ∙ (sort_bracket b text at r h z ∙ (sort_let b text r.end m g e ∙ ap (sort_from b) (sym there.there)));
     }
 
     -- a let takes room
-    pub sorting-further : {next : ℕ} → Reaches text m.end next (after_formula (lexemes_at text m.end)) → at < next
-    sorting-further there = omega (arith, h.after, (h.found (λ e. omega arith)).some, g.after, g.order, there.after)
+    pub sorting_further : {next : ℕ} → Reaches text m.end next (after_formula (lexemes_at text m.end)) → at < next
+    sorting_further there = omega (arith, h.after, (h.found (λ e. omega arith)).some, g.after, g.order, there.after)
 
 -- ---- the sort that a word says
 

@@ -10,7 +10,7 @@ use Rattle.grammar.specs.Grammar.{Lexeme, opens, closes, word, stray, Formula, s
 use Rattle.grammar.specs.Names.{names, all_known}
 use Rattle.reading.specs.Called.{variable_called, symbol_called, known_in}
 use Rattle.reading.specs.Typing.{sort_number}
-use Rattle.reading.specs.Local.{alone_sort, alone_fine, accepts, headSort, fine}
+use Rattle.reading.specs.Local.{alone_sort, alone_fine, accepts, head_sort, fine}
 use Rattle.bracketing.specs.Brackets.{front_of, rest_of, is_opening, open_after, if_none, after_formula, parts_from, skip, parts}
 
 -- ---- words
@@ -74,25 +74,25 @@ result_of b w = result_sort b (signature_of b (symbol_called b (name_of w)))
 unfoldable mutual
   unfolding open_after if_none is_let word_sort result_of
 
-  pub sortFrom : Bundle → List Lexeme → ℕ
-  sortFrom b [] = truth_sort
-  sortFrom b (opens ∷ ls) = sortInside b ls
-  sortFrom b (closes ∷ ls) = truth_sort
-  sortFrom b (word w ∷ ls) = word_sort b w
-  sortFrom b (stray ∷ ls) = truth_sort
+  pub sort_from : Bundle → List Lexeme → ℕ
+  sort_from b [] = truth_sort
+  sort_from b (opens ∷ ls) = sort_inside b ls
+  sort_from b (closes ∷ ls) = truth_sort
+  sort_from b (word w ∷ ls) = word_sort b w
+  sort_from b (stray ∷ ls) = truth_sort
 
   -- of the bracket whose head is at the front
-  pub sortInside : Bundle → List Lexeme → ℕ
-  sortInside b [] = truth_sort
-  sortInside b (opens ∷ ls) = truth_sort
-  sortInside b (closes ∷ ls) = truth_sort
-  sortInside b (word w ∷ ls) = cond (is_let w) (sortPast b 0 ls) (result_of b w)
-  sortInside b (stray ∷ ls) = truth_sort
+  pub sort_inside : Bundle → List Lexeme → ℕ
+  sort_inside b [] = truth_sort
+  sort_inside b (opens ∷ ls) = truth_sort
+  sort_inside b (closes ∷ ls) = truth_sort
+  sort_inside b (word w ∷ ls) = cond (is_let w) (sort_past b 0 ls) (result_of b w)
+  sort_inside b (stray ∷ ls) = truth_sort
 
   -- of the formula after the list of bindings at the front, in which n brackets are open: a let's body
-  pub sortPast : Bundle → ℕ → List Lexeme → ℕ
-  sortPast b n [] = truth_sort
-  sortPast b n (l ∷ ls) = if_none (open_after l n) (sortFrom b ls) (sortPast b (open_after l n) ls)
+  pub sort_past : Bundle → ℕ → List Lexeme → ℕ
+  sort_past b n [] = truth_sort
+  sort_past b n (l ∷ ls) = if_none (open_after l n) (sort_from b ls) (sort_past b (open_after l n) ls)
 
 -- ---- the test of a node, by its head and what follows the head
 
@@ -129,8 +129,8 @@ every (p ∷ ps) = p && every ps
 
 -- a let's variable, 0 where its formula is not of its sort: '(', the variable, the formula
 unfoldable pub bound_from : Bundle → List Lexeme → ℕ
-unfolding variable_in sortFrom rest_of
-bound_from b ls = cond (eqb (sort_of_variable b (variable_in b ls)) (sortFrom b (rest_of (rest_of ls)))) (variable_in b ls) 0
+unfolding variable_in sort_from rest_of
+bound_from b ls = cond (eqb (sort_of_variable b (variable_in b ls)) (sort_from b (rest_of (rest_of ls)))) (variable_in b ls) 0
 
 -- no 0, and none twice
 unfoldable pub distinct : List ℕ → Bool
@@ -138,14 +138,14 @@ unfolding each different
 distinct xs = each (ltb 0) xs && different xs
 
 unfoldable pub head_fine : Bundle → Word → List Lexeme → Bool
-unfolding sortFrom joins takes as_declared every bound_from distinct symbol_called rest_of skip parts
+unfolding sort_from joins takes as_declared every bound_from distinct symbol_called rest_of skip parts
 head_fine b (constant v) ls = true
-head_fine b negation ls = eqb truth_sort (sortFrom b ls)
-head_fine b (connective c) ls = joins c (sortFrom b ls) (sortFrom b (after_formula ls))
-head_fine b (quantifier q) ls = every (parts_from (as_declared b) (rest_of ls)) && eqb (sortFrom b (after_formula ls)) truth_sort
+head_fine b negation ls = eqb truth_sort (sort_from b ls)
+head_fine b (connective c) ls = joins c (sort_from b ls) (sort_from b (after_formula ls))
+head_fine b (quantifier q) ls = every (parts_from (as_declared b) (rest_of ls)) && eqb (sort_from b (after_formula ls)) truth_sort
 head_fine b letting ls = distinct (parts_from (bound_from b) (rest_of ls))
 head_fine b (sort s) ls = true
-head_fine b (name w) ls = takes b (symbol_called b w) (parts_from (sortFrom b) ls)
+head_fine b (name w) ls = takes b (symbol_called b w) (parts_from (sort_from b) ls)
 
 -- of the bracket whose head is at the front; a bracket that starts a list has no head
 unfoldable pub inside_fine : Bundle → List Lexeme → Bool
@@ -180,7 +180,7 @@ fine_from b head (l ∷ ls) = node_fine b head (l ∷ ls) && fine_from b (is_ope
 
 -- what is read off the spelling is what Local says of the formula
 pub record ReadOff (b : Bundle) (φ : Formula) (rest : List Lexeme) : Type 0 where
-  pub sort : sortFrom b (spell φ rest) ≡ headSort b φ
+  pub sort : sort_from b (spell φ rest) ≡ head_sort b φ
   pub after : after_formula (spell φ rest) ≡ rest
   pub nodes : fine_from b false (spell φ rest) ≡ (fine b φ && fine_from b false rest)
 

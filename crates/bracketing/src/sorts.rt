@@ -6,7 +6,7 @@ ghost use Rattle.lexing.specs.Counted.{variable_among, symbol_among};
 ghost use Rattle.lexing.specs.Lexes.{lexemes_at};
 ghost use Rattle.bracketing.specs.Places.{Lies, name_here, named_sort, named_result};
 ghost use Rattle.bracketing.specs.Brackets.{front_of, rest_of};
-ghost use Rattle.bracketing.specs.Nodes.{name_in, sort_in, sortFrom};
+ghost use Rattle.bracketing.specs.Nodes.{name_in, sort_in, sort_from};
 
 use super::brackets::{after_formula, after_lexeme};
 use bundle::Bundle;
@@ -93,7 +93,7 @@ fn sort_here(file: &[u8], b: Bundle, text: &[u8], l: Lexed) -> usize
 // The sort of the formula at byte i: a let's is its body's.
 pub fn sort_at(file: &[u8], b: Bundle, text: &[u8], i: usize) -> usize
     requires { Whole file.now b × (i ≤ length text.now) }
-    ensures { result ≡ sortFrom (bundle_at file.now b) (lexemes_at text.now i) }
+    ensures { result ≡ sort_from (bundle_at file.now b) (lexemes_at text.now i) }
 {
     let mut at = i;
     loop {

@@ -1,7 +1,7 @@
 -- Numbers filed by their digests, and the walk down the chain of a digest.
 --     mix_small               digests are small
 --     filed_none, filed_on    nothing is filed at first; then one number more is
---     Sought, sought_start, sought_less, sought-hit, sought-miss     the walk: the lowest match so far, and the rest on the chain
+--     Sought, sought_start, sought_less, sought_hit, sought_miss     the walk: the lowest match so far, and the rest on the chain
 --     sought_lowest           at its end no match is lower
 use mathlib.Core.Path.{◌≡◌, refl, sym, ap, ◌∙◌, subst}
 use mathlib.Core.Bool.{Bool, true, false, false≢true}
@@ -128,11 +128,11 @@ module _ {digest head next : ℕ → ℕ} {n : ℕ} (filed : Filed digest head n
 
     -- q is the code's test of h, and m' what it has found then
     module _ {q : Bool} (test : q ≡ p h) {m' : ℕ} where
-      pub sought-hit : q ≡ true → m' ≡ h → Sought next n p h' m'
-      sought-hit t k = subst (Sought next n p h') (sym k) (hit (sym test ∙ t))
+      pub sought_hit : q ≡ true → m' ≡ h → Sought next n p h' m'
+      sought_hit t k = subst (Sought next n p h') (sym k) (hit (sym test ∙ t))
 
-      pub sought-miss : q ≡ false → m' ≡ m → Sought next n p h' m'
-      sought-miss t k = subst (Sought next n p h') (sym k) (miss (sym test ∙ t))
+      pub sought_miss : q ≡ false → m' ≡ m → Sought next n p h' m'
+      sought_miss t k = subst (Sought next n p h') (sym k) (miss (sym test ∙ t))
 
 pub sought_lowest : {next : ℕ → ℕ} {n : ℕ} {p : ℕ → Bool} {h m : ℕ} → Sought next n p h m → h ≡ 0
     → (j : ℕ) → 1 ≤ j → j ≤ n → p j ≡ true → (1 ≤ m) × (m ≤ j)

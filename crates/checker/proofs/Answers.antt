@@ -1,7 +1,7 @@
 -- The answer and the lent area, from what the code finds wrong with a file.
---     header-there                  where it finds nothing, the file has a header
+--     header_there                  where it finds nothing, the file has a header
 --     answer_refused, area_zeros    something is wrong: refused with it, and the cleared area is what is to be left
---     answer-accepted, area-free    nothing is: accepted with the claim, and so is the area that holds the free sets
+--     answer_accepted, area_free    nothing is: accepted with the claim, and so is the area that holds the free sets
 use Prim.Native.Nat.{ℕ, ◌≤◌}
 use mathlib.Core.Path.{◌≡◌, sym, ◌∙◌}
 use mathlib.Core.List.{List}
@@ -36,13 +36,13 @@ module _ (f : List ℕ) (m : ℕ) (r : Fault) (found : r ≡ fault_of f m) where
     none : (fault_of f m).number ≡ 0
     none = rw (← found) e
 
-    pub header-there : 36 ≤ length f
-    header-there = ((nothing_exactly f m).0 none).header.long
+    pub header_there : 36 ≤ length f
+    header_there = ((nothing_exactly f m).0 none).header.long
 
-    pub answer-accepted : (left right pairs : ℕ) → left ≡ (bundle_of f).left → right ≡ (bundle_of f).right
+    pub answer_accepted : (left right pairs : ℕ) → left ≡ (bundle_of f).left → right ≡ (bundle_of f).right
         → pairs ≡ last_pairs (bundle_of f) (length (bundle_of f).steps) → Accepted (record { left = left; right = right; pairs = pairs }) ≡ judge f m
-    answer-accepted left right pairs l q p = sym ((accepted_where f m _).1 (none, λ i. record { left = l i; right = q i; pairs = p i }))
+    answer_accepted left right pairs l q p = sym ((accepted_where f m _).1 (none, λ i. record { left = l i; right = q i; pairs = p i }))
 
-    pub area-free : (x : List ℕ) → x ≡ free_area (bundle_of f) set_words m → x ≡ area_after f m
+    pub area_free : (x : List ℕ) → x ≡ free_area (bundle_of f) set_words m → x ≡ area_after f m
     unfolding area_after
-    area-free x sets = rw none sets
+    area_free x sets = rw none sets

@@ -1,6 +1,6 @@
 -- Pairs of terms that meet, by what code reads of them.
 --     bound_meets_lem     at a variable that is bound on the left
---     free-meets, image-differs     at one that is free there: the right one is its image, or is not
+--     free_meets_lem, image_differs     at one that is free there: the right one is its image, or is not
 --     nil_sorts, nil_length     two lists, where the first has ended
 --     variable_pair, application_pair, binder_pair, let_pair, other_pair     a pair by the kind of the left one
 use mathlib.Core.Path.{◌≡◌, refl, sym, ap, ◌∙◌}
@@ -39,14 +39,14 @@ module _ (free : ℕ → ℕ → Bool) (image : ℕ → Image) (b : Bundle) (ps 
     out : has x (lefts ps) ≡ false
     out = has_stamp (lefts ps) x ∙ rw (← at_x, none)
 
-    pub free-meets : {i : Image} {good clear : Bool} → i ≡ image x → good ≡ image_is b i x r → good ≡ true
+    pub free_meets_lem : {i : Image} {good clear : Bool} → i ≡ image x → good ≡ image_is b i x r → good ≡ true
         → clear ≡ each (λ y. not (free r y)) (rights ps) → clear ≡ variable_meets free image b ps x r
     unfolding variable_meets free_meets
-    free-meets di dg is dc = rw (out, ← di, ← dg, is, dc)
+    free_meets_lem di dg is dc = rw (out, ← di, ← dg, is, dc)
 
-    pub image-differs : {i : Image} {good : Bool} → i ≡ image x → good ≡ image_is b i x r → good ≡ false → false ≡ variable_meets free image b ps x r
+    pub image_differs : {i : Image} {good : Bool} → i ≡ image x → good ≡ image_is b i x r → good ≡ false → false ≡ variable_meets free image b ps x r
     unfolding variable_meets free_meets
-    image-differs di dg is = rw (out, ← di, ← dg, is)
+    image_differs di dg is = rw (out, ← di, ← dg, is)
 
 -- ---- lists of variables, where one of them has ended
 
@@ -89,4 +89,4 @@ module _ (free : ℕ → ℕ → Bool) (image : ℕ → Image) (b : Bundle) (s :
 
   pub other_pair : (kind ≡ 1 → ⊥) → (kind ≡ 2 → ⊥) → is_binder kind ≡ false → (kind ≡ 5 → ⊥) → p ≡ false → p ≡ meets_by free image b s ps r
   unfolding meets_as
-  other_pair not1 not2 no-binder not5 d = of_kind (kind_other kind not2 no-binder not5 not1) d
+  other_pair not1 not2 no_binder not5 d = of_kind (kind_other kind not2 no_binder not5 not1) d

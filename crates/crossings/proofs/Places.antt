@@ -1,8 +1,8 @@
 -- What the arrays hold of the binders crossed.
 --     places_none        zeros, where none is crossed
 --     left_at, right_at, left_past, right_past     a place that was read, and that of a number that is no variable's
---     places-crossed     a binder more
---     places-uncrossed   one less: the places that its variables had before are put back
+--     places_crossed     a binder more
+--     places_uncrossed   one less: the places that its variables had before are put back
 use mathlib.Core.Path.{◌≡◌, refl, sym, ap, ◌∙◌}
 use mathlib.Core.Bool.{Bool, true, false, cond, not, ◌&&◌, ◌||◌}
 use mathlib.Core.List.{List, [], ◌∷◌}
@@ -97,10 +97,10 @@ module _ (variables n : ℕ) (w m : List ℕ) (x s y t : ℕ) (long : variables 
     fits = omega arith
 
     -- one more: both variables have the next place
-    pub places-crossed : (ps : Crossed) → s ≡ length ps + 1 → t ≡ length ps + 1 → {m' : List ℕ} → m' ≡ inserted m 0 n y → Places variables n w m ps
+    pub places_crossed : (ps : Crossed) → s ≡ length ps + 1 → t ≡ length ps + 1 → {m' : List ℕ} → m' ≡ inserted m 0 n y → Places variables n w m ps
         → Places variables n (placed variables w x s y t) m' ((x, y) ∷ ps)
     unfolding lefts rights stamp has
-    places-crossed ps ds dt e known = rw e (record {
+    places_crossed ps ds dt e known = rw e (record {
       long = rw placed_length long;
       words = rw changed_length words;
       left = λ z one few. placed_left z one few ∙ rw (known.left z one few, ds, add-one, ← lefts_length ps) refl;
@@ -114,16 +114,16 @@ module _ (variables n : ℕ) (w m : List ℕ) (x s y t : ℕ) (long : variables 
     abbrev unbound : ℕ → List ℕ
     unbound right = cond (eqb right 0) (removed m 0 n y) m
 
-    unbound-length : (p : Bool) → n ≤ length (cond p (removed m 0 n y) m)
-    unbound-length true = rw changed_length words
-    unbound-length false = words
+    unbound_length : (p : Bool) → n ≤ length (cond p (removed m 0 n y) m)
+    unbound_length true = rw changed_length words
+    unbound_length false = words
 
-    pub places-uncrossed : (ps : Crossed) → s ≡ stamp (lefts ps) x → t ≡ stamp (rights ps) y → {m' : List ℕ} → m' ≡ unbound t
+    pub places_uncrossed : (ps : Crossed) → s ≡ stamp (lefts ps) x → t ≡ stamp (rights ps) y → {m' : List ℕ} → m' ≡ unbound t
         → Places variables n w m ((x, y) ∷ ps) → Places variables n (placed variables w x s y t) m' ps
     unfolding lefts rights stamp has
-    places-uncrossed ps ds dt e known = rw e (record {
+    places_uncrossed ps ds dt e known = rw e (record {
       long = rw placed_length long;
-      words = unbound-length (eqb t 0);
+      words = unbound_length (eqb t 0);
       left = λ z one few. placed_left z one few ∙ rw (known.left z one few) (before (lefts ps) x s ds z (ℕ_discrete z x));
       right = λ z one few. placed_right z one few ∙ rw (known.right z one few) (before (rights ps) y t dt z (ℕ_discrete z y));
       bound = λ z. still z (eqb t 0) refl;

@@ -1,5 +1,5 @@
 -- The first fault of links, symbols and variables, before what comes after them.
---     sections-here, sections-on     there is one; there is none, and the rest says
+--     sections_here, sections_on     there is one; there is none, and the rest says
 use mathlib.Core.Path.{◌≡◌, refl, sym, ap, ◌∙◌}
 use Prim.Native.Nat.{ℕ, zero, suc}
 use Rattle.bundle.specs.Bundle.{Bundle}
@@ -30,8 +30,8 @@ module _ (b : Bundle) (rest : Fault) where
     row_is : or_next r rest ≡ whole
     row_is = ap (λ (x : Fault). or_next x rest) e ∙ in_a_row
 
-    pub sections-here : (r.number ≡ 0 → ⊥) → r ≡ whole
-    sections-here ne = sym (or_else_here r.number r.«record» rest ne) ∙ row_is
+    pub sections_here : (r.number ≡ 0 → ⊥) → r ≡ whole
+    sections_here ne = sym (or_else_here r.number r.«record» rest ne) ∙ row_is
 
-    pub sections-on : r.number ≡ 0 → rest ≡ whole
-    sections-on z = sym (or_else_on r.number r.«record» rest z) ∙ row_is
+    pub sections_on : r.number ≡ 0 → rest ≡ whole
+    sections_on z = sym (or_else_on r.number r.«record» rest z) ∙ row_is

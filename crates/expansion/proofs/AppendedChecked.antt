@@ -3,7 +3,7 @@
 --     NewFormed, more_formed               a longer bundle whose new records are well formed is well formed
 --     steps_kept                           later appends leave an instance of a rule one
 --     more_checked                         both together
---     list-in-order, list-start            links appended are in order; the number of a list just appended starts a list
+--     list_in_order, list_start_lem            links appended are in order; the number of a list just appended starts a list
 --     list_checked, variable_checked, term_checked, context_checked, step_checked     one record, or one list, appended
 --     claiming_checked                     the same records, and another claim
 use mathlib.Core.Path.{◌≡◌, refl, sym, ap, ◌∙◌, subst}
@@ -23,7 +23,7 @@ use Rattle.logic.specs.Longer.{Longer, with_variables, with_terms, with_contexts
 use Rattle.logic.proofs.Firsts.{none_bad}
 use Rattle.logic.proofs.Instances.{step_holds, steps_exactly}
 use Rattle.logic.proofs.Longer.{longer_refl, sizes, prefix_at, consecutive_length, list_longer, variables_longer, terms_longer, contexts_longer}
-use Rattle.logic.proofs.Longer.{steps_longer, variable-added, term-added}
+use Rattle.logic.proofs.Longer.{steps_longer, variable_added, term_added}
 use Rattle.logic.proofs.FormedKept.{link_formed_kept, symbol_formed_kept, variable_formed_kept, term_formed_kept, fields_kept, context_formed_kept}
 use Rattle.logic.proofs.Later.{passes_kept}
 use Rattle.expansion.specs.Visit.{claiming}
@@ -134,12 +134,12 @@ module _ (b : Bundle) (vs : List ℕ) where
 
   module _ {B : Bundle} (more : Longer (add_list b vs) B) where
     -- the number of the list just appended starts a list of every longer bundle
-    pub list-start : list_start b vs ≤ length B.links
-    list-start = omega (arith, start_within (length b.links) vs, list_length, (sizes more).links)
+    pub list_start_lem : list_start b vs ≤ length B.links
+    list_start_lem = omega (arith, start_within (length b.links) vs, list_length, (sizes more).links)
 
     -- the links appended are in order
-    pub list-in-order : Past (LinkFormed B) (length b.links) (length (add_list b vs).links)
-    list-in-order n lo hi = go (n - suc m) (let is : n ≡ suc (m + (n - suc m)) = omega arith in is)
+    pub list_in_order : Past (LinkFormed B) (length b.links) (length (add_list b vs).links)
+    list_in_order n lo hi = go (n - suc m) (let is : n ≡ suc (m + (n - suc m)) = omega arith in is)
       where
         m : ℕ
         m = length b.links
@@ -164,7 +164,7 @@ list_checked b vs old =
     let B : Bundle = add_list b vs in
     more_checked (list_longer b vs) old
     record {
-      links = list-in-order b vs (longer_refl B);
+      links = list_in_order b vs (longer_refl B);
       symbols = past_none (SymbolFormed B) (length b.symbols);
       variables = past_none (VariableFormed B) (length b.variables);
       terms = past_none (TermFormed B) (length b.terms);
@@ -182,7 +182,7 @@ variable_checked b s old h =
     record {
       links = past_none (LinkFormed B) (length b.links);
       symbols = past_none (SymbolFormed B) (length b.symbols);
-      variables = past_one (VariableFormed B) b.variables s (subst (IsSort b) (sym (variable-added b s (longer_refl B))) h);
+      variables = past_one (VariableFormed B) b.variables s (subst (IsSort b) (sym (variable_added b s (longer_refl B))) h);
       terms = past_none (TermFormed B) (length b.terms);
       no_equal = past_none (NoEqual B) (length b.terms);
       contexts = past_none (ContextFormed B) (length b.contexts);
@@ -201,7 +201,7 @@ term_checked b r old formed other =
       terms = past_one (TermFormed B) b.terms r formed;
       no_equal = past_one (NoEqual B) b.terms r (λ i n e. other i (n.0, omega (arith, n.1))
           (sym (fields_kept (terms_longer b (r ∷ [])) old.formed.tables i (omega (arith, n.1))) ∙ e
-          ∙ ap (fields_of B) (term-added b r (longer_refl B))));
+          ∙ ap (fields_of B) (term_added b r (longer_refl B))));
       contexts = past_none (ContextFormed B) (length b.contexts);
     }
     (λ well. past_none (StepHolds B) (length b.steps))

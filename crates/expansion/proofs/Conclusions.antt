@@ -22,7 +22,7 @@ use Rattle.logic.proofs.Longer.{longer_refl, sizes, list_added, steps_longer, st
 use Rattle.logic.proofs.Kept.{step_kept, sort_tree_kept}
 use Rattle.expansion.specs.Visit.{Visit, Visits, concluded}
 use Rattle.expansion.proofs.Grown.{concluded_longer}
-use Rattle.expansion.proofs.AppendedChecked.{Checked, list_checked, list-start, step_checked}
+use Rattle.expansion.proofs.AppendedChecked.{Checked, list_checked, list_start_lem, step_checked}
 use Rattle.expansion.proofs.Placement.{all_map}
 use Rattle.expansion.proofs.Mentioned.{scope_kept}
 use Rattle.expansion.proofs.Substitution.{Result, result_kept}
@@ -140,7 +140,7 @@ conclude b k c t r ps old hc nt res sorted scope allowed before rule form = reco
       context = subst (λ (x : Step). x.context ≤ length B.contexts) (sym here) hc;
       left = subst (λ (x : Step). Number (length B.terms) x.left) (sym here) nt;
       right = subst (λ (x : Step). Number (length B.terms) x.right) (sym here) res.is_term;
-      start = subst (λ (x : Step). x.premises ≤ length B.links) (sym here) (list-start b ps listed);
+      start = subst (λ (x : Step). x.premises ≤ length B.links) (sym here) (list_start_lem b ps listed);
       earlier = subst (λ (x : Step). All (Lower (suc (length b.steps))) (items B x.premises)) (sym here)
           (rw li (all_map (λ p n. (n.0, omega (arith, n.1))) ps before));
       scope = subst (SidesInScope B) (sym here) (

@@ -24,10 +24,10 @@ use Rattle.expansion.specs.File.{counts_in, file_of}
 use Rattle.expansion.specs.JobOrder.{all_job_checks}
 use Rattle.expansion.specs.Demands.{Bytes, BytesExactly, JobFormed, RefusedJobExactly, WrittenExactly, AreasLeft, WrittenWell, ExpansionRight}
 use Rattle.expansion.proofs.SmallNumbers.{SmallBundle}
-use Rattle.expansion.proofs.Files.{file_length, file-counts, file-bundle, file-whole}
+use Rattle.expansion.proofs.Files.{file_length, file_counts, file_bundle, file_whole}
 use Rattle.expansion.proofs.SmallWords.{file_small, expanded_small}
 use Rattle.expansion.proofs.JobOrder.{job_checks_find}
-use Rattle.expansion.proofs.JobChecks.{job_exactly, written_where, refused_job_where, job-answer, job-file, zeros_left}
+use Rattle.expansion.proofs.JobChecks.{job_exactly, written_where, refused_job_where, job_answer, job_file, zeros_left}
 use Rattle.expansion.proofs.Derived.{Derived, derived}
 
 pub bytes_exactly : BytesExactly
@@ -60,7 +60,7 @@ areas_left = zeros_left
 module _ (f : List ℕ) (B : Bundle) (fit : Within (counts_in B)) (small : SmallBundle B) (theorem : Derived (bundle_of f) B)
     (one : (bundle_of f).version ≡ 1) where
   same : B ≡ bundle_of (file_of B)
-  same = sym (file-bundle B fit small)
+  same = sym (file_bundle B fit small)
 
   here : Derived (bundle_of f) (bundle_of (file_of B))
   here = subst (Derived (bundle_of f)) same theorem
@@ -69,7 +69,7 @@ module _ (f : List ℕ) (B : Bundle) (fit : Within (counts_in B)) (small : Small
   unfolding header_words
   acceptable m long = record {
     header =
-        record { long = omega (arith, file_length B); version = rw (file-counts B fit small) (theorem.longer.version ∙ one); whole = file-whole B fit small };
+        record { long = omega (arith, file_length B); version = rw (file_counts B fit small) (theorem.longer.version ∙ one); whole = file_whole B fit small };
     area = long;
     formed = here.formed;
     steps = here.steps;
@@ -102,8 +102,8 @@ expansion_right f out words sets bytes formed closed fits long =
     let b : Bundle = bundle_of f in
     let passes = (job_exactly f out words sets).1 (formed, closed, fits, long) in (
       length (file_of (expanded b)),
-      job-answer f out words sets passes,
-      rw (job-file f out words sets passes)
+      job_answer f out words sets passes,
+      rw (job_file f out words sets passes)
           (written_well f (expanded b) fits (expanded_small b (file_small f bytes) fits)
           (derived b formed.tables formed.contexts formed.steps formed.left closed) (job_version formed)),
     )

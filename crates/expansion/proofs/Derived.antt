@@ -10,7 +10,7 @@ use Rattle.bundle.specs.Bundle.{Bundle, step_of}
 use Rattle.logic.specs.Lists.{Number}
 use Rattle.logic.specs.Terms.{tree}
 use Rattle.logic.specs.Free.{Closed}
-use Rattle.logic.specs.Lets.{holdsLet}
+use Rattle.logic.specs.Lets.{holds_let}
 use Rattle.logic.specs.WellFormed.{TablesFormed, WellFormed}
 use Rattle.logic.specs.Instance.{StepHolds}
 use Rattle.logic.specs.Longer.{Longer}
@@ -37,7 +37,7 @@ pub record Derived (b B : Bundle) : Type 0 where
   pub left : B.left ≡ b.left
   -- its right is a term that holds no let, and both sides are closed.
   pub right : Number (length B.terms) B.right
-  pub plain : holdsLet (tree B B.right) ≡ false
+  pub plain : holds_let (tree B B.right) ≡ false
   pub closed : Closed (tree B B.left) × Closed (tree B B.right)
 
 -- a job: its tables are well formed, it has no contexts and no steps, and its left is a closed term

@@ -2,7 +2,7 @@
 --     placed_longer, variable_longer, application_longer, binder_longer, let_longer    placed terms
 --     concluded_longer, replacing_longer, fixing_longer, fresh_longer, open_longer     openers and closers
 --     listed_longer, fixed_longer, renaming_longer                                     the contexts of a quantifier
---     visit-longer, visitAll-longer                                                    the visits
+--     visit_longer, visit_all_longer                                                    the visits
 --     claiming, claiming_longer, expanded_longer                                       the bundle that is written
 use Prim.Native.Nat.{ℕ, zero, suc}
 use mathlib.Core.List.{List, [], ◌∷◌, ◌++◌}
@@ -15,7 +15,7 @@ use Rattle.expansion.specs.Nodes.{Node, Nodes, leaf, node, scope, block, nil, co
 use Rattle.logic.specs.Lookup.{seek, same_variable, same_application, same_binder, same_let}
 use Rattle.expansion.specs.Placed.{placed, place_variable, place_application, place_binder, place_let}
 use Rattle.expansion.specs.Visit.{Visit, Visits, concluded, OpenedContext, replacing, fixing}
-use Rattle.expansion.specs.Visit.{image_term, new_variable, fresh, renaming, OpenedBinder, open_binder, visit, visitAll, visited, expanded, claiming}
+use Rattle.expansion.specs.Visit.{image_term, new_variable, fresh, renaming, OpenedBinder, open_binder, visit, visit_all, visited, expanded, claiming}
 
 -- b' is b with lists appended
 pub placed_longer : (b b' : Bundle) (r : TermRecord) (n : ℕ) → Longer b b' → Longer b (placed b b' r n).bundle
@@ -71,29 +71,29 @@ open_longer b x c = longer_trans (fresh_longer b x) (renaming_longer (fresh b x)
 mutual
   unfolding visit
 
-  pub visit-longer : (τ : Node) (c : ℕ) (b : Bundle) → Longer b (visit τ c b).bundle
-  visit-longer (leaf t x) c b = concluded_longer b 1 c t (image_term (image b c x) t) []
-  visit-longer (node t f ns) c b =
-      let v : Visits = visitAll ns c b in
-      longer_trans (visitAll-longer ns c b)
+  pub visit_longer : (τ : Node) (c : ℕ) (b : Bundle) → Longer b (visit τ c b).bundle
+  visit_longer (leaf t x) c b = concluded_longer b 1 c t (image_term (image b c x) t) []
+  visit_longer (node t f ns) c b =
+      let v : Visits = visit_all ns c b in
+      longer_trans (visit_all_longer ns c b)
       (longer_trans (application_longer v.bundle f v.results) (concluded_longer _ 2 c t _ v.steps))
-  visit-longer (scope t q x u) c b =
+  visit_longer (scope t q x u) c b =
       let o : OpenedBinder = open_binder b x c in
       let v : Visit = visit u o.context o.bundle in
       longer_trans (open_longer b x c)
-      (longer_trans (visit-longer u o.context o.bundle)
+      (longer_trans (visit_longer u o.context o.bundle)
       (longer_trans (binder_longer v.bundle q o.variable v.result) (concluded_longer _ 4 c t _ (v.step ∷ []))))
-  visit-longer (block t s vs ns u) c b =
-      let v : Visits = visitAll ns c b in
+  visit_longer (block t s vs ns u) c b =
+      let v : Visits = visit_all ns c b in
       let o : OpenedContext = replacing v.bundle s c v.results in
       let w : Visit = visit u o.context o.bundle in
-      longer_trans (visitAll-longer ns c b)
+      longer_trans (visit_all_longer ns c b)
       (longer_trans (replacing_longer v.bundle s c v.results)
-      (longer_trans (visit-longer u o.context o.bundle) (concluded_longer w.bundle 5 c t w.result (v.steps ++ (w.step ∷ [])))))
+      (longer_trans (visit_longer u o.context o.bundle) (concluded_longer w.bundle 5 c t w.result (v.steps ++ (w.step ∷ [])))))
 
-  pub visitAll-longer : (ns : Nodes) (c : ℕ) (b : Bundle) → Longer b (visitAll ns c b).bundle
-  visitAll-longer nil c b = longer_refl b
-  visitAll-longer (cons τ ns) c b = longer_trans (visit-longer τ c b) (visitAll-longer ns _ (visit τ c b).bundle)
+  pub visit_all_longer : (ns : Nodes) (c : ℕ) (b : Bundle) → Longer b (visit_all ns c b).bundle
+  visit_all_longer nil c b = longer_refl b
+  visit_all_longer (cons τ ns) c b = longer_trans (visit_longer τ c b) (visit_all_longer ns _ (visit τ c b).bundle)
 
 -- ---- the bundle that is written
 
@@ -115,4 +115,4 @@ pub expanded_longer : (b : Bundle) → Longer b (expanded b)
 unfolding expanded visited
 expanded_longer b =
     let v : Visit = visit (node_at b b.left) 0 b in
-    longer_trans (visit-longer (node_at b b.left) 0 b) (claiming_longer v.bundle b.left v.result)
+    longer_trans (visit_longer (node_at b b.left) 0 b) (claiming_longer v.bundle b.left v.result)

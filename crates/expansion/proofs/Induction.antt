@@ -4,8 +4,8 @@
 --     left_scope, open_scope               so a term that is covered is in scope, and what may be free in a result is mentioned
 --     refl_instance, leaf_visited          a variable
 --     cong_instance, node_visited          an application
---     binder_opens, binder_covers, bind-instance, binder-visited     a quantifier: its new variable and contexts, its step
---     block_opens, block_covers, let-instance, block-visited         a let
+--     binder_opens, binder_covers, bind_instance, binder_visited     a quantifier: its new variable and contexts, its step
+--     block_opens, block_covers, let_instance, block_visited         a let
 --     visit_visited, visit_all_visited      THE LAW
 use mathlib.Core.Path.{◌≡◌, refl, sym, ap, ◌∙◌, subst}
 use Prim.Native.Nat.{ℕ, suc, ◌≤◌, ◌<◌}
@@ -20,9 +20,9 @@ use Rattle.bundle.specs.Bundle.{Bundle, sort_of_variable}
 use Rattle.logic.specs.declared.Image.{Image}
 use Rattle.logic.specs.declared.Image.TheVariants.{Own, Gives}
 use Rattle.logic.specs.Lists.{Among, All, Number}
-use Rattle.logic.specs.Terms.{Binder, Term, Terms, var, app, bind, letIn, none, more, gather, tree}
+use Rattle.logic.specs.Terms.{Binder, Term, Terms, var, app, bind, let_in, none, more, gather, tree}
 use Rattle.logic.specs.Free.{Free, Frees}
-use Rattle.logic.specs.Lets.{holdsLet, holdLets}
+use Rattle.logic.specs.Lets.{holds_let, hold_lets}
 use Rattle.logic.specs.Sorts.{binder_sort, sort}
 use Rattle.logic.specs.Contexts.{lookup, first, image, tree_of_image, image_tree, Mentioned, by_fixing, InScope}
 use Rattle.logic.specs.Rules.{REFL, rule_of}
@@ -34,23 +34,23 @@ use Rattle.logic.proofs.FreeSettled.{free_number}
 use Rattle.logic.proofs.ReflStep.{refl_forms}
 use Rattle.logic.proofs.Found.{given_mentioned}
 use Rattle.logic.proofs.Pairs.{refl_rule}
-use Rattle.logic.proofs.Longer.{longer_refl, longer_trans, sizes, variable-added, list_longer, list_added}
+use Rattle.logic.proofs.Longer.{longer_refl, longer_trans, sizes, variable_added, list_longer, list_added}
 use Rattle.logic.proofs.Kept.{variable_kept, tree_kept, image_kept}
 use Rattle.logic.proofs.FormedKept.{image_tree_kept}
 use Rattle.expansion.specs.Nodes.{Node, Nodes, leaf, node, scope, block, nil, cons, number}
 use Rattle.expansion.specs.Placed.{PlacedTerm, place_application, place_binder}
 use Rattle.expansion.specs.Visit.{Visit, Visits, concluded, OpenedContext, replacing, fixing, image_term}
-use Rattle.expansion.specs.Visit.{close_application, new_variable, fresh, renaming, open_binder, close_binder, visit, visitAll}
+use Rattle.expansion.specs.Visit.{close_application, new_variable, fresh, renaming, open_binder, close_binder, visit, visit_all}
 use Rattle.expansion.proofs.Grown.{variable_longer, application_longer, binder_longer, fresh_longer, fixing_longer, replacing_longer, open_longer}
-use Rattle.expansion.proofs.Grown.{visit-longer, visitAll-longer}
-use Rattle.expansion.proofs.AppendedChecked.{Checked, list_checked, list-start, variable_checked}
+use Rattle.expansion.proofs.Grown.{visit_longer, visit_all_longer}
+use Rattle.expansion.proofs.AppendedChecked.{Checked, list_checked, list_start_lem, variable_checked}
 use Rattle.expansion.proofs.Placement.{all_map, all_snoc, gather_kept, PlacedAs, variable_placed, application_placed, binder_placed}
 use Rattle.expansion.proofs.Mentioned.{mentioned_kept, scope_kept, FixedIn}
 use Rattle.expansion.proofs.Substitution.{Result, Substitutes, replaced_old, substitutes_kept, new_not_free, new_not_in_image, not_listed, not_new}
 use Rattle.expansion.proofs.Substitution.{lookup_covers, fixing_says, replacing_says, Opens, fixing_opens, replacing_opens}
 use Rattle.expansion.proofs.Conclusions.{done_says, done_kept, done_none, done_more, done_all_kept, done_results, done_sorts, done_steps, say_all}
 use Rattle.expansion.proofs.Conclusions.{Visited, VisitedAll, conclude}
-use Rattle.expansion.proofs.Standing.{numbers_of, StandsAs, Stands, Stand, stands_term, stand_terms, stands-kept, stand-kept, application_sorts}
+use Rattle.expansion.proofs.Standing.{numbers_of, StandsAs, Stands, Stand, stands_term, stand_terms, stands_kept, stand_kept, application_sorts}
 use Rattle.expansion.proofs.Standing.{binder_sorts, let_lists}
 
 -- what may be free in a result: the variables of the binders that the visit has opened and not closed, all of them new
@@ -117,10 +117,10 @@ not_refl k other e = absurd (other (refl_rule k e))
 -- ---- an application: CONG
 
 -- lists of results hold no let, and only variables that N allows are free in them
-gather_plain : (N : ℕ → Type 0) (b : Bundle) (rs : List ℕ) → All (Result N b) rs → holdLets (gather (tree b) rs) ≡ false
-unfolding gather holdsLet
+gather_plain : (N : ℕ → Type 0) (b : Bundle) (rs : List ℕ) → All (Result N b) rs → hold_lets (gather (tree b) rs) ≡ false
+unfolding gather holds_let
 gather_plain N b [] h = refl
-gather_plain N b (r ∷ rs) h = or_neither (holdsLet (tree b r)) (holdLets (gather (tree b) rs)) h.0.plain (gather_plain N b rs h.1)
+gather_plain N b (r ∷ rs) h = or_neither (holds_let (tree b r)) (hold_lets (gather (tree b) rs)) h.0.plain (gather_plain N b rs h.1)
 
 gather_new : (N : ℕ → Type 0) (b : Bundle) (rs : List ℕ) → All (Result N b) rs → (x : ℕ) → Frees x (gather (tree b) rs) → N x
 unfolding gather
@@ -141,7 +141,7 @@ module _ {V₀ : ℕ} {N : ℕ → Type 0} (b : Bundle) (c t f : ℕ) (ns : Node
   to_applied = application_longer v.bundle f v.results
 
   application_there : (B : Bundle) → Longer b B → StandsAs B t (app f (gather (tree B) (numbers_of ns)))
-  application_there B later = (stands-kept V₀ later old.formed.tables (node t f ns) stands).0
+  application_there B later = (stands_kept V₀ later old.formed.tables (node t f ns) stands).0
 
   results : All (Result N v.bundle) v.results
   results = done_results ih.done
@@ -164,14 +164,14 @@ module _ {V₀ : ℕ} {N : ℕ → Type 0} (b : Bundle) (c t f : ℕ) (ns : Node
       (say_all (done_all_kept (longer_trans to_applied later) ih.checked.formed.tables ih.done))
 
   node_visited : Visited N c t (close_application c t f v)
-  unfolding sort holdsLet
+  unfolding sort holds_let
   node_visited =
       let since : Longer b A = longer_trans longer to_applied in
       let here = application_there A since in
       conclude A 2 c t applied.term v.steps applied_as.checked (omega (arith, s.here, (sizes since).contexts)) here.0
       record {
         is_term = applied_as.is_term;
-        plain = ap holdsLet applied_as.stands ∙ gather_plain N v.bundle v.results results;
+        plain = ap holds_let applied_as.stands ∙ gather_plain N v.bundle v.results results;
         new = rw applied_as.stands (gather_new N v.bundle v.results results);
       }
       (ap (sort A) applied_as.stands ∙ sym (ap (sort A) here.1))
@@ -252,10 +252,10 @@ module _ {V₀ : ℕ} {N : ℕ → Type 0} (b : Bundle) (c x : ℕ) (old : Check
   y_tree later = tree_kept later term_placed.checked.formed.tables (fresh b x).term term_placed.is_term.1 ∙ term_placed.stands
 
   y_result : Result (And N y) with_list (fresh b x).term
-  unfolding holdsLet
+  unfolding holds_let
   y_result = record {
     is_term = (term_placed.is_term.0, omega (arith, term_placed.is_term.1, (sizes from_term).terms));
-    plain = ap holdsLet (y_tree from_term);
+    plain = ap holds_let (y_tree from_term);
     new = rw (y_tree from_term) (λ z e. inr e);
   }
 
@@ -267,14 +267,14 @@ module _ {V₀ : ℕ} {N : ℕ → Type 0} (b : Bundle) (c x : ℕ) (old : Check
     sorts =
         ap (λ (n : ℕ). n ∷ [])
         (variable_kept (longer_trans (fresh_longer b x) from_term) x (omega (arith, nx.1, s.job))
-        ∙ sym (variable-added b (sort_of_variable b x) (longer_trans to_term from_term))
+        ∙ sym (variable_added b (sort_of_variable b x) (longer_trans to_term from_term))
         ∙ sym (ap (sort with_list) (y_tree from_term)));
   }
 
   binder_opens : Opens V₀ (And N y) (renaming with_term x y (fresh b x).term c) (λ z. first (lookup (x ∷ []) ((fresh b x).term ∷ []) z) (image with_list fixed z))
   binder_opens =
       replacing_opens with_list fixed list_ok list_substitutes (list_start with_fixed (x ∷ [])) (x ∷ []) ((fresh b x).term ∷ [])
-      (list-start with_fixed (x ∷ []) (longer_refl with_list)) (list_added with_fixed (x ∷ []) (longer_refl with_list)) (nx, tt) y_lists (y_result, tt)
+      (list_start_lem with_fixed (x ∷ []) (longer_refl with_list)) (list_added with_fixed (x ∷ []) (longer_refl with_list)) (nx, tt) y_lists (y_result, tt)
       (λ z n. not_listed with_list z (x ∷ []) ((fresh b x).term ∷ []) (not_open binder_open (x ∷ []) (nx, tt) z n))
 
   opened : Longer with_list (open_binder b x c).bundle
@@ -314,7 +314,7 @@ module _ {V₀ : ℕ} {N : ℕ → Type 0} (b : Bundle) (c x : ℕ) (old : Check
     since = longer_trans (open_longer b x c) (longer_trans longer placed)
 
     there : (B : Bundle) → Longer b B → StandsAs B t (bind q x (tree B (number u)))
-    there B later = (stands-kept V₀ later old.formed.tables (scope t q x u) stands).0
+    there B later = (stands_kept V₀ later old.formed.tables (scope t q x u) stands).0
 
     ok : PlacedAs (bind q y (tree v.bundle v.result)) result
     ok =
@@ -324,9 +324,9 @@ module _ {V₀ : ℕ} {N : ℕ → Type 0} (b : Bundle) (c x : ℕ) (old : Check
         (ih.done.sorted
         ∙ binder_sorts v.bundle ih.checked.formed.tables t q x (number u) (there v.bundle (longer_trans (open_longer b x c) longer)))
 
-    bind-instance : (B : Bundle) → Longer R B → WellFormed B → Instance B (rule_of 4) c (tree B t) (tree B result.term) (v.step ∷ [])
+    bind_instance : (B : Bundle) → Longer R B → WellFormed B → Instance B (rule_of 4) c (tree B t) (tree B result.term) (v.step ∷ [])
     unfolding rule_of gather
-    bind-instance B later well =
+    bind_instance B later well =
         by_bind refl q x y (tree B (number u)) (tree B v.result) v.step (open_binder b x c).context fixed
         (there B (longer_trans since later)).1
         (tree_kept later ok.checked.formed.tables result.term ok.is_term.1 ∙ ok.stands
@@ -348,26 +348,26 @@ module _ {V₀ : ℕ} {N : ℕ → Type 0} (b : Bundle) (c x : ℕ) (old : Check
             subst (λ (τ : Term). Replaces B (open_binder b x c).context (x ∷ []) (more τ none) fixed)
             (y_tree (longer_trans from_term (longer_trans opened all)))
             (replacing_says with_list (list_start with_fixed (x ∷ [])) fixed (x ∷ []) ((fresh b x).term ∷ []) list_ok.formed.tables
-            (list-start with_fixed (x ∷ []) (longer_refl with_list)) (list_added with_fixed (x ∷ []) (longer_refl with_list)) all)
+            (list_start_lem with_fixed (x ∷ []) (longer_refl with_list)) (list_added with_fixed (x ∷ []) (longer_refl with_list)) all)
 
-    binder-visited : Visited N c t (close_binder c t q y v)
-    unfolding sort holdsLet
-    binder-visited =
+    binder_visited : Visited N c t (close_binder c t q y v)
+    unfolding sort holds_let
+    binder_visited =
         conclude R 4 c t result.term (v.step ∷ []) ok.checked (omega (arith, s.here, (sizes since).contexts)) (there R since).0
         record {
           is_term = ok.is_term;
-          plain = ap holdsLet ok.stands ∙ ih.done.result.plain;
+          plain = ap holds_let ok.stands ∙ ih.done.result.plain;
           new = rw ok.stands (λ z f. outer z f.0 (ih.done.result.new z f.1));
         }
-        (ap (sort R) ok.stands ∙ ap (binder_sort q) same-sort ∙ sym (ap (sort R) (there R since).1))
+        (ap (sort R) ok.stands ∙ ap (binder_sort q) same_sort ∙ sym (ap (sort R) (there R since).1))
         (left_scope old s since t stands.0.0.1 covers) (open_scope old s since)
         ((ih.done.step.0, omega (arith, ih.done.step.1, (sizes placed).steps)), tt)
-        bind-instance (λ B later well. not_refl 4 (λ e. omega arith))
+        bind_instance (λ B later well. not_refl 4 (λ e. omega arith))
       where
         -- the new variable has the sort of the old one
-        same-sort : sort_of_variable R y ≡ sort_of_variable R x
-        same-sort =
-            variable-added b (sort_of_variable b x) (longer_trans to_term (longer_trans from_term (longer_trans opened (longer_trans longer placed))))
+        same_sort : sort_of_variable R y ≡ sort_of_variable R x
+        same_sort =
+            variable_added b (sort_of_variable b x) (longer_trans to_term (longer_trans from_term (longer_trans opened (longer_trans longer placed))))
             ∙ sym (variable_kept since x (omega (arith, nx.1, s.job)))
 
         outer : (z : ℕ) → (z ≡ y → ⊥) → And N y z → N z
@@ -383,7 +383,7 @@ module _ {V₀ : ℕ} {N : ℕ → Type 0} (b : Bundle) (c t l : ℕ) (vs : List
   bound = replacing v.bundle l c v.results
 
   let_there : (B : Bundle) → Longer b B → Stands V₀ B (block t l vs ns u)
-  let_there B later = stands-kept V₀ later old.formed.tables (block t l vs ns u) stands
+  let_there B later = stands_kept V₀ later old.formed.tables (block t l vs ns u) stands
 
   bound_lists : ListsFormed v.bundle vs v.results
   bound_lists =
@@ -398,7 +398,7 @@ module _ {V₀ : ℕ} {N : ℕ → Type 0} (b : Bundle) (c t l : ℕ) (vs : List
       (λ x n. not_listed v.bundle x vs v.results (not_open new vs binds.variables x n))
 
   -- the body's free variables are the let's, and those of its list
-  block_covers : (τs : Terms) (τ : Term) → Covers b c (letIn vs τs τ) → Covers bound.bundle bound.context τ
+  block_covers : (τs : Terms) (τ : Term) → Covers b c (let_in vs τs τ) → Covers bound.bundle bound.context τ
   block_covers τs τ covers x f =
       let (r, e) = lookup_covers v.bundle vs v.results x (image v.bundle c x) bound_lists.sorts
       (λ out. let (r, e) = covers x (inr (out, f)) in (r, image_stays longer old.formed c s.here x e)) in
@@ -408,33 +408,33 @@ module _ {V₀ : ℕ} {N : ℕ → Type 0} (b : Bundle) (c t l : ℕ) (vs : List
 
   -- w is what the visit to the body leaves
   module _ (covers : Covers b c (tree b t)) (w : Visit) (on : Longer bound.bundle w.bundle) (body : Visited N bound.context (number u) w) where
-    from-bound : Longer v.bundle w.bundle
-    from-bound = longer_trans (replacing_longer v.bundle l c v.results) on
+    from_bound : Longer v.bundle w.bundle
+    from_bound = longer_trans (replacing_longer v.bundle l c v.results) on
 
-    let-since : Longer b w.bundle
-    let-since = longer_trans longer from-bound
+    let_since : Longer b w.bundle
+    let_since = longer_trans longer from_bound
 
-    let-instance : (B : Bundle) → Longer w.bundle B → WellFormed B
+    let_instance : (B : Bundle) → Longer w.bundle B → WellFormed B
         → Instance B (rule_of 5) c (tree B t) (tree B w.result) (v.steps ++ (w.step ∷ []))
     unfolding rule_of
-    let-instance B later well =
+    let_instance B later well =
         let binds = (let_there v.bundle longer).1 in
         by_let refl vs (gather (tree B) (numbers_of ns)) (gather (tree B) v.results) (tree B (number u)) v.steps w.step bound.context
-        (let_there B (longer_trans let-since later)).0.1 refl
-        (say_all (done_all_kept (longer_trans from-bound later) ih.checked.formed.tables ih.done))
+        (let_there B (longer_trans let_since later)).0.1 refl
+        (say_all (done_all_kept (longer_trans from_bound later) ih.checked.formed.tables ih.done))
         (done_says (done_kept later body.checked.formed.tables body.done))
         (replacing_says v.bundle l c vs v.results ih.checked.formed.tables binds.start binds.list (longer_trans on later))
 
-    block-visited : Visited N c t (concluded w.bundle 5 c t w.result (v.steps ++ (w.step ∷ [])))
+    block_visited : Visited N c t (concluded w.bundle 5 c t w.result (v.steps ++ (w.step ∷ [])))
     unfolding sort
-    block-visited =
-        conclude w.bundle 5 c t w.result (v.steps ++ (w.step ∷ [])) body.checked (omega (arith, s.here, (sizes let-since).contexts))
-        (let_there w.bundle let-since).0.0 body.done.result
-        (body.done.sorted ∙ sym (ap (sort w.bundle) (let_there w.bundle let-since).0.1))
-        (left_scope old s let-since t stands.0.0.1 covers) (open_scope old s let-since)
+    block_visited =
+        conclude w.bundle 5 c t w.result (v.steps ++ (w.step ∷ [])) body.checked (omega (arith, s.here, (sizes let_since).contexts))
+        (let_there w.bundle let_since).0.0 body.done.result
+        (body.done.sorted ∙ sym (ap (sort w.bundle) (let_there w.bundle let_since).0.1))
+        (left_scope old s let_since t stands.0.0.1 covers) (open_scope old s let_since)
         (all_snoc (Number (length w.bundle.steps)) v.steps w.step
-        (all_map (λ k n. (n.0, omega (arith, n.1, (sizes from-bound).steps))) v.steps (done_steps ih.done)) body.done.step)
-        let-instance (λ B later well. not_refl 5 (λ e. omega arith))
+        (all_map (λ k n. (n.0, omega (arith, n.1, (sizes from_bound).steps))) v.steps (done_steps ih.done)) body.done.step)
+        let_instance (λ B later well. not_refl 5 (λ e. omega arith))
 
 -- ---- THE INDUCTION
 
@@ -445,42 +445,42 @@ mutual
       → Covers b c (tree b (number τ)) → Visited N c (number τ) (visit τ c b)
   visit_visited (leaf t x) b c old s new stands covers = leaf_visited b c t x old s stands covers
   visit_visited (node t f ns) b c old s new stands covers =
-      node_visited b c t f ns old s stands covers (visitAll ns c b) (visitAll-longer ns c b)
+      node_visited b c t f ns old s stands covers (visit_all ns c b) (visit_all_longer ns c b)
       (visit_all_visited ns b c old s new stands.1 (rw stands.0.1 at covers))
   visit_visited (scope t q x u) {V₀} b c old s new stands covers =
       let o = open_binder b x c in
       let opens = binder_opens b c x old s new stands.1 in
-      binder-visited b c x old s new stands.1 t q u stands covers (visit u o.context o.bundle) (visit-longer u o.context o.bundle)
+      binder_visited b c x old s new stands.1 t q u stands covers (visit u o.context o.bundle) (visit_longer u o.context o.bundle)
       (visit_visited u o.bundle o.context opens.checked opens.substitutes (binder_open b c x old s new stands.1)
-      (stands-kept V₀ (open_longer b x c) old.formed.tables u stands.2)
+      (stands_kept V₀ (open_longer b x c) old.formed.tables u stands.2)
       (subst (Covers o.bundle o.context) (sym (tree_kept (open_longer b x c) old.formed.tables (number u) (stands_term V₀ b u stands.2).1))
       (binder_covers b c x old s new stands.1 q (tree b (number u)) (rw stands.0.1 at covers))))
   visit_visited (block t l vs ns u) {V₀} {N} b c old s new stands covers =
-      let v = visitAll ns c b in
-      let longer = visitAll-longer ns c b in
-      let all : Covers b c (letIn vs (gather (tree b) (numbers_of ns)) (tree b (number u))) = rw stands.0.1 at covers in
+      let v = visit_all ns c b in
+      let longer = visit_all_longer ns c b in
+      let all : Covers b c (let_in vs (gather (tree b) (numbers_of ns)) (tree b (number u))) = rw stands.0.1 at covers in
       let ih : VisitedAll N c (numbers_of ns) v = visit_all_visited ns b c old s new stands.2 (λ x f. all x (inl f)) in
       let o = replacing v.bundle l c v.results in
       let opens = block_opens b c t l vs ns u old s new stands v longer ih in
       let since : Longer b o.bundle = longer_trans longer (replacing_longer v.bundle l c v.results) in
-      block-visited b c t l vs ns u old s new stands v longer ih covers (visit u o.context o.bundle) (visit-longer u o.context o.bundle)
-      (visit_visited u o.bundle o.context opens.checked opens.substitutes new (stands-kept V₀ since old.formed.tables u stands.3)
+      block_visited b c t l vs ns u old s new stands v longer ih covers (visit u o.context o.bundle) (visit_longer u o.context o.bundle)
+      (visit_visited u o.bundle o.context opens.checked opens.substitutes new (stands_kept V₀ since old.formed.tables u stands.3)
       (subst (Covers o.bundle o.context) (sym (tree_kept since old.formed.tables (number u) (stands_term V₀ b u stands.3).1))
       (block_covers b c t l vs ns u old s new stands v longer ih (gather (tree b) (numbers_of ns)) (tree b (number u)) all)))
 
   pub visit_all_visited : (ns : Nodes) {V₀ : ℕ} {N : ℕ → Type 0} (b : Bundle) (c : ℕ) → Checked b → Substitutes V₀ N b c → Open V₀ N → Stand V₀ b ns
-      → CoverAll b c (gather (tree b) (numbers_of ns)) → VisitedAll N c (numbers_of ns) (visitAll ns c b)
+      → CoverAll b c (gather (tree b) (numbers_of ns)) → VisitedAll N c (numbers_of ns) (visit_all ns c b)
   visit_all_visited nil b c old s new stand covers = record { checked = old; done = done_none }
   visit_all_visited (cons τ ns) {V₀} {N} b c old s new stand covers =
       let v = visit τ c b in
-      let longer = visit-longer τ c b in
+      let longer = visit_longer τ c b in
       let head : Visited N c (number τ) v = visit_visited τ b c old s new stand.0 (λ x f. covers x (inl f)) in
-      let tail : VisitedAll N c (numbers_of ns) (visitAll ns c v.bundle) =
+      let tail : VisitedAll N c (numbers_of ns) (visit_all ns c v.bundle) =
       visit_all_visited ns v.bundle c head.checked (substitutes_kept s longer old.formed (λ x n. n) s.itself) new
-      (stand-kept V₀ longer old.formed.tables ns stand.1)
+      (stand_kept V₀ longer old.formed.tables ns stand.1)
       (rw (gather_kept longer old.formed.tables (numbers_of ns) (stand_terms V₀ b ns stand.1))
       (λ x f. let (r, e) = covers x (inr f) in (r, image_stays longer old.formed c s.here x e))) in
       record {
         checked = tail.checked;
-        done = done_more (done_kept (visitAll-longer ns c v.bundle) head.checked.formed.tables head.done) tail.done;
+        done = done_more (done_kept (visit_all_longer ns c v.bundle) head.checked.formed.tables head.done) tail.done;
       }

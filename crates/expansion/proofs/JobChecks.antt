@@ -3,7 +3,7 @@
 --     job_exactly             no check fails exactly with a well-formed closed job that fits, and long enough areas
 --     written_where           a file is written exactly where the fault's number is 0
 --     refused_job_where       the job is refused with number n, not 0, and record i exactly where that is the fault
---     job-answer, job-file, job_room     where no check fails: the answer is the file's length, the output up to that is the file, and has room for it
+--     job_answer, job_file, job_room     where no check fails: the answer is the file's length, the output up to that is the file, and has room for it
 --     zeros_left              what is left in the areas
 use Prim.Native.Nat.{ℕ, zero, suc, ◌+◌, ◌-◌, ◌≤◌}
 use mathlib.Core.Path.{◌≡◌, refl, ap, ◌∙◌}
@@ -184,19 +184,19 @@ module _ (f : List ℕ) (out words sets : ℕ) where
 
   -- where no check fails
   module _ (passes : (job_fault f out words sets).number ≡ 0) where
-    job-outcome : expansion f out words sets ≡ outcome_of (bundle_of f) (job_fault f out words sets) 0 out words sets
+    job_outcome : expansion f out words sets ≡ outcome_of (bundle_of f) (job_fault f out words sets) 0 out words sets
     unfolding expansion
-    job-outcome = ap (λ (k : ℕ). outcome_of (bundle_of f) (job_fault f out words sets) k out words sets) passes
+    job_outcome = ap (λ (k : ℕ). outcome_of (bundle_of f) (job_fault f out words sets) k out words sets) passes
 
-    pub job-answer : (expansion f out words sets).answer ≡ Written (length (file_of (expanded (bundle_of f))))
+    pub job_answer : (expansion f out words sets).answer ≡ Written (length (file_of (expanded (bundle_of f))))
     unfolding outcome_of
-    job-answer = ap (λ (o : Outcome). o.answer) job-outcome
+    job_answer = ap (λ (o : Outcome). o.answer) job_outcome
 
-    pub job-file : take (length (file_of (expanded (bundle_of f)))) (expansion f out words sets).out ≡ file_of (expanded (bundle_of f))
+    pub job_file : take (length (file_of (expanded (bundle_of f)))) (expansion f out words sets).out ≡ file_of (expanded (bundle_of f))
     unfolding outcome_of
-    job-file =
+    job_file =
         let n : ℕ = length (file_of (expanded (bundle_of f))) in
-        ap (λ (o : Outcome). take n o.out) job-outcome ∙ file_cut (expanded (bundle_of f)) (replicate (out - n) 0)
+        ap (λ (o : Outcome). take n o.out) job_outcome ∙ file_cut (expanded (bundle_of f)) (replicate (out - n) 0)
 
     -- the file is no longer than the output
     pub job_room : length (file_of (expanded (bundle_of f))) ≤ out

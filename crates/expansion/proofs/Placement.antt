@@ -21,7 +21,7 @@ use Rattle.bundle.specs.Lists.{same_list}
 use Rattle.logic.specs.declared.Signature.TheVariants.{Unknown}
 use Rattle.logic.specs.Lists.{All, Number}
 use Rattle.logic.specs.Symbols.{truth_sort, signature_of, argument_sorts}
-use Rattle.logic.specs.Terms.{Binder, forAll, exists, Term, var, app, bind, letIn, more, Kind, variable, application, binder, letting, other, kind_of}
+use Rattle.logic.specs.Terms.{Binder, forAll, exists, Term, var, app, bind, let_in, more, Kind, variable, application, binder, letting, other, kind_of}
 use Rattle.logic.specs.Terms.{gather, tree}
 use Rattle.logic.specs.Terms.{number_of}
 use Rattle.logic.specs.WellFormed.{sort_of_term, ListsFormed, TermFormed, a_variable, an_application, a_binder, a_let, number, list, Fields, fields_as, fields_of}
@@ -32,14 +32,14 @@ use Rattle.logic.proofs.TermKinds.{number_kind, binder_number}
 use Rattle.logic.proofs.Formed.{tree_variable, tree_application, tree_binder, tree_let}
 use Rattle.logic.proofs.FreeSettled.{free_number}
 use Rattle.logic.proofs.TermNumbers.{of_kind}
-use Rattle.logic.proofs.Longer.{longer_refl, longer_trans, list_longer, list_added, terms_longer, term-added}
+use Rattle.logic.proofs.Longer.{longer_refl, longer_trans, list_longer, list_added, terms_longer, term_added}
 use Rattle.logic.proofs.Kept.{signature_kept, sorts_kept, tree_kept, sort_tree_kept}
 use Rattle.logic.proofs.FormedKept.{lists_formed_kept, fields_kept}
 use Rattle.logic.specs.Lookup.{after, seek, same_variable, same_application, same_binder, same_let}
 use Rattle.expansion.specs.Placed.{PlacedTerm, placed, place_variable, place_application, place_binder, place_let}
 use Rattle.expansion.specs.Visit.{new_variable}
 use Rattle.expansion.proofs.Grown.{lists_longer}
-use Rattle.expansion.proofs.AppendedChecked.{Checked, list_checked, list-start, term_checked}
+use Rattle.expansion.proofs.AppendedChecked.{Checked, list_checked, list_start_lem, term_checked}
 
 -- ---- lists
 
@@ -206,7 +206,7 @@ abbrev with_variable : Bundle → ℕ → Bundle
 with_variable b y = grown (add_list b []) (variable_record y)
 
 variable_formed : (b : Bundle) (y : ℕ) → Number (length b.variables) y → TermFormed (with_variable b y) (suc (length b.terms))
-variable_formed b y n = a_variable y (term-added (add_list b []) (variable_record y) (longer_refl (with_variable b y))) n
+variable_formed b y n = a_variable y (term_added (add_list b []) (variable_record y) (longer_refl (with_variable b y))) n
 
 pub variable_placed : (b : Bundle) (y : ℕ) → Checked b → Number (length b.variables) y → PlacedAs (var y) (place_variable b y)
 unfolding same_variable
@@ -221,7 +221,7 @@ variable_placed b y old n =
     B = with_variable b y
 
     here : term_of B (suc (length b.terms)) ≡ r
-    here = term-added (add_list b []) r (longer_refl B)
+    here = term_added (add_list b []) r (longer_refl B)
 
     sound : (m : ℕ) → same_variable y (term_of b m) ≡ true → tree b m ≡ var y
     sound m e =
@@ -268,14 +268,14 @@ module _ (b : Bundle) (f : ℕ) (ts : List ℕ) where
   application_grown = longer_trans (list_longer b ts) application_listed
 
   application_here : term_of with_application (suc (length b.terms)) ≡ application_record
-  application_here = term-added (add_list b ts) application_record (longer_refl with_application)
+  application_here = term_added (add_list b ts) application_record (longer_refl with_application)
 
   application_formed : TablesFormed b → (signature_of b f ≡ Unknown → ⊥) → All (Number (length b.terms)) ts
       → argument_sorts b (signature_of b f) ≡ map (sort_of_term b) ts → TermFormed with_application (suc (length b.terms))
   application_formed formed known are sorts =
       let longer : Longer b with_application = application_grown in
       let li : items with_application (list_start b ts) ≡ ts = list_added b ts application_listed in
-      an_application f (list_start b ts) application_here (λ u. known (sym (signature_kept longer f known) ∙ u)) (list-start b ts application_listed)
+      an_application f (list_start b ts) application_here (λ u. known (sym (signature_kept longer f known) ∙ u)) (list_start_lem b ts application_listed)
       (rw li (all_map (λ t n. (n.0, omega (arith, n.1))) ts are))
       (rw li (sorts_kept longer formed f known ∙ sorts ∙ sym (sorts_of_kept longer formed ts are)))
 
@@ -331,7 +331,7 @@ module _ (b : Bundle) (q : Binder) (y t : ℕ) where
   binder_grown = longer_trans (list_longer b []) (terms_longer (add_list b []) (binder_record q y t ∷ []))
 
   binder_here : term_of with_binder (suc (length b.terms)) ≡ binder_record q y t
-  binder_here = term-added (add_list b []) (binder_record q y t) (longer_refl with_binder)
+  binder_here = term_added (add_list b []) (binder_record q y t) (longer_refl with_binder)
 
   binder_formed : TablesFormed b → Number (length b.variables) y → Number (length b.terms) t → sort_of_term b t ≡ truth_sort
       → TermFormed with_binder (suc (length b.terms))
@@ -391,7 +391,7 @@ module _ (b : Bundle) (vs ts : List ℕ) (t : ℕ) where
   let_grown = longer_trans (lists_longer b vs ts) let_listed
 
   let_here : term_of with_let (suc (length b.terms)) ≡ let_record
-  let_here = term-added (add_list (add_list b vs) ts) let_record (longer_refl with_let)
+  let_here = term_added (add_list (add_list b vs) ts) let_record (longer_refl with_let)
 
   let_variables : items with_let (list_start b vs) ≡ vs
   let_variables = list_added b vs (longer_trans (list_longer (add_list b vs) ts) let_listed)
@@ -403,15 +403,15 @@ module _ (b : Bundle) (vs ts : List ℕ) (t : ℕ) where
       → ListsFormed b vs ts → TermFormed with_let (suc (length b.terms))
   let_formed formed nv nt n lists =
       a_let (list_start b vs) (list_start (add_list b vs) ts) t let_here
-      (list-start b vs (longer_trans (list_longer (add_list b vs) ts) let_listed)) (rw let_variables nv)
-      (list-start (add_list b vs) ts let_listed) (rw let_terms (all_map (λ u k. (k.0, omega (arith, k.1))) ts nt)) (n.0, omega (arith, n.1))
+      (list_start_lem b vs (longer_trans (list_longer (add_list b vs) ts) let_listed)) (rw let_variables nv)
+      (list_start_lem (add_list b vs) ts let_listed) (rw let_terms (all_map (λ u k. (k.0, omega (arith, k.1))) ts nt)) (n.0, omega (arith, n.1))
       (rw (let_variables, let_terms) (lists_formed_kept let_grown formed vs ts nv nt lists))
 
 pub let_placed : (b : Bundle) (vs ts : List ℕ) (t : ℕ) → Checked b → All (Number (length b.variables)) vs → All (Number (length b.terms)) ts
-    → Number (length b.terms) t → ListsFormed b vs ts → PlacedAs (letIn vs (gather (tree b) ts) (tree b t)) (place_let b vs ts t)
+    → Number (length b.terms) t → ListsFormed b vs ts → PlacedAs (let_in vs (gather (tree b) ts) (tree b t)) (place_let b vs ts t)
 unfolding same_let
 let_placed b vs ts t old nv nt n lists =
-    placed_as b (add_list (add_list b vs) ts) (two_lists b vs ts) (same_let b vs ts t) r (letIn vs (gather (tree b) ts) (tree b t)) old sound complete
+    placed_as b (add_list (add_list b vs) ts) (two_lists b vs ts) (same_let b vs ts t) r (let_in vs (gather (tree b) ts) (tree b t)) old sound complete
     (let_formed b vs ts t formed nv nt n lists)
     (λ new. tree_let B new.formed.tables (suc (length b.terms)) (let_here b vs ts t) ∙ same_parts)
     (seek (same_let b vs ts t) b.terms) refl
@@ -425,12 +425,12 @@ let_placed b vs ts t old nv nt n lists =
     formed : TablesFormed b
     formed = old.formed.tables
 
-    same_parts : letIn (items B r.a) (gather (tree B) (items B r.b)) (tree B t) ≡ letIn vs (gather (tree b) ts) (tree b t)
+    same_parts : let_in (items B r.a) (gather (tree B) (items B r.b)) (tree B t) ≡ let_in vs (gather (tree b) ts) (tree b t)
     same_parts =
-        ap₂ (λ (us ws : List ℕ). letIn us (gather (tree B) ws) (tree B t)) (let_variables b vs ts t) (let_terms b vs ts t)
-        ∙ ap₂ (letIn vs) (gather_kept (let_grown b vs ts t) formed ts nt) (tree_kept (let_grown b vs ts t) formed t n.1)
+        ap₂ (λ (us ws : List ℕ). let_in us (gather (tree B) ws) (tree B t)) (let_variables b vs ts t) (let_terms b vs ts t)
+        ∙ ap₂ (let_in vs) (gather_kept (let_grown b vs ts t) formed ts nt) (tree_kept (let_grown b vs ts t) formed t n.1)
 
-    sound : (m : ℕ) → same_let b vs ts t (term_of b m) ≡ true → tree b m ≡ letIn vs (gather (tree b) ts) (tree b t)
+    sound : (m : ℕ) → same_let b vs ts t (term_of b m) ≡ true → tree b m ≡ let_in vs (gather (tree b) ts) (tree b t)
     sound m e =
         let x : TermRecord = term_of b m in
         let k = and_left (eqb x.kind 5) (same_list (items b x.a) vs && (same_list (items b x.b) ts && eqb x.c t)) e in
@@ -440,8 +440,8 @@ let_placed b vs ts t old nv nt n lists =
         let w = same_list_lem (items b x.b) ts (and_left (same_list (items b x.b) ts) (eqb x.c t) e₂) in
         let u = eqb-true x.c t (and_right (same_list (items b x.b) ts) (eqb x.c t) e₂) in
         tree_let b formed m (of_kind b formed m (eqb-true x.kind 5 k))
-        ∙ ap₂ (λ (us ws : List ℕ). letIn us (gather (tree b) ws) (tree b x.c)) v w
-        ∙ ap (λ (z : ℕ). letIn vs (gather (tree b) ts) (tree b z)) u
+        ∙ ap₂ (λ (us ws : List ℕ). let_in us (gather (tree b) ws) (tree b x.c)) v w
+        ∙ ap (λ (z : ℕ). let_in vs (gather (tree b) ts) (tree b z)) u
 
     complete : (x : TermRecord) → fields_of b x ≡ fields_of B r → same_let b vs ts t x ≡ true
     complete x e =

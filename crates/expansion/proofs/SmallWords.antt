@@ -5,7 +5,7 @@
 --     SmallNode, node_small            the numbers of a node; of the node of a term
 -- Where the last bundle, which is longer than all in between, is within the limits:
 --     list_small, start_small, placed_small, concluded_small, replacing_small, fixing_small, new_small, fresh_small, open_small     openers and closers
---     visit-small, visitAll-small      the visits
+--     visit_small, visit_all_small      the visits
 --     expanded_small                   THE LAW: the bundle that is written
 use Prim.Native.Nat.{ℕ, zero, suc, ◌+◌, ◌*◌, ◌-◌, ◌^◌, ◌≤◌, ◌<◌}
 use mathlib.Core.Bool.{Bool, true, false, cond}
@@ -34,12 +34,12 @@ use Rattle.expansion.specs.Nodes.{Node, Nodes, leaf, node, scope, block, nil, co
 use Rattle.logic.specs.Lookup.{after, seek, same_variable, same_application, same_binder}
 use Rattle.expansion.specs.Placed.{PlacedTerm, placed, place_application, place_binder}
 use Rattle.expansion.specs.Visit.{Visit, Visits, concluded, OpenedContext, replacing, fixing}
-use Rattle.expansion.specs.Visit.{image_term, new_variable, fresh, renaming, OpenedBinder, open_binder, visit, visitAll, visited, expanded}
+use Rattle.expansion.specs.Visit.{image_term, new_variable, fresh, renaming, OpenedBinder, open_binder, visit, visit_all, visited, expanded}
 use Rattle.expansion.specs.File.{counts_in, symbol_words, variable_words, term_words, link_words, context_words, step_words}
 use Rattle.expansion.specs.Demands.{Bytes}
 use Rattle.expansion.proofs.SmallNumbers.{Word, SmallBundle, all_append, all_snoc, all_get_d, all_at, all_tab}
 use Rattle.expansion.proofs.Grown.{variable_longer, application_longer, binder_longer, concluded_longer, replacing_longer, fixing_longer, listed_longer}
-use Rattle.expansion.proofs.Grown.{visit-longer, visitAll-longer}
+use Rattle.expansion.proofs.Grown.{visit_longer, visit_all_longer}
 
 -- ---- a bundle that is read out of words, and out of bytes
 
@@ -395,23 +395,23 @@ module _ {end : Bundle} (fit : Within (counts_in end)) where
   mutual
     unfolding visit
 
-    pub visit-small : (τ : Node) (c : ℕ) (b : Bundle) → SmallNode τ → Word c → SmallBundle b → Longer (visit τ c b).bundle end → SmallVisit (visit τ c b)
-    visit-small (leaf t x) c b h hc small e =
+    pub visit_small : (τ : Node) (c : ℕ) (b : Bundle) → SmallNode τ → Word c → SmallBundle b → Longer (visit τ c b).bundle end → SmallVisit (visit τ c b)
+    visit_small (leaf t x) c b h hc small e =
         concluded_small b 1 c t (image_term (image b c x) t) [] small (omega arith) hc h (image_small small c x t h) tt e
-    visit-small (node t f ns) c b h hc small e =
-        let v : Visits = visitAll ns c b in
+    visit_small (node t f ns) c b h hc small e =
+        let v : Visits = visit_all ns c b in
         let p : PlacedTerm = place_application v.bundle f v.results in
         let n : ℕ = seek (same_application v.bundle f v.results) v.bundle.terms in
         let e₂ : Longer p.bundle end = longer_trans (concluded_longer p.bundle 2 c t p.term v.steps) e in
         let e₁ : Longer v.bundle end = longer_trans (application_longer v.bundle f v.results) e₂ in
-        let sv : SmallVisits v = visitAll-small ns c b h.2 hc small e₁ in
+        let sv : SmallVisits v = visit_all_small ns c b h.2 hc small e₁ in
         let sp : SmallPlaced p =
         placed_small v.bundle (add_list v.bundle v.results) _ n sv.bundle (list_longer v.bundle v.results)
         (λ l.
         (list_small v.bundle v.results sv.bundle sv.results l, (omega arith, (h.1, (start_small v.bundle v.results l, (omega arith, tt))))))
         (seek_le (same_application v.bundle f v.results) v.bundle.terms) e₂ in
         concluded_small p.bundle 2 c t p.term v.steps sp.bundle (omega arith) hc h.0 sp.term sv.steps e
-    visit-small (scope t q x u) c b h hc small e =
+    visit_small (scope t q x u) c b h hc small e =
         let o : OpenedBinder = open_binder b x c in
         let y : ℕ = o.variable in
         let v : Visit = visit u o.context o.bundle in
@@ -419,41 +419,41 @@ module _ {end : Bundle} (fit : Within (counts_in end)) where
         let n : ℕ = seek (same_binder q y v.result) v.bundle.terms in
         let e₃ : Longer p.bundle end = longer_trans (concluded_longer p.bundle 4 c t p.term (v.step ∷ [])) e in
         let e₂ : Longer v.bundle end = longer_trans (binder_longer v.bundle q y v.result) e₃ in
-        let e₁ : Longer o.bundle end = longer_trans (visit-longer u o.context o.bundle) e₂ in
+        let e₁ : Longer o.bundle end = longer_trans (visit_longer u o.context o.bundle) e₂ in
         let so : SmallBinder o = open_small b x c small h.1 hc e₁ in
-        let sv : SmallVisit v = visit-small u o.context o.bundle h.2 so.context so.bundle e₂ in
+        let sv : SmallVisit v = visit_small u o.context o.bundle h.2 so.context so.bundle e₂ in
         let sp : SmallPlaced p =
         placed_small v.bundle (add_list v.bundle []) _ n sv.bundle (list_longer v.bundle [])
         (λ l. (list_small v.bundle [] sv.bundle tt l, (binder_word q, (so.variable, (sv.result, (omega arith, tt))))))
         (seek_le (same_binder q y v.result) v.bundle.terms) e₃ in
         concluded_small p.bundle 4 c t p.term (v.step ∷ []) sp.bundle (omega arith) hc h.0 sp.term (sv.step, tt) e
-    visit-small (block t s vs ns u) c b h hc small e =
-        let v : Visits = visitAll ns c b in
+    visit_small (block t s vs ns u) c b h hc small e =
+        let v : Visits = visit_all ns c b in
         let o : OpenedContext = replacing v.bundle s c v.results in
         let w : Visit = visit u o.context o.bundle in
         let e₃ : Longer w.bundle end = longer_trans (concluded_longer w.bundle 5 c t w.result (v.steps ++ (w.step ∷ []))) e in
-        let e₂ : Longer o.bundle end = longer_trans (visit-longer u o.context o.bundle) e₃ in
+        let e₂ : Longer o.bundle end = longer_trans (visit_longer u o.context o.bundle) e₃ in
         let e₁ : Longer v.bundle end = longer_trans (replacing_longer v.bundle s c v.results) e₂ in
-        let sv : SmallVisits v = visitAll-small ns c b h.2 hc small e₁ in
+        let sv : SmallVisits v = visit_all_small ns c b h.2 hc small e₁ in
         let so : SmallOpened o = replacing_small v.bundle s c v.results sv.bundle h.1 hc sv.results e₂ in
-        let sw : SmallVisit w = visit-small u o.context o.bundle h.3 so.context so.bundle e₃ in
+        let sw : SmallVisit w = visit_small u o.context o.bundle h.3 so.context so.bundle e₃ in
         concluded_small w.bundle 5 c t w.result (v.steps ++ (w.step ∷ [])) sw.bundle (omega arith) hc h.0 sw.result
         (all_snoc Word v.steps w.step sv.steps sw.step) e
 
-    pub visitAll-small : (ns : Nodes) (c : ℕ) (b : Bundle) → SmallNodes ns → Word c → SmallBundle b → Longer (visitAll ns c b).bundle end
-        → SmallVisits (visitAll ns c b)
-    visitAll-small nil c b h hc small e = record { bundle = small; results = tt; steps = tt }
-    visitAll-small (cons τ ns) c b h hc small e =
+    pub visit_all_small : (ns : Nodes) (c : ℕ) (b : Bundle) → SmallNodes ns → Word c → SmallBundle b → Longer (visit_all ns c b).bundle end
+        → SmallVisits (visit_all ns c b)
+    visit_all_small nil c b h hc small e = record { bundle = small; results = tt; steps = tt }
+    visit_all_small (cons τ ns) c b h hc small e =
         let v : Visit = visit τ c b in
-        let sv : SmallVisit v = visit-small τ c b h.0 hc small (longer_trans (visitAll-longer ns c v.bundle) e) in
-        let ss : SmallVisits (visitAll ns c v.bundle) = visitAll-small ns c v.bundle h.1 hc sv.bundle e in
+        let sv : SmallVisit v = visit_small τ c b h.0 hc small (longer_trans (visit_all_longer ns c v.bundle) e) in
+        let ss : SmallVisits (visit_all ns c v.bundle) = visit_all_small ns c v.bundle h.1 hc sv.bundle e in
         record { bundle = ss.bundle; results = (sv.result, ss.results); steps = (sv.step, ss.steps) }
 
 -- THE LAW
 pub expanded_small : (b : Bundle) → SmallBundle b → Within (counts_in (visited b).bundle) → SmallBundle (expanded b)
 unfolding visited expanded
 expanded_small b small fit =
-    let e : Longer b (visited b).bundle = visit-longer (node_at b b.left) 0 b in
+    let e : Longer b (visited b).bundle = visit_longer (node_at b b.left) 0 b in
     let begins : Within (counts_in b) = record {
       symbols = omega (arith, fit.symbols, (sizes e).symbols);
       variables = omega (arith, fit.variables, (sizes e).variables);
@@ -463,7 +463,7 @@ expanded_small b small fit =
       steps = omega (arith, fit.steps, (sizes e).steps);
     } in
     let v : SmallVisit (visited b) =
-    visit-small fit (node_at b b.left) 0 b (node_small b small begins b.left) (omega arith) small (longer_refl (visited b).bundle) in
+    visit_small fit (node_at b b.left) 0 b (node_small b small begins b.left) (omega arith) small (longer_refl (visited b).bundle) in
     record {
       version = v.bundle.version;
       symbols = v.bundle.symbols;

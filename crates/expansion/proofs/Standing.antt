@@ -1,6 +1,6 @@
 -- Nodes that stand for terms of a bundle.
 --     StandsAs, Stands, Stand              the numbers of a node are terms, each with the tree that the node shows; its binders are the job's
---     stands_term, stand_terms, stands-kept, stand-kept     they are terms, in longer bundles too
+--     stands_term, stand_terms, stands_kept, stand_kept     they are terms, in longer bundles too
 --     application_sorts, binder_sorts, let_lists     what a well-formed bundle says of a term, from its tree
 --     node_here_lem                            the node of a term, by its record
 --     standing                             THE LAW: the node of a term stands for it
@@ -14,7 +14,7 @@ use Rattle.bundle.specs.Links.{items}
 use Rattle.logic.specs.declared.Signature.TheVariants.{Unknown}
 use Rattle.logic.specs.Lists.{All, Number}
 use Rattle.logic.specs.Symbols.{truth_sort, signature_of, argument_sorts}
-use Rattle.logic.specs.Terms.{Binder, Term, var, app, bind, letIn, Kind, variable, application, binder, letting, other, kind_of, gather, tree}
+use Rattle.logic.specs.Terms.{Binder, Term, var, app, bind, let_in, Kind, variable, application, binder, letting, other, kind_of, gather, tree}
 use Rattle.logic.specs.Sorts.{sort}
 use Rattle.logic.specs.WellFormed.{StartsList, Lower, sort_of_term, ListsFormed, TermFormed, a_variable, an_application, a_binder, a_let, TablesFormed}
 use Rattle.logic.specs.Longer.{Longer}
@@ -22,7 +22,7 @@ use Rattle.logic.proofs.Tables.{table_step}
 use Rattle.logic.proofs.Trees.{refs_as, refs, Before}
 use Rattle.logic.proofs.Formed.{tree_variable, tree_application, tree_binder, tree_let}
 use Rattle.logic.proofs.Images.{sorts_of, sorts_gather}
-use Rattle.logic.proofs.Shapes.{formed_before, Shape, var-shape, app-shape, bind-shape, let-shape, shape}
+use Rattle.logic.proofs.Shapes.{formed_before, Shape, var_shape, app_shape, bind_shape, let_shape, shape}
 use Rattle.logic.proofs.Longer.{sizes}
 use Rattle.logic.proofs.Kept.{items_kept, tree_kept}
 use Rattle.expansion.specs.Nodes.{Node, Nodes, leaf, node, scope, block, nil, cons, number, Numbered, numbered, gather_nodes, no_node, node_as, node_by}
@@ -49,7 +49,7 @@ abbrev mutual
   Stands V₀ b (node t f ns) = StandsAs b t (app f (gather (tree b) (numbers_of ns))) × Stand V₀ b ns
   Stands V₀ b (scope t q x u) = StandsAs b t (bind q x (tree b (number u))) × Number V₀ x × Stands V₀ b u
   Stands V₀ b (block t s vs ns u) =
-      StandsAs b t (letIn vs (gather (tree b) (numbers_of ns)) (tree b (number u))) × Binds V₀ b s vs × Stand V₀ b ns × Stands V₀ b u
+      StandsAs b t (let_in vs (gather (tree b) (numbers_of ns)) (tree b (number u))) × Binds V₀ b s vs × Stand V₀ b ns × Stands V₀ b u
 
   pub Stand : ℕ → Bundle → Nodes → Type 0
   Stand V₀ b nil = Unit {0}
@@ -73,27 +73,27 @@ module _ (V₀ : ℕ) {b b' : Bundle} (longer : Longer b b') (formed : TablesFor
   stands_as_kept t h e = ((h.0.0, omega (arith, h.0.1, (sizes longer).terms)), tree_kept longer formed t h.0.1 ∙ h.1 ∙ sym e)
 
   mutual
-    pub stands-kept : (τ : Node) → Stands V₀ b τ → Stands V₀ b' τ
-    stands-kept (leaf t x) h = stands_as_kept t h refl
-    stands-kept (node t f ns) h =
-        (stands_as_kept t h.0 (ap (app f) (gather_kept longer formed (numbers_of ns) (stand_terms V₀ b ns h.1))), stand-kept ns h.1)
-    stands-kept (scope t q x u) h =
-        (stands_as_kept t h.0 (ap (bind q x) (tree_kept longer formed (number u) (stands_term V₀ b u h.2).1)), h.1, stands-kept u h.2)
-    stands-kept (block t s vs ns u) h = (
-      stands_as_kept t h.0 (ap₂ (letIn vs) (gather_kept longer formed (numbers_of ns) (stand_terms V₀ b ns h.2))
+    pub stands_kept : (τ : Node) → Stands V₀ b τ → Stands V₀ b' τ
+    stands_kept (leaf t x) h = stands_as_kept t h refl
+    stands_kept (node t f ns) h =
+        (stands_as_kept t h.0 (ap (app f) (gather_kept longer formed (numbers_of ns) (stand_terms V₀ b ns h.1))), stand_kept ns h.1)
+    stands_kept (scope t q x u) h =
+        (stands_as_kept t h.0 (ap (bind q x) (tree_kept longer formed (number u) (stands_term V₀ b u h.2).1)), h.1, stands_kept u h.2)
+    stands_kept (block t s vs ns u) h = (
+      stands_as_kept t h.0 (ap₂ (let_in vs) (gather_kept longer formed (numbers_of ns) (stand_terms V₀ b ns h.2))
           (tree_kept longer formed (number u) (stands_term V₀ b u h.3).1)),
       record {
         start = omega (arith, h.1.start, (sizes longer).links);
         list = items_kept longer formed s h.1.start ∙ h.1.list;
         variables = h.1.variables;
       },
-      stand-kept ns h.2,
-      stands-kept u h.3,
+      stand_kept ns h.2,
+      stands_kept u h.3,
     )
 
-    pub stand-kept : (ns : Nodes) → Stand V₀ b ns → Stand V₀ b' ns
-    stand-kept nil h = tt
-    stand-kept (cons τ ns) h = (stands-kept τ h.0, stand-kept ns h.1)
+    pub stand_kept : (ns : Nodes) → Stand V₀ b ns → Stand V₀ b' ns
+    stand_kept nil h = tt
+    stand_kept (cons τ ns) h = (stands_kept τ h.0, stand_kept ns h.1)
 
 -- ---- what a tree says of its parts
 
@@ -109,31 +109,31 @@ module _ (b : Bundle) (formed : TablesFormed b) (t : ℕ) where
   application_sorts f ts h = go (shape b t (formed.terms t h.0))
     where
       go : Shape b t → (signature_of b f ≡ Unknown → ⊥) × (argument_sorts b (signature_of b f) ≡ map (sort_of_term b) ts)
-      go (var-shape x e' n) = clash (cc h.1)
-      go (app-shape g us e' known low sorts) =
+      go (var_shape x e' n) = clash (cc h.1)
+      go (app_shape g us e' known low sorts) =
           let is : g ≡ f = cc h.1 in
           let args : gather (tree b) us ≡ gather (tree b) ts = cc h.1 in
           (rw is at known, (rw is at sorts) ∙ same_sorts us ts args)
-      go (bind-shape q x u e' n low s) = clash (cc h.1)
-      go (let-shape vs us u e' n lows low s) = clash (cc h.1)
+      go (bind_shape q x u e' n low s) = clash (cc h.1)
+      go (let_shape vs us u e' n lows low s) = clash (cc h.1)
 
   pub binder_sorts : (q : Binder) (x u : ℕ) → StandsAs b t (bind q x (tree b u)) → sort_of_term b u ≡ truth_sort
   binder_sorts q x u h = go (shape b t (formed.terms t h.0))
     where
       go : Shape b t → sort_of_term b u ≡ truth_sort
-      go (var-shape y e' n) = clash (cc h.1)
-      go (app-shape g us e' known low sorts) = clash (cc h.1)
-      go (bind-shape p y v e' n low s) = let is : tree b u ≡ tree b v = cc h.1 in ap (sort b) is ∙ s
-      go (let-shape vs us v e' n lows low s) = clash (cc h.1)
+      go (var_shape y e' n) = clash (cc h.1)
+      go (app_shape g us e' known low sorts) = clash (cc h.1)
+      go (bind_shape p y v e' n low s) = let is : tree b u ≡ tree b v = cc h.1 in ap (sort b) is ∙ s
+      go (let_shape vs us v e' n lows low s) = clash (cc h.1)
 
-  pub let_lists : (vs ts : List ℕ) (u : Term) → StandsAs b t (letIn vs (gather (tree b) ts) u) → ListsFormed b vs ts
+  pub let_lists : (vs ts : List ℕ) (u : Term) → StandsAs b t (let_in vs (gather (tree b) ts) u) → ListsFormed b vs ts
   let_lists vs ts u h = go (shape b t (formed.terms t h.0))
     where
       go : Shape b t → ListsFormed b vs ts
-      go (var-shape y e' n) = clash (cc h.1)
-      go (app-shape g us e' known low sorts) = clash (cc h.1)
-      go (bind-shape p y v e' n low s) = clash (cc h.1)
-      go (let-shape ws us v e' n lows low s) =
+      go (var_shape y e' n) = clash (cc h.1)
+      go (app_shape g us e' known low sorts) = clash (cc h.1)
+      go (bind_shape p y v e' n low s) = clash (cc h.1)
+      go (let_shape ws us v e' n lows low s) =
           let is : ws ≡ vs = cc h.1 in
           let bound : gather (tree b) us ≡ gather (tree b) ts = cc h.1 in
           let here : ListsFormed b vs us = rw is at s in
@@ -229,7 +229,7 @@ module _ (b : Bundle) (formed : TablesFormed b) where
           let (are, stand) = standing_all t ih (items b ts) lows in
           let (is, stands) = ih u low in
           from (block t vs (items b vs) (gather_nodes (node_at b) (items b ts)) (node_at b u)) (made _ e) refl (
-            (n, tree_let b formed t e ∙ ap₂ (λ (l : List ℕ) (m : ℕ). letIn (items b vs) (gather (tree b) l) (tree b m)) (sym are) (sym is)),
+            (n, tree_let b formed t e ∙ ap₂ (λ (l : List ℕ) (m : ℕ). let_in (items b vs) (gather (tree b) l) (tree b m)) (sym are) (sym is)),
             record { start = sv; list = refl; variables = nv },
             stand,
             stands,

@@ -29,19 +29,19 @@ use Rattle.logic.specs.declared.Image.TheVariants.{Own, Gives}
 use Rattle.logic.specs.Lists.{Among, All, Number}
 use Rattle.logic.specs.Terms.{var, gather, tree}
 use Rattle.logic.specs.Free.{Free}
-use Rattle.logic.specs.Lets.{holdsLet}
+use Rattle.logic.specs.Lets.{holds_let}
 use Rattle.logic.specs.Contexts.{lookup, first, image, tree_of_image, image_tree, Settled}
 use Rattle.logic.specs.WellFormed.{StartsList, sort_of_term, ListsFormed, TablesFormed, fixes, replaces, WellFormed}
 use Rattle.logic.specs.Instance.{Fixes, Replaces}
 use Rattle.logic.specs.Longer.{Longer, add_list, list_start}
 use Rattle.logic.proofs.FreeSettled.{free_number}
 use Rattle.logic.proofs.Images.{image_fixes, image_replaces}
-use Rattle.logic.proofs.Longer.{longer_refl, longer_trans, sizes, list_added, contexts_longer, context-added}
+use Rattle.logic.proofs.Longer.{longer_refl, longer_trans, sizes, list_added, contexts_longer, context_added}
 use Rattle.logic.proofs.Kept.{variable_kept, items_kept, tree_kept, sort_tree_kept, image_kept}
 use Rattle.logic.proofs.FormedKept.{lists_formed_kept, settled_in_kept}
 use Rattle.expansion.specs.Visit.{OpenedContext, replacing, fixing, new_variable}
 use Rattle.expansion.proofs.Grown.{replacing_longer, fixing_longer}
-use Rattle.expansion.proofs.AppendedChecked.{Checked, list_checked, list-start, context_checked}
+use Rattle.expansion.proofs.AppendedChecked.{Checked, list_checked, list_start_lem, context_checked}
 use Rattle.expansion.proofs.Placement.{all_map}
 use Rattle.expansion.proofs.Mentioned.{mentioned_above, FixedIn, fixed_kept}
 
@@ -49,7 +49,7 @@ use Rattle.expansion.proofs.Mentioned.{mentioned_above, FixedIn, fixed_kept}
 
 pub record Result (N : ℕ → Type 0) (b : Bundle) (r : ℕ) : Type 0 where
   pub is_term : Number (length b.terms) r
-  pub plain : holdsLet (tree b r) ≡ false
+  pub plain : holds_let (tree b r) ≡ false
   pub new : (x : ℕ) → Free x (tree b r) → N x
 
 pub result_kept : {b b' : Bundle} {N M : ℕ → Type 0} {r : ℕ} → Longer b b' → TablesFormed b → ((x : ℕ) → N x → M x) → Result N b r → Result M b' r
@@ -194,14 +194,14 @@ module _ (b : Bundle) where
 module _ (b : Bundle) {B : Bundle} where
   pub fixing_says : (y c : ℕ) → Longer (fixing b y c).bundle B → Fixes B (suc (length b.contexts)) y c
   fixing_says y c longer =
-      let is : context_of B (suc (length b.contexts)) ≡ record { kind = 1; a = y; b = 0; parent = c } = context-added b _ longer in
+      let is : context_of B (suc (length b.contexts)) ≡ record { kind = 1; a = y; b = 0; parent = c } = context_added b _ longer in
       record { kind = ap (λ (k : Context). k.kind) is; variable = ap (λ (k : Context). k.a) is; parent = ap (λ (k : Context). k.parent) is }
 
   pub replacing_says : (v c : ℕ) (vs ts : List ℕ) → TablesFormed b → StartsList b v → items b v ≡ vs → Longer (replacing b v c ts).bundle B
       → Replaces B (suc (length b.contexts)) vs (gather (tree B) ts) c
   replacing_says v c vs ts formed start li longer =
       let r : Context = record { kind = 2; a = v; b = list_start b ts; parent = c } in
-      let is : context_of B (suc (length b.contexts)) ≡ r = context-added (add_list b ts) r longer in
+      let is : context_of B (suc (length b.contexts)) ≡ r = context_added (add_list b ts) r longer in
       record {
         kind = ap (λ (k : Context). k.kind) is;
         variables = ap (λ (k : Context). items B k.a) is ∙ items_kept (longer_trans (replacing_longer b v c ts) longer) formed v start ∙ li;
@@ -226,7 +226,7 @@ module _ {V₀ : ℕ} {N : ℕ → Type 0} (b : Bundle) (c : ℕ) (old : Checked
       job = s.job;
       itself = λ x n. record {
         mentioned = mentioned_above is refl (kept.itself x n).mentioned;
-        image = ap (λ (i : Image). tree_of_image B i x) (images-in x) ∙ fixed (eqb y x) x (kept.itself x n).image;
+        image = ap (λ (i : Image). tree_of_image B i x) (images_in_lem x) ∙ fixed (eqb y x) x (kept.itself x n).image;
       };
       gives = λ x t e. kept.gives x t (ap (λ (f : ℕ → Image). f x) same ∙ given (eqb y x) (image b c x) t (sym (images x) ∙ e));
       stays = λ x l. images x ∙ own (eqb y x) (image b c x) (s.stays x l);
@@ -244,7 +244,7 @@ module _ {V₀ : ℕ} {N : ℕ → Type 0} (b : Bundle) (c : ℕ) (old : Checked
       d = suc (length b.contexts)
 
       is : context_of B d ≡ r
-      is = context-added b r (longer_refl B)
+      is = context_added b r (longer_refl B)
 
       kept : Substitutes V₀ N B c
       kept = substitutes_kept s (fixing_longer b y c) old.formed (λ x n. n) s.itself
@@ -252,13 +252,13 @@ module _ {V₀ : ℕ} {N : ℕ → Type 0} (b : Bundle) (c : ℕ) (old : Checked
       same : image B c ≡ image b c
       same = image_kept (fixing_longer b y c) old.formed c s.here
 
-      images-in : (x : ℕ) → image B d x ≡ cond (eqb y x) Own (image B c x)
-      images-in x =
+      images_in_lem : (x : ℕ) → image B d x ≡ cond (eqb y x) Own (image B c x)
+      images_in_lem x =
           image_fixes B d (ap (λ (k : Context). k.kind) is) (subst (λ (k : Context). k.parent < d) (sym is) (omega (arith, s.here))) x
           ∙ ap (λ (k : Context). cond (eqb k.a x) Own (image B k.parent x)) is
 
       images : (x : ℕ) → image B d x ≡ cond (eqb y x) Own (image b c x)
-      images x = images-in x ∙ ap (λ (f : ℕ → Image). cond (eqb y x) Own (f x)) same
+      images x = images_in_lem x ∙ ap (λ (f : ℕ → Image). cond (eqb y x) Own (f x)) same
 
       fixed : (p : Bool) (x : ℕ) → tree_of_image B (image B c x) x ≡ var x → tree_of_image B (cond p Own (image B c x)) x ≡ var x
       fixed true x e = refl
@@ -278,19 +278,19 @@ module _ {V₀ : ℕ} {N : ℕ → Type 0} (b : Bundle) (c : ℕ) (old : Checked
   unfolding first image_tree
   replacing_opens v vs ts start li nv lists res by_itself = record {
     checked = context_checked (add_list b ts) r (list_checked b ts old)
-        (replaces v (list_start b ts) c is (omega (arith, start, (sizes longer).links)) (rw vs-here nv-here)
-        (list-start b ts listed) (rw ts-here nt) (rw (vs-here, ts-here) lists_here)
-        (omega (arith, s.here)) (rw ts-here (all_map settled ts res)));
+        (replaces v (list_start b ts) c is (omega (arith, start, (sizes longer).links)) (rw vs_here nv_here)
+        (list_start_lem b ts listed) (rw ts_here nt) (rw (vs_here, ts_here) lists_here)
+        (omega (arith, s.here)) (rw ts_here (all_map settled ts res)));
     substitutes = record {
       here = omega (arith, length-append b.contexts (r ∷ []));
       job = s.job;
       itself = λ x n. record {
         mentioned = mentioned_above is refl (kept.itself x n).mentioned;
-        image = ap (λ (i : Image). tree_of_image B i x) (images-in x) ∙ first_itself B (lookup vs ts x) (image B c x) x
+        image = ap (λ (i : Image). tree_of_image B i x) (images_in_lem x) ∙ first_itself B (lookup vs ts x) (image B c x) x
             (λ r e. let (low, is_x) = by_itself x n r e in tree_kept longer formed r low ∙ is_x) (kept.itself x n).image;
       };
       gives = λ x t e. lookup_gives B (Result N B) vs ts x (image B c x)
-          lists_here.sorts (all_map (λ t h. result_kept longer formed (λ x n. n) h) ts res) (kept.gives x) t (sym (images-in x) ∙ e);
+          lists_here.sorts (all_map (λ t h. result_kept longer formed (λ x n. n) h) ts res) (kept.gives x) t (sym (images_in_lem x) ∙ e);
       stays = λ x l. images x ∙ ap₂ first (not_mentioned x vs ts (not_new V₀ x vs nv l)) (s.stays x l);
     };
     images = images;
@@ -315,22 +315,22 @@ module _ {V₀ : ℕ} {N : ℕ → Type 0} (b : Bundle) (c : ℕ) (old : Checked
       listed = contexts_longer (add_list b ts) (r ∷ [])
 
       is : context_of B d ≡ r
-      is = context-added (add_list b ts) r (longer_refl B)
+      is = context_added (add_list b ts) r (longer_refl B)
 
-      vs-here : items B v ≡ vs
-      vs-here = items_kept longer formed v start ∙ li
+      vs_here : items B v ≡ vs
+      vs_here = items_kept longer formed v start ∙ li
 
-      ts-here : items B (list_start b ts) ≡ ts
-      ts-here = list_added b ts listed
+      ts_here : items B (list_start b ts) ≡ ts
+      ts_here = list_added b ts listed
 
       nt : All (Number (length b.terms)) ts
       nt = all_map (λ t h. h.is_term) ts res
 
-      nv-here : All (Number (length b.variables)) vs
-      nv-here = all_map (λ x n. (n.0, omega (arith, n.1, s.job))) vs nv
+      nv_here : All (Number (length b.variables)) vs
+      nv_here = all_map (λ x n. (n.0, omega (arith, n.1, s.job))) vs nv
 
       lists_here : ListsFormed B vs ts
-      lists_here = lists_formed_kept longer formed vs ts nv-here nt lists
+      lists_here = lists_formed_kept longer formed vs ts nv_here nt lists
 
       settled : (t : ℕ) → Result N b t → Settled B c (tree B t)
       settled t h =
@@ -340,11 +340,11 @@ module _ {V₀ : ℕ} {N : ℕ → Type 0} (b : Bundle) (c : ℕ) (old : Checked
       kept : Substitutes V₀ N B c
       kept = substitutes_kept s longer old.formed (λ x n. n) s.itself
 
-      images-in : (x : ℕ) → image B d x ≡ first (lookup vs ts x) (image B c x)
-      images-in x =
+      images_in_lem : (x : ℕ) → image B d x ≡ first (lookup vs ts x) (image B c x)
+      images_in_lem x =
           image_replaces B d (ap (λ (k : Context). k.kind) is) (subst (λ (k : Context). k.parent < d) (sym is) (omega (arith, s.here))) x
           ∙ ap (λ (k : Context). first (lookup (items B k.a) (items B k.b) x) (image B k.parent x)) is
-          ∙ ap₂ (λ (l m : List ℕ). first (lookup l m x) (image B c x)) vs-here ts-here
+          ∙ ap₂ (λ (l m : List ℕ). first (lookup l m x) (image B c x)) vs_here ts_here
 
       images : (x : ℕ) → image B d x ≡ first (lookup vs ts x) (image b c x)
-      images x = images-in x ∙ ap (λ (f : ℕ → Image). first (lookup vs ts x) (f x)) (image_kept longer old.formed c s.here)
+      images x = images_in_lem x ∙ ap (λ (f : ℕ → Image). first (lookup vs ts x) (f x)) (image_kept longer old.formed c s.here)

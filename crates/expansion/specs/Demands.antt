@@ -5,7 +5,7 @@ use Rattle.bundle.specs.File.{counts_of, bundle_of}
 use Rattle.logic.specs.Lists.{All, Number}
 use Rattle.logic.specs.Terms.{tree}
 use Rattle.logic.specs.Free.{Closed}
-use Rattle.logic.specs.Lets.{holdsLet}
+use Rattle.logic.specs.Lets.{holds_let}
 use Rattle.logic.specs.WellFormed.{HeaderFormed, TablesFormed}
 use Rattle.logic.specs.Values.{EqualValues}
 use Rattle.logic.specs.Longer.{Longer}
@@ -77,7 +77,7 @@ pub record WrittenWell (f g : List ℕ) : Type 0 where
   pub left : (bundle_of g).left ≡ (bundle_of f).left
   pub records : Longer (bundle_of f) (bundle_of g)
   -- its right holds no let,
-  pub plain : holdsLet (tree (bundle_of g) (bundle_of g).right) ≡ false
+  pub plain : holds_let (tree (bundle_of g) (bundle_of g).right) ≡ false
   -- both are closed,
   pub closed : Closed (tree (bundle_of g) (bundle_of g).left) × Closed (tree (bundle_of g) (bundle_of g).right)
   -- and have equal value in every world.

@@ -97,21 +97,21 @@ unfoldable mutual
 
   pub visit : Node → ℕ → Bundle → Visit
   visit (leaf t x) c b = concluded b 1 c t (image_term (image b c x) t) []
-  visit (node t f ns) c b = close_application c t f (visitAll ns c b)
+  visit (node t f ns) c b = close_application c t f (visit_all ns c b)
   visit (scope t q x u) c b =
       let o : OpenedBinder = open_binder b x c in
       close_binder c t q o.variable (visit u o.context o.bundle)
   visit (block t s vs ns u) c b =
-      let v : Visits = visitAll ns c b in
+      let v : Visits = visit_all ns c b in
       let o : OpenedContext = replacing v.bundle s c v.results in
       let w : Visit = visit u o.context o.bundle in
       concluded w.bundle 5 c t w.result (v.steps ++ (w.step ∷ []))
 
-  pub visitAll : Nodes → ℕ → Bundle → Visits
-  visitAll nil c b = record { bundle = b; results = []; steps = [] }
-  visitAll (cons τ ns) c b =
+  pub visit_all : Nodes → ℕ → Bundle → Visits
+  visit_all nil c b = record { bundle = b; results = []; steps = [] }
+  visit_all (cons τ ns) c b =
       let v : Visit = visit τ c b in
-      let vs : Visits = visitAll ns c v.bundle in
+      let vs : Visits = visit_all ns c v.bundle in
       record { bundle = vs.bundle; results = v.result ∷ vs.results; steps = v.step ∷ vs.steps }
 
 -- A job's rule is its left: the visit to it in context 0.

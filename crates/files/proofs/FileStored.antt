@@ -18,7 +18,7 @@ use Rattle.bundle.specs.Limits.{limits, header_length, header_words, symbols_at,
 use Rattle.bundle.specs.Limits.{sections, extent_of, place_of}
 use Rattle.bundle.specs.File.{tab, record_by, symbol_from, link_from, term_from, context_from, step_from, bundle_by}
 use Rattle.scratch.specs.Scratch.{word_in, bundle_in, Roomy}
-use Rattle.scratch.proofs.ScratchFields.{sized_in, symbols-fit, variables-fit, terms-fit, links-fit, contexts-fit, steps-fit}
+use Rattle.scratch.proofs.ScratchFields.{sized_in, symbols_fit, variables_fit, terms_fit, links_fit, contexts_fit, steps_fit}
 use Rattle.expansion.specs.Visit.{claiming}
 use Rattle.expansion.specs.File.{flat, symbol_words, variable_words, term_words, link_words, context_words, step_words, header_words_of, file_words, file_of}
 use Rattle.files.specs.Stores.{WordsStored}
@@ -92,16 +92,16 @@ module _ (w : List ℕ) (c : Counts) (left right : ℕ) where
 
   section_words_lem : Roomy w c → (s : ℕ) → take (extent_of c s) (drop (place_of limits s) w) ≡ section_words claimed s
   unfolding bundle_by header_words tab place_of section_words
-  section_words_lem room zero = section_flat symbol_words 2 symbol_from (λ u. refl) w (symbols_at limits) c.symbols (symbols-fit w c room)
+  section_words_lem room zero = section_flat symbol_words 2 symbol_from (λ u. refl) w (symbols_at limits) c.symbols (symbols_fit w c room)
   section_words_lem room (suc zero) =
       let one : 1 * c.variables ≡ c.variables = omega arith in
-      rw one at (section_flat variable_words 1 (λ u. u 0) (λ u. refl) w (variables_at limits) c.variables (variables-fit w c room))
-  section_words_lem room (suc (suc zero)) = section_flat term_words 4 term_from (λ u. refl) w (terms_at limits) c.terms (terms-fit w c room)
-  section_words_lem room (suc (suc (suc zero))) = section_flat link_words 2 link_from (λ u. refl) w (links_at limits) c.links (links-fit w c room)
+      rw one at (section_flat variable_words 1 (λ u. u 0) (λ u. refl) w (variables_at limits) c.variables (variables_fit w c room))
+  section_words_lem room (suc (suc zero)) = section_flat term_words 4 term_from (λ u. refl) w (terms_at limits) c.terms (terms_fit w c room)
+  section_words_lem room (suc (suc (suc zero))) = section_flat link_words 2 link_from (λ u. refl) w (links_at limits) c.links (links_fit w c room)
   section_words_lem room (suc (suc (suc (suc zero)))) =
-      section_flat context_words 4 context_from (λ u. refl) w (contexts_at limits) c.contexts (contexts-fit w c room)
+      section_flat context_words 4 context_from (λ u. refl) w (contexts_at limits) c.contexts (contexts_fit w c room)
   section_words_lem room (suc (suc (suc (suc (suc zero))))) =
-      section_flat step_words 5 step_from (λ u. refl) w (steps_at limits) c.steps (steps-fit w c room)
+      section_flat step_words 5 step_from (λ u. refl) w (steps_at limits) c.steps (steps_fit w c room)
   section_words_lem room (suc (suc (suc (suc (suc (suc s)))))) = refl
 
   -- the code gives the header as h

@@ -30,7 +30,7 @@ use Rattle.logic.proofs.Tests.{and_left, and_right, same_list_lem}
 use Rattle.logic.proofs.Longer.{longer_refl, longer_trans, list_longer, list_added}
 use Rattle.logic.proofs.Kept.{term_kept, arguments_kept, let_lists_kept}
 use Rattle.filing.specs.Filing.{mix_all, root_digest, let_digest, lookup_digest, Digested, FiledTo, Indexed}
-use Rattle.filing.proofs.Seeks.{seek_from, seek_start, seek-here, seek-on, seek-end}
+use Rattle.filing.proofs.Seeks.{seek_from, seek_start, seek_here, seek_on, seek_end}
 
 all_small : (e : ℕ) (xs : List ℕ) → e < digests → mix_all e xs < digests
 unfolding mix_all
@@ -187,12 +187,12 @@ module _ (b : Bundle) (p : TermRecord → Bool) where
   none_below (suc k) l none =
       let i : suc k + 1 ≡ suc (suc k) = omega arith in
       none_below k (omega arith) (λ j one h. none j one (omega arith))
-      ∙ seek-on p b.terms (length b.terms) refl (suc k) (omega arith) l refl (not-here (p (term_of b (suc k))) (none (suc k) (omega arith) (omega arith)))
+      ∙ seek_on p b.terms (length b.terms) refl (suc k) (omega arith) l refl (not_here (p (term_of b (suc k))) (none (suc k) (omega arith) (omega arith)))
       ∙ ap (seek_from p b.terms) i
     where
-      not-here : (q : Bool) → (q ≡ true → ⊥) → q ≡ false
-      not-here true h = absurd (h refl)
-      not-here false h = refl
+      not_here : (q : Bool) → (q ≡ true → ⊥) → q ≡ false
+      not_here true h = absurd (h refl)
+      not_here false h = refl
 
   pub sought_end : (ix : List ℕ) {h m : ℕ} → SoughtTerm b ix p h m → h ≡ 0 → m ≡ seek p b.terms
   sought_end ix {h} {m} sought z = go sought.found
@@ -201,11 +201,11 @@ module _ (b : Bundle) (p : TermRecord → Bool) where
       go (inl none) =
           let n = length b.terms in
           none ∙ sym (none_below n (omega arith) (λ j one l t. omega (arith, none, (sought_lowest sought z j one l t).0))
-          ∙ seek-end p b.terms n refl (suc n) (omega arith))
+          ∙ seek_end p b.terms n refl (suc n) (omega arith))
       go (inr some) =
           let n = length b.terms in
           let i : suc (m - 1) ≡ m = omega (arith, some.0) in
           sym (none_below (m - 1) (omega (arith, some.1))
           (λ j one l t. omega (arith, some.0, (sought_lowest sought z j one (omega (arith, some.0, some.1)) t).1))
           ∙ ap (seek_from p b.terms) i
-          ∙ seek-here p b.terms n refl m (omega (arith, some.0)) some.1 refl some.2)
+          ∙ seek_here p b.terms n refl m (omega (arith, some.0)) some.1 refl some.2)

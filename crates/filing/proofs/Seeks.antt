@@ -1,6 +1,6 @@
 -- Laws of the first term that passes, for a loop that counts t up from 1 to the number of terms and returns at the first that passes.
 -- `seek_from p rs t` is the first number from t on. A loop's invariant says that the first number of all is that one.
---     seek_start, seek-here, seek-on, seek-end     a loop's start, a term that passes, one that does not, no term left
+--     seek_start, seek_here, seek_on, seek_end     a loop's start, a term that passes, one that does not, no term left
 --     seek_le                                      what is found is a term's number or 0
 use mathlib.Core.Path.{◌≡◌, refl, ◌∙◌}
 use mathlib.Core.Bool.{Bool, true, false, cond}
@@ -44,21 +44,21 @@ module _ (p : TermRecord → Bool) (rs : List TermRecord) where
 
   -- n is the number of terms; the code found m at term t
   module _ (n : ℕ) (count : length rs ≡ n) where
-    pub seek-here : (t : ℕ) → 1 ≤ t → t ≤ n → {m : Bool} → m ≡ p (at no_term rs t) → m ≡ true → seek_from p rs t ≡ t
+    pub seek_here : (t : ℕ) → 1 ≤ t → t ≤ n → {m : Bool} → m ≡ p (at no_term rs t) → m ≡ true → seek_from p rs t ≡ t
     unfolding shift
-    seek-here zero a l e h = absurd (omega arith)
-    seek-here (suc i) a l e h = from_here i (omega arith) ∙ rw (← e, h) (omega arith)
+    seek_here zero a l e h = absurd (omega arith)
+    seek_here (suc i) a l e h = from_here i (omega arith) ∙ rw (← e, h) (omega arith)
 
-    pub seek-on : (t : ℕ) → 1 ≤ t → t ≤ n → {m : Bool} → m ≡ p (at no_term rs t) → m ≡ false → seek_from p rs t ≡ seek_from p rs (t + 1)
+    pub seek_on : (t : ℕ) → 1 ≤ t → t ≤ n → {m : Bool} → m ≡ p (at no_term rs t) → m ≡ false → seek_from p rs t ≡ seek_from p rs (t + 1)
     unfolding seek_from
-    seek-on zero a l e h = absurd (omega arith)
-    seek-on (suc i) a l e h =
+    seek_on zero a l e h = absurd (omega arith)
+    seek_on (suc i) a l e h =
         let q : suc i + 1 - 1 ≡ suc i = omega arith in
         from_here i (omega arith) ∙ rw (← e, h, q) (shift_after i (seek p (drop (suc i) rs)))
 
-    pub seek-end : (t : ℕ) → n < t → seek_from p rs t ≡ 0
+    pub seek_end : (t : ℕ) → n < t → seek_from p rs t ≡ 0
     unfolding seek_from seek shift
-    seek-end t l = rw (drop_of_length-le rs {i = t - 1} (omega arith))
+    seek_end t l = rw (drop_of_length-le rs {i = t - 1} (omega arith))
 
 pub seek_le : (p : TermRecord → Bool) (rs : List TermRecord) → seek p rs ≤ length rs
 unfolding seek

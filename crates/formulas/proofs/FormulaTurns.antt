@@ -1,10 +1,10 @@
 -- Reading a formula: what each return gives, from what its calls gave.
 --     outcome_of_lem, closed_outcome, closed-leaves     a term that was placed; a formula with its closing bracket
---     word-reads, word_leaves                       a word alone
---     application-reads, application_leaves         an application
+--     word_reads, word_leaves                       a word alone
+--     application_reads, application_leaves         an application
 --     quantifier_reads, let_reads                   a quantifier and a let, from inside
 --     nothing_reads, deep_reads, full_leaves        no formula; no level left
---     last_quantified, next-quantified, no_quantified, ..     the variables of a quantifier
+--     last_quantified, next_quantified, no_quantified, ..     the variables of a quantifier
 use Prim.Native.Nat.{ℕ, zero, suc, ◌+◌, ◌≤◌, ◌<◌}
 use native.Mathlib.Omega.{arith}
 use mathlib.Core.Path.{◌≡◌, refl, sym, ap, ◌∙◌, subst}
@@ -15,7 +15,7 @@ use Rattle.bundle.specs.declared.Bundle.{Bundle as Counts}
 use Rattle.bundle.specs.Bundle.{Bundle}
 use Rattle.bundle.specs.File.{bundle_at}
 use Rattle.logic.specs.Symbols.{truth_sort, signature_of, result_sort}
-use Rattle.logic.specs.Terms.{Binder, binder, number_of, Term, Terms, app, bind, letIn, none, more}
+use Rattle.logic.specs.Terms.{Binder, binder, number_of, Term, Terms, app, bind, let_in, none, more}
 use Rattle.scratch.specs.Scratch.{bundle_in}
 use Rattle.scratch.specs.Stack.{halves}
 use Rattle.expansion.specs.Placed.{PlacedTerm, place_application, place_binder}
@@ -25,8 +25,8 @@ use Rattle.grammar.specs.Grammar.{SortedVariable, declares, Formula, called, tru
 use Rattle.grammar.specs.Grammar.{Lexeme, closes, spell, spell_variables}
 use Rattle.reading.specs.Called.{variable_called, symbol_called}
 use Rattle.reading.specs.Typing.{connective_symbol, nested}
-use Rattle.reading.specs.Local.{alone_sort, alone_term, headSort, plain, plain_all, plainBound, bound_names}
-use Rattle.reading.specs.Records.{file, fileAll}
+use Rattle.reading.specs.Local.{alone_sort, alone_term, head_sort, plain, plain_all, plain_bound, bound_names}
+use Rattle.reading.specs.Records.{file, file_all}
 use Rattle.lexing.specs.Counted.{variable_among, symbol_among}
 use Rattle.lexing.specs.Lexes.{part, lexemes_at}
 use Rattle.heads.specs.declared.Head.{Head}
@@ -148,7 +148,7 @@ module _ {text : List ℕ} {i : ℕ} {r : Head} (at : HeadAt text i r) where
   unfolding kind_in
   nothing_reads D {b} {h} {n} {w} n0 n1 n2 n3 = inside_only n0 _ go
     where
-      go : (φ : Bracketed) (rest : List Lexeme) → HeadInside text r φ rest → ReadOutcome text (plain D (bracketed φ)) (headSort D
+      go : (φ : Bracketed) (rest : List Lexeme) → HeadInside text r φ rest → ReadOutcome text (plain D (bracketed φ)) (head_sort D
           (bracketed φ)) rest b h n w ReadTerm.Full
       go (denies φ) rest h = absurd (n1 h.kind)
       go (connects c φ ψ) rest h = absurd (n1 h.kind)
@@ -165,64 +165,64 @@ module _ {text : List ℕ} {i : ℕ} {r : Head} (at : HeadAt text i r) where
     abbrev D : Bundle
     D = bundle_at f k
 
-    abbrev itsVariable : ℕ
-    itsVariable = variable_among k.variables its_word
+    abbrev its_variable : ℕ
+    its_variable = variable_among k.variables its_word
 
-    abbrev itsSymbol : ℕ → ℕ
-    itsSymbol s = symbol_for k.symbols (word_of its_word) s
+    abbrev its_symbol : ℕ → ℕ
+    its_symbol s = symbol_for k.symbols (word_of its_word) s
 
-    pub word-reads : {b : Bundle} {h n : ℕ} {w : List ℕ} {res : ReadTerm} → r.kind ≡ 0
-        → TermOutcome (file (alone_term itsVariable (itsSymbol 0)) b) (alone_sort D itsVariable (itsSymbol 0)) r.inside w res
+    pub word_reads : {b : Bundle} {h n : ℕ} {w : List ℕ} {res : ReadTerm} → r.kind ≡ 0
+        → TermOutcome (file (alone_term its_variable (its_symbol 0)) b) (alone_sort D its_variable (its_symbol 0)) r.inside w res
         → Reads D text b h i n w res
-    unfolding plain headSort alone_term alone_sort symbol_for
-    word-reads {b} {h} {n} {w} {res} e o = word_only e _
+    unfolding plain head_sort alone_term alone_sort symbol_for
+    word_reads {b} {h} {n} {w} {res} e o = word_only e _
         (λ v rest s.
         let same : its_word ≡ v = name_is its_word v s.word in
-        let x : itsVariable ≡ variable_called D v = ap (variable_among k.variables) same ∙ variable_called_lem f k v in
-        let g : itsSymbol 0 ≡ symbol_called D v = ap (λ m. symbol_for k.symbols m 0) s.word ∙ symbol_called_lem f k v in
-        outcome_of_lem (alone_term (variable_called D v) (symbol_called D v)) b (with-numbers x g) s.inside)
+        let x : its_variable ≡ variable_called D v = ap (variable_among k.variables) same ∙ variable_called_lem f k v in
+        let g : its_symbol 0 ≡ symbol_called D v = ap (λ m. symbol_for k.symbols m 0) s.word ∙ symbol_called_lem f k v in
+        outcome_of_lem (alone_term (variable_called D v) (symbol_called D v)) b (with_numbers x g) s.inside)
         (λ v rest s.
-        let x : itsVariable ≡ 0 = constant_none k.variables v its_word s.word in
-        let g : itsSymbol 0 ≡ cond v 1 2 = ap (λ m. symbol_for k.symbols m 0) s.word in
+        let x : its_variable ≡ 0 = constant_none k.variables v its_word s.word in
+        let g : its_symbol 0 ≡ cond v 1 2 = ap (λ m. symbol_for k.symbols m 0) s.word in
         outcome_of_lem (alone_term 0 (cond v 1 2)) b
-        (subst (λ (z : ℕ). TermOutcome (file (alone_term 0 (cond v 1 2)) b) z r.inside w res) (constant_sort D v) (with-numbers x g)) s.inside)
+        (subst (λ (z : ℕ). TermOutcome (file (alone_term 0 (cond v 1 2)) b) z r.inside w res) (constant_sort D v) (with_numbers x g)) s.inside)
       where
-        with-numbers : {x g : ℕ} → itsVariable ≡ x → itsSymbol 0 ≡ g → TermOutcome (file (alone_term x g) b) (alone_sort D x g) r.inside w res
-        with-numbers {x} {g} ex eg =
+        with_numbers : {x g : ℕ} → its_variable ≡ x → its_symbol 0 ≡ g → TermOutcome (file (alone_term x g) b) (alone_sort D x g) r.inside w res
+        with_numbers {x} {g} ex eg =
             subst (λ (y : ℕ). TermOutcome (file (alone_term y g) b) (alone_sort D y g) r.inside w res) ex
-            (subst (λ (y : ℕ). TermOutcome (file (alone_term itsVariable y) b) (alone_sort D itsVariable y) r.inside w res) eg o)
+            (subst (λ (y : ℕ). TermOutcome (file (alone_term its_variable y) b) (alone_sort D its_variable y) r.inside w res) eg o)
 
     -- ---- an application, from its parts
 
     module _ {b : Bundle} {h n : ℕ} {w1 st1 w2 : List ℕ} {parts : ReadParts} {res : ReadTerm} (full : parts ≡ ReadParts.Full → res ≡ ReadTerm.Full)
         (done : (c : Counts) (top s e : ℕ) → parts ≡ ReadParts.Done c top s e
-        → TermOutcome (place_application (bundle_in w1 c) (itsSymbol s) (halves true st1 h top)) (result_sort D (signature_of D (itsSymbol s))) e w2 res) where
-      applied : {ts : Terms} {vs : List ℕ} {m s : ℕ} {ls : List Lexeme} → PartsOutcome text ts vs m s ls b h n w1 st1 parts → (g : ℕ) → itsSymbol s ≡ g
+        → TermOutcome (place_application (bundle_in w1 c) (its_symbol s) (halves true st1 h top)) (result_sort D (signature_of D (its_symbol s))) e w2 res) where
+      applied : {ts : Terms} {vs : List ℕ} {m s : ℕ} {ls : List Lexeme} → PartsOutcome text ts vs m s ls b h n w1 st1 parts → (g : ℕ) → its_symbol s ≡ g
           → ReadOutcome text (app g ts) (result_sort D (signature_of D g)) ls b h (suc n) w2 res
       unfolding file
       applied {ts} {vs} {m} {s} (PartsOutcome.done c e d now terms vars l) g eg =
           let o = done c (h + m) s e d in
-          let o1 = subst (λ (y : Bundle). TermOutcome (place_application y (itsSymbol s) (halves true st1 h (h + m)))
-          (result_sort D (signature_of D (itsSymbol s))) e w2 res) now o in
-          let o2 = subst (λ (y : List ℕ). TermOutcome (place_application (fileAll ts b).bundle (itsSymbol s) y)
-          (result_sort D (signature_of D (itsSymbol s))) e w2 res) terms o1 in
-          outcome_of_lem (app g ts) b (subst (λ (y : ℕ). TermOutcome (place_application (fileAll ts b).bundle y (fileAll ts b).terms)
+          let o1 = subst (λ (y : Bundle). TermOutcome (place_application y (its_symbol s) (halves true st1 h (h + m)))
+          (result_sort D (signature_of D (its_symbol s))) e w2 res) now o in
+          let o2 = subst (λ (y : List ℕ). TermOutcome (place_application (file_all ts b).bundle (its_symbol s) y)
+          (result_sort D (signature_of D (its_symbol s))) e w2 res) terms o1 in
+          outcome_of_lem (app g ts) b (subst (λ (y : ℕ). TermOutcome (place_application (file_all ts b).bundle y (file_all ts b).terms)
           (result_sort D (signature_of D y)) e w2 res) eg o2) l
       applied {ts} (PartsOutcome.full o d) g eg = ReadOutcome.full (applied_large g ts o) (full d)
 
-      pub application-reads : {n₁ : ℕ} → n₁ ≡ suc n → r.kind ≡ 1 → ReadsParts D text b h r.inside n false false 0 w1 st1 parts
+      pub application_reads : {n₁ : ℕ} → n₁ ≡ suc n → r.kind ≡ 1 → ReadsParts D text b h r.inside n false false 0 w1 st1 parts
           → Reads D text b h i n₁ w2 res
-      unfolding plain headSort symbol_for terms_of first_sort
-      application-reads {n₁} en e gave = inside_only (λ z. omega (arith, e, z)) _ (λ φ rest s. at_levels en (go φ rest s))
+      unfolding plain head_sort symbol_for terms_of first_sort
+      application_reads {n₁} en e gave = inside_only (λ z. omega (arith, e, z)) _ (λ φ rest s. at_levels en (go φ rest s))
         where
           go : (φ : Bracketed) (rest : List Lexeme) → HeadInside text r φ rest
-              → ReadOutcome text (plain D (bracketed φ)) (headSort D (bracketed φ)) rest b h (suc n) w2 res
-          go (denies φ) rest s = applied (gave _ rest s.inside) 3 (ap (λ m. symbol_for k.symbols m (headSort D φ)) s.word)
+              → ReadOutcome text (plain D (bracketed φ)) (head_sort D (bracketed φ)) rest b h (suc n) w2 res
+          go (denies φ) rest s = applied (gave _ rest s.inside) 3 (ap (λ m. symbol_for k.symbols m (head_sort D φ)) s.word)
           go (connects c φ ψ) rest s =
-              applied (gave _ rest s.inside) (connective_symbol c (headSort D φ)) (ap (λ m. symbol_for k.symbols m (headSort D φ)) s.word)
+              applied (gave _ rest s.inside) (connective_symbol c (head_sort D φ)) (ap (λ m. symbol_for k.symbols m (head_sort D φ)) s.word)
           go (applies g φ φs) rest s =
               let o = gave (record { called = []; formula = φ } ∷ arguments φs) rest s.inside in
-              let z = applied o (symbol_called D g) (ap (λ m. symbol_for k.symbols m (headSort D φ)) s.word ∙ symbol_called_lem f k g) in
+              let z = applied o (symbol_called D g) (ap (λ m. symbol_for k.symbols m (head_sort D φ)) s.word ∙ symbol_called_lem f k g) in
               subst (λ (ts : Terms). ReadOutcome text (app (symbol_called D g) (more (plain D φ) ts)) (result_sort D (signature_of D (symbol_called D g))) rest b h
               (suc n) w2 res) (terms_arguments D φs) z
           go (quantifies q x xs φ) rest s = absurd (omega (arith, e, s.kind))
@@ -233,11 +233,11 @@ module _ {text : List ℕ} {i : ℕ} {r : Head} (at : HeadAt text i r) where
   pub quantifier_reads : (D : Bundle) {b : Bundle} {h n q : ℕ} {w : List ℕ} {res : ReadTerm} → r.kind ≡ 2
       → ((p : Binder) → word_of its_word ≡ quantifier p → q ≡ number_of (binder p))
       → ReadsQuantified D text b h r.inside n q w res → Reads D text b h i n w res
-  unfolding plain headSort sort_under
+  unfolding plain head_sort sort_under
   quantifier_reads D {b} {h} {n} {q} {w} {res} e is gave = inside_only (λ z. omega (arith, e, z)) _ go
     where
       go : (φ : Bracketed) (rest : List Lexeme) → HeadInside text r φ rest
-          → ReadOutcome text (plain D (bracketed φ)) (headSort D (bracketed φ)) rest b h n w res
+          → ReadOutcome text (plain D (bracketed φ)) (head_sort D (bracketed φ)) rest b h n w res
       go (denies φ) rest s = absurd (omega (arith, e, s.kind))
       go (connects c φ ψ) rest s = absurd (omega (arith, e, s.kind))
       go (applies g φ φs) rest s = absurd (omega (arith, e, s.kind))
@@ -246,11 +246,11 @@ module _ {text : List ℕ} {i : ℕ} {r : Head} (at : HeadAt text i r) where
 
   pub let_reads : (D : Bundle) {b : Bundle} {h n n₁ : ℕ} {w : List ℕ} {res : ReadTerm} → n₁ ≡ suc n → r.kind ≡ 3
       → ReadsLet D text b h r.inside n w res → Reads D text b h i n₁ w res
-  unfolding plain headSort terms_of
+  unfolding plain head_sort terms_of
   let_reads D {b} {h} {n} {n₁} {w} {res} en e gave = inside_only (λ z. omega (arith, e, z)) _ (λ φ rest s. at_levels en (go φ rest s))
     where
       go : (φ : Bracketed) (rest : List Lexeme) → HeadInside text r φ rest
-          → ReadOutcome text (plain D (bracketed φ)) (headSort D (bracketed φ)) rest b h (suc n) w res
+          → ReadOutcome text (plain D (bracketed φ)) (head_sort D (bracketed φ)) rest b h (suc n) w res
       go (denies φ) rest s = absurd (omega (arith, e, s.kind))
       go (connects c φ ψ) rest s = absurd (omega (arith, e, s.kind))
       go (applies g φ φs) rest s = absurd (omega (arith, e, s.kind))
@@ -259,11 +259,11 @@ module _ {text : List ℕ} {i : ℕ} {r : Head} (at : HeadAt text i r) where
           let o = gave (record { called = x; formula = φ } ∷ pairs xs) ψ rest s.inside in
           let vs = variables_pairs D xs in
           let ts = terms_pairs D xs in
-          subst (λ (us : Terms). ReadOutcome text (letIn (variable_called D x ∷ bound_names D xs) (more (plain D φ) us) (plain D ψ)) (headSort D ψ) rest b h
+          subst (λ (us : Terms). ReadOutcome text (let_in (variable_called D x ∷ bound_names D xs) (more (plain D φ) us) (plain D ψ)) (head_sort D ψ) rest b h
           (suc n) w
           res) ts
-          (subst (λ (us : List ℕ). ReadOutcome text (letIn (variable_called D x ∷ us) (more (plain D φ) (terms_of D (pairs xs))) (plain D ψ))
-          (headSort D ψ) rest b h
+          (subst (λ (us : List ℕ). ReadOutcome text (let_in (variable_called D x ∷ us) (more (plain D φ) (terms_of D (pairs xs))) (plain D ψ))
+          (head_sort D ψ) rest b h
           (suc n) w res) vs o)
 
 -- ---- what is left after a word and after an application
@@ -327,17 +327,17 @@ module _ (f : List ℕ) (k : Counts) {text : List ℕ} {i : ℕ} {item : Item} (
         outcome_of_lem (bind p x τ) b (subst (λ (y : ℕ). TermOutcome (place_binder (file τ b).bundle p y (file τ b).term) 0 e w2 res) v o) l
     bound {b} {h} {n} {τ} p x is v (ReadOutcome.full o d) = ReadOutcome.full (bound_large p x τ o) (full d)
 
-    pub next-quantified : {b : Bundle} {h n n₁ : ℕ} → n₁ ≡ suc n → item.last ≡ false → ReadsQuantified E text b h item.end n q w1 body
+    pub next_quantified : {b : Bundle} {h n n₁ : ℕ} → n₁ ≡ suc n → item.last ≡ false → ReadsQuantified E text b h item.end n q w1 body
         → ReadsQuantified E text b h i n₁ q w2 res
     unfolding nested sort_under
-    next-quantified en e gave p [] φ rest is l = absurd (true≢false (sym (at.means [] (spell φ (closes ∷ rest)) l).last ∙ e))
-    next-quantified en e gave p (declares x s ∷ xs) φ rest is l =
+    next_quantified en e gave p [] φ rest is l = absurd (true≢false (sym (at.means [] (spell φ (closes ∷ rest)) l).last ∙ e))
+    next_quantified en e gave p (declares x s ∷ xs) φ rest is l =
         let m = at.means (declares x s ∷ xs) (spell φ (closes ∷ rest)) l in
         at_levels en (bound p (variable_called E x) is (m.variable ∙ variable_called_lem f k x) (gave p xs φ rest is m.after))
 
-    pub next-leaves : {w st : List ℕ} {h : ℕ} {st1 ix1 ix2 : List ℕ} → item.last ≡ false → (p : Binder) → q ≡ number_of (binder p)
+    pub next_leaves : {w st : List ℕ} {h : ℕ} {st1 ix1 ix2 : List ℕ} → item.last ≡ false → (p : Binder) → q ≡ number_of (binder p)
         → Leaves text w st h item.end w1 st1 ix1 body → length w2 ≡ length w1 → TermHeld w2 ix2 res → Leaves text w st h i w2 st1 ix2 res
-    next-leaves {w} {st} {h} {st1} {ix1} {ix2} e p is left long held = record {
+    next_leaves {w} {st} {h} {st1} {ix1} {ix2} e p is left long held = record {
       long = long ∙ left.long;
       kept = left.kept;
       held = held;

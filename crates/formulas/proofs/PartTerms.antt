@@ -16,9 +16,9 @@ use Rattle.bundle.proofs.Fields.{symbols_length, variables_length}
 use Rattle.logic.specs.Symbols.{truth_sort, signature_of, result_sort, kind_of_symbol, symbol_kind, signature}
 use Rattle.logic.specs.Terms.{Term, Terms, none, more}
 use Rattle.grammar.specs.Bytes.{Word, constant, negation, connective, quantifier, letting, sort, name, bytes, twelve, word_of}
-use Rattle.grammar.specs.Grammar.{Formulas, noFormula, andFormula, Bindings, noBinding, andBinding}
+use Rattle.grammar.specs.Grammar.{Formulas, no_formula, and_formula, Bindings, no_binding, and_binding}
 use Rattle.reading.specs.Called.{variable_called, symbol_called, number_after}
-use Rattle.reading.specs.Local.{plain, plain_all, plainBound, bound_names}
+use Rattle.reading.specs.Local.{plain, plain_all, plain_bound, bound_names}
 use Rattle.lexing.specs.Counted.{number_within, variable_among, symbol_among}
 use Rattle.lexing.proofs.NumeralLaws.{counts_suffice}
 use Rattle.heads.specs.Places.{Part, arguments, pairs}
@@ -28,18 +28,18 @@ use Rattle.formulas.specs.ReadGives.{terms_of, variable_of}
 
 pub terms_arguments : (D : Bundle) (φs : Formulas) → terms_of D (arguments φs) ≡ plain_all D φs
 unfolding terms_of arguments plain
-terms_arguments D noFormula = refl
-terms_arguments D (andFormula φ φs) = ap (more (plain D φ)) (terms_arguments D φs)
+terms_arguments D no_formula = refl
+terms_arguments D (and_formula φ φs) = ap (more (plain D φ)) (terms_arguments D φs)
 
-pub terms_pairs : (D : Bundle) (xs : Bindings) → terms_of D (pairs xs) ≡ plainBound D xs
+pub terms_pairs : (D : Bundle) (xs : Bindings) → terms_of D (pairs xs) ≡ plain_bound D xs
 unfolding terms_of pairs plain
-terms_pairs D noBinding = refl
-terms_pairs D (andBinding x φ xs) = ap (more (plain D φ)) (terms_pairs D xs)
+terms_pairs D no_binding = refl
+terms_pairs D (and_binding x φ xs) = ap (more (plain D φ)) (terms_pairs D xs)
 
 pub variables_pairs : (D : Bundle) (xs : Bindings) → map (variable_of D true) (pairs xs) ≡ bound_names D xs
 unfolding pairs bound_names
-variables_pairs D noBinding = refl
-variables_pairs D (andBinding x φ xs) = ap (λ (vs : List ℕ). variable_called D x ∷ vs) (variables_pairs D xs)
+variables_pairs D no_binding = refl
+variables_pairs D (and_binding x φ xs) = ap (λ (vs : List ℕ). variable_called D x ∷ vs) (variables_pairs D xs)
 
 pub terms_count : (D : Bundle) (ps : List Part) → count (terms_of D ps) ≡ length ps
 unfolding count terms_of

@@ -1,7 +1,7 @@
 -- Reading parts, turn by turn: what answers from here on answers the whole.
 --     Given                                       all that reading parts gives
---     parts_end, no-more-places                   the list's end; no place for a pair
---     part-full, part-asks, part_more             a part's formula did not fit; the call for the others; the parts, from the first and the others
+--     parts_end, no_more_places                   the list's end; no place for a pair
+--     part_full, part_asks, part_more             a part's formula did not fit; the call for the others; the parts, from the first and the others
 --     Going, going-first, going-on                the loop's invariant
 --     let_full, let_asks, let_gives               a let, from its pairs and its body
 use Prim.Native.Nat.{ℕ, zero, suc, ◌+◌, ◌≤◌, ◌<◌}
@@ -14,7 +14,7 @@ use Rattle.bundle.specs.declared.Bundle.{Bundle as Counts}
 use Rattle.bundle.specs.Bundle.{Bundle}
 use Rattle.bundle.specs.File.{bundle_at}
 use Rattle.bundle.specs.Limits.{limits}
-use Rattle.logic.specs.Terms.{Term, Terms, letIn, none, more}
+use Rattle.logic.specs.Terms.{Term, Terms, let_in, none, more}
 use Rattle.scratch.specs.Scratch.{bundle_in}
 use Rattle.scratch.specs.Stack.{half_of, halves}
 use Rattle.scratch.proofs.Halves.{halves_none}
@@ -23,8 +23,8 @@ use Rattle.placing.specs.Outcomes.{StackKept}
 use Rattle.placing.proofs.Pairs.{Pair, below_same, below_trans, below_set, below_halves, halves_first}
 use Rattle.grammar.specs.Grammar.{Formula, Lexeme, closes, spell}
 use Rattle.reading.specs.Called.{variable_called}
-use Rattle.reading.specs.Local.{headSort, plain}
-use Rattle.reading.specs.Records.{file, fileAll}
+use Rattle.reading.specs.Local.{head_sort, plain}
+use Rattle.reading.specs.Records.{file, file_all}
 use Rattle.lexing.specs.Lexes.{lexemes_at}
 use Rattle.heads.specs.declared.Item.{Item}
 use Rattle.heads.specs.Places.{Part, after_part, spell_parts, Ends, GoesOn, PartOf, PartAt, PartEnd}
@@ -35,7 +35,7 @@ use Rattle.endings.proofs.EndingLaws.{not_both, parts_not_both, told, parts_told
 use Rattle.formulas.specs.Pending.{count}
 use Rattle.formulas.specs.ReadGives.{terms_of, variable_of, first_sort, TooLarge, ReadOutcome, PartsOutcome, Asks, Leaves, LeavesParts, Reads, ReadsLet}
 use Rattle.formulas.specs.ReadGives.{ReadsParts}
-use Rattle.formulas.proofs.Sizes.{no_place, first_large, rest_large, pairs-large, body-large}
+use Rattle.formulas.proofs.Sizes.{no_place, first_large, rest_large, pairs_large, body_large}
 use Rattle.formulas.proofs.PartTerms.{variable_called_lem, terms_count}
 use Rattle.formulas.proofs.FormulaTurns.{outcome_of_lem, ends_at, closed_outcome, closed_held, closed_further}
 
@@ -54,7 +54,7 @@ unfolding first_sort
 first_none D true s = refl
 first_none D false s = refl
 
-first_of : (D : Bundle) (known : Bool) (s own : ℕ) (p : Part) (ps : List Part) → own ≡ headSort D p.formula
+first_of : (D : Bundle) (known : Bool) (s own : ℕ) (p : Part) (ps : List Part) → own ≡ head_sort D p.formula
     → first_sort D true (cond known s own) ps ≡ first_sort D known s (p ∷ ps)
 unfolding first_sort
 first_of D true s own p ps e = refl
@@ -105,12 +105,12 @@ module _ (f : List ℕ) (k : Counts) (text : List ℕ) (n : ℕ) (bound : Bool) 
   module _ {w st ix : List ℕ} {c : Counts} {h i : ℕ} (asks : Asks text w st ix c h i) {item : Item} (at : PartAt text k.variables bound i item)
       (known : Bool) (s : ℕ)
     where
-      not-ended : item.last ≡ false → (P : List Part → List Lexeme → Type 0)
+      not_ended : item.last ≡ false → (P : List Part → List Lexeme → Type 0)
           → ((p : Part) (ps : List Part) (rest : List Lexeme)
           → GoesOn text item (variable_of D bound p) (spell p.formula (after_part bound (spell_parts bound ps rest))) → P (p ∷ ps) rest)
           → (ps : List Part) (rest : List Lexeme) → lexemes_at text i ≡ spell_parts bound ps rest → P ps rest
-      not-ended e P g [] rest l = absurd (true≢false (sym (at.means [] rest l).last ∙ e))
-      not-ended e P g (p ∷ ps) rest l =
+      not_ended e P g [] rest l = absurd (true≢false (sym (at.means [] rest l).last ∙ e))
+      not_ended e P g (p ∷ ps) rest l =
           let m = at.means (p ∷ ps) rest l in
           g p ps rest (record { last = m.last; variable = m.variable ∙ ap (λ (x : ℕ). cond bound x 0) (variable_called_lem f k p.called); after = m.after })
 
@@ -139,26 +139,26 @@ module _ (f : List ℕ) (k : Counts) (text : List ℕ) (n : ℕ) (bound : Bool) 
           go (p ∷ ps) rest l = absurd (true≢false (sym e ∙ (at.means (p ∷ ps) rest l).last))
 
       -- no place for a pair
-      pub no-more-places : item.last ≡ false → limits.links ≤ h → Given w st c h i known s w st ix ReadParts.Full
+      pub no_more_places : item.last ≡ false → limits.links ≤ h → Given w st c h i known s w st ix ReadParts.Full
       unfolding terms_of
-      no-more-places e l = record {
+      no_more_places e l = record {
         leaves = full_leaves refl (below_same st h);
-        reads = not-ended e _ (λ p ps rest m. PartsOutcome.full (no_place (plain D p.formula) (terms_of D ps) l) refl);
+        reads = not_ended e _ (λ p ps rest m. PartsOutcome.full (no_place (plain D p.formula) (terms_of D ps) l) refl);
       }
 
       module _ (on : item.last ≡ false) (room : h < limits.links) {w1 st1 ix1 : List ℕ} {read : ReadTerm} (left : Leaves text w st h
           item.end w1 st1 ix1 read)
           (gave : Reads D text (bundle_in w c) h item.end n w1 read) where
         -- the part's formula did not fit
-        pub part-full : read ≡ ReadTerm.Full → Given w st c h i known s w1 st1 ix1 ReadParts.Full
+        pub part_full : read ≡ ReadTerm.Full → Given w st c h i known s w1 st1 ix1 ReadParts.Full
         unfolding terms_of
-        part-full e = record {
+        part_full e = record {
           leaves = full_leaves left.long left.kept;
-          reads = not-ended on _ (λ p ps rest m. go p ps rest (gave p.formula _ m.after));
+          reads = not_ended on _ (λ p ps rest m. go p ps rest (gave p.formula _ m.after));
         }
           where
             go : (p : Part) (ps : List Part) (rest : List Lexeme)
-                → ReadOutcome text (plain D p.formula) (headSort D p.formula) (after_part bound (spell_parts bound ps rest)) (bundle_in w c) h n w1 read
+                → ReadOutcome text (plain D p.formula) (head_sort D p.formula) (after_part bound (spell_parts bound ps rest)) (bundle_in w c) h n w1 read
                 → PartsOutcome text (terms_of D (p ∷ ps)) (map (variable_of D bound) (p ∷ ps)) (length (p ∷ ps)) (first_sort D known s (p ∷ ps)) rest
                 (bundle_in w c) h n w1
                 st1 ReadParts.Full
@@ -169,24 +169,24 @@ module _ (f : List ℕ) (k : Counts) (text : List ℕ) (n : ℕ) (bound : Bool) 
           pub part_word : t ≤ 4294967295
           part_word = left.held.word c1 t own e is
 
-          pub part-inside : e ≤ length text
-          part-inside = (left.further c1 t own e is).1
+          pub part_inside : e ≤ length text
+          part_inside = (left.further c1 t own e is).1
 
           pub part_room : h < length st1
           part_room = omega (arith, room, asks.places, left.kept.long)
 
           module _ {pair : ℕ} (packed : Pair pair t item.variable) {after : ℕ} (end : PartEnd text bound e after) where
             -- the call for the others
-            pub part-asks : Asks text w1 (set st1 h pair) ix1 c1 (h + 1) after
-            part-asks = record {
+            pub part_asks : Asks text w1 (set st1 h pair) ix1 c1 (h + 1) after
+            part_asks = record {
               held = left.held.held c1 t own e is;
               places = omega (arith, length-set st1 h pair, left.kept.long, asks.places);
               height = omega (arith, room);
               here = end.within;
             }
 
-            pub part-later : item.end < after
-            part-later = omega (arith, (left.further c1 t own e is).0, end.after)
+            pub part_later : item.end < after
+            part_later = omega (arith, (left.further c1 t own e is).0, end.after)
 
             -- the parts, from the first and the others
             pub part_more : {w' st' ix' : List ℕ} {r : ReadParts} → Given w1 (set st1 h pair) c1 (h + 1) after true (cond known s own) w' st' ix' r
@@ -201,20 +201,20 @@ module _ (f : List ℕ) (k : Counts) (text : List ℕ) (n : ℕ) (bound : Bool) 
                   places = λ c' t' s' e' d. let z = g.leaves.held.places c' t' s' e' d in (omega (arith, z.0), z.1);
                 };
                 height = g.leaves.height;
-                further = λ c' t' s' e' d. let z = g.leaves.further c' t' s' e' d in (omega (arith, z.0, at.item.after, part-later), z.1);
+                further = λ c' t' s' e' d. let z = g.leaves.further c' t' s' e' d in (omega (arith, z.0, at.item.after, part_later), z.1);
               };
-              reads = not-ended on _ (λ p ps rest m. go p ps rest m.variable (gave p.formula _ m.after));
+              reads = not_ended on _ (λ p ps rest m. go p ps rest m.variable (gave p.formula _ m.after));
             }
               where
                 go : (p : Part) (ps : List Part) (rest : List Lexeme) → item.variable ≡ variable_of D bound p
-                    → ReadOutcome text (plain D p.formula) (headSort D p.formula) (after_part bound (spell_parts bound ps rest)) (bundle_in w c) h n w1 read
+                    → ReadOutcome text (plain D p.formula) (head_sort D p.formula) (after_part bound (spell_parts bound ps rest)) (bundle_in w c) h n w1 read
                     → PartsOutcome text (terms_of D (p ∷ ps)) (map (variable_of D bound) (p ∷ ps)) (length (p ∷ ps)) (first_sort D known s (p ∷ ps)) rest
                     (bundle_in w c) h n
                     w' st' r
                 go p ps rest v (ReadOutcome.done c' e' d now l) =
                     let ec : c1 ≡ c' = cc in
                     let et : t ≡ (file (plain D p.formula) (bundle_in w c)).term = cc in
-                    let es : own ≡ headSort D p.formula = cc in
+                    let es : own ≡ head_sort D p.formula = cc in
                     let ee : e ≡ e' = cc in
                     one_more st1 (ap (bundle_in w1) ec ∙ now) (record { upper = packed.upper; lower = packed.lower ∙ v }) et
                     (first_of D known s own p ps es) part_room
@@ -245,9 +245,9 @@ module _ (D : Bundle) {text w st : List ℕ} {b : Bundle} {h i n : ℕ} {w1 st1 
     where
       go : (ps : List Part) (φ : Formula) (rest : List Lexeme)
           → PartsOutcome text (terms_of D ps) (map (variable_of D true) ps) (length ps) (first_sort D false 0 ps) (spell φ (closes ∷ rest)) b h n w1 st1 parts
-          → ReadOutcome text (letIn (map (variable_of D true) ps) (terms_of D ps) (plain D φ)) (headSort D φ) rest b h (suc n) w1 ReadTerm.Full
+          → ReadOutcome text (let_in (map (variable_of D true) ps) (terms_of D ps) (plain D φ)) (head_sort D φ) rest b h (suc n) w1 ReadTerm.Full
       go ps φ rest (PartsOutcome.done c' e' d now terms vars l) = absurd (parts_not_both e d)
-      go ps φ rest (PartsOutcome.full o d) = ReadOutcome.full (pairs-large (map (variable_of D true) ps) (terms_of D ps) (plain D φ) o) refl
+      go ps φ rest (PartsOutcome.full o d) = ReadOutcome.full (pairs_large (map (variable_of D true) ps) (terms_of D ps) (plain D φ) o) refl
 
   module _ {c1 : Counts} {top first e1 : ℕ} (is : parts ≡ ReadParts.Done c1 top first e1) (places : limits.links ≤ length st) where
     -- the call for its body
@@ -259,14 +259,14 @@ module _ (D : Bundle) {text w st : List ℕ} {b : Bundle} {h i n : ℕ} {w1 st1 
       here = (leaves.further c1 top first e1 is).1;
     }
 
-    pub let-later : i ≤ e1
-    let-later = (leaves.further c1 top first e1 is).0
+    pub let_later : i ≤ e1
+    let_later = (leaves.further c1 top first e1 is).0
 
     module _ {w2 st2 ix2 : List ℕ} {body whole : ReadTerm} (left : Leaves text w1 st1 top e1 w2 st2 ix2 body)
         (gave : Reads D text (bundle_in w1 c1) top e1 n w2 body) (closed : Closed text body whole) where
       -- the call that closes it
-      pub let-held : TermHeld w2 ix2 whole × (h ≤ top) × (top ≤ length st2)
-      let-held =
+      pub let_held : TermHeld w2 ix2 whole × (h ≤ top) × (top ≤ length st2)
+      let_held =
           let z = leaves.held.places c1 top first e1 is in
           (closed_held left.held closed, z.0, omega (arith, z.1, left.kept.long))
 
@@ -274,31 +274,31 @@ module _ (D : Bundle) {text w st : List ℕ} {b : Bundle} {h i n : ℕ} {w1 st1 
           → res ≡ ReadTerm.Full)
           (done : (c : Counts) (t s e : ℕ) → whole ≡ ReadTerm.Done c t s e
           → TermOutcome (place_let (bundle_in w2 c) (halves false st2 h top) (halves true st2 h top) t) s e w3 res) where
-        halves-kept : (u : Bool) → halves u st2 h top ≡ halves u st1 h top
-        halves-kept u = below_halves left.kept u h (leaves.held.places c1 top first e1 is).1
+        halves_kept : (u : Bool) → halves u st2 h top ≡ halves u st1 h top
+        halves_kept u = below_halves left.kept u h (leaves.held.places c1 top first e1 is).1
 
         -- the let, where its pairs are those of the parts ps
-        let-outcome : {ts : Terms} {vs : List ℕ} {τ : Term} {s : ℕ} {rest : List Lexeme} → top ≡ h + count ts
-            → halves true st1 h top ≡ (fileAll ts b).terms → halves false st1 h top ≡ vs → ReadOutcome text τ s rest (fileAll ts b).bundle top n w2 whole
-            → ReadOutcome text (letIn vs ts τ) s rest b h (suc n) w3 res
+        let_outcome : {ts : Terms} {vs : List ℕ} {τ : Term} {s : ℕ} {rest : List Lexeme} → top ≡ h + count ts
+            → halves true st1 h top ≡ (file_all ts b).terms → halves false st1 h top ≡ vs → ReadOutcome text τ s rest (file_all ts b).bundle top n w2 whole
+            → ReadOutcome text (let_in vs ts τ) s rest b h (suc n) w3 res
         unfolding file
-        let-outcome {ts} {vs} {τ} {s} {rest} et terms vars (ReadOutcome.done c' e d now l) =
-            let o = done c' (file τ (fileAll ts b).bundle).term s e d in
+        let_outcome {ts} {vs} {τ} {s} {rest} et terms vars (ReadOutcome.done c' e d now l) =
+            let o = done c' (file τ (file_all ts b).bundle).term s e d in
             let o1 = subst (λ (y : Bundle). TermOutcome (place_let y (halves false st2 h top) (halves true st2 h top) (file τ
-            (fileAll ts b).bundle).term) s e w3 res)
+            (file_all ts b).bundle).term) s e w3 res)
             now o in
             let o2 = subst (λ (y : List ℕ). TermOutcome
-            (place_let (file τ (fileAll ts b).bundle).bundle y (halves true st2 h top) (file τ (fileAll ts b).bundle).term) s e w3 res) (halves-kept false
+            (place_let (file τ (file_all ts b).bundle).bundle y (halves true st2 h top) (file τ (file_all ts b).bundle).term) s e w3 res) (halves_kept false
             ∙ vars) o1 in
-            outcome_of_lem (letIn vs ts τ) b (subst (λ (y : List ℕ). TermOutcome
-            (place_let (file τ (fileAll ts b).bundle).bundle vs y (file τ (fileAll ts b).bundle).term) s e w3 res) (halves-kept true ∙ terms) o2) l
-        let-outcome {ts} {vs} {τ} et terms vars (ReadOutcome.full o d) = ReadOutcome.full (body-large vs ts τ et o) (full d)
+            outcome_of_lem (let_in vs ts τ) b (subst (λ (y : List ℕ). TermOutcome
+            (place_let (file τ (file_all ts b).bundle).bundle vs y (file τ (file_all ts b).bundle).term) s e w3 res) (halves_kept true ∙ terms) o2) l
+        let_outcome {ts} {vs} {τ} et terms vars (ReadOutcome.full o d) = ReadOutcome.full (body_large vs ts τ et o) (full d)
 
         pub let_gives : Leaves text w st h i w3 st2 ix3 res × ReadsLet D text b h i n w3 res
         let_gives = (
           record {
             long = long ∙ left.long ∙ leaves.long;
-            kept = below_trans let-held.1 leaves.kept left.kept;
+            kept = below_trans let_held.1 leaves.kept left.kept;
             held = held;
             further = λ c t s e d. ends whole refl c t s e d;
           },
@@ -310,18 +310,18 @@ module _ (D : Bundle) {text w st : List ℕ} {b : Bundle} {h i n : ℕ} {w1 st1 
             ends (ReadTerm.Done c₂ t₂ s₂ e₂) x c t s e d =
                 let j = ends_at (done c₂ t₂ s₂ e₂ x) c t s e d in
                 let g = closed_further left.further closed c₂ t₂ s₂ e₂ x in
-                (omega (arith, j, let-later, g.0), omega (arith, j, g.1))
+                (omega (arith, j, let_later, g.0), omega (arith, j, g.1))
 
             go : (ps : List Part) (φ : Formula) (rest : List Lexeme)
                 → PartsOutcome text (terms_of D ps) (map (variable_of D true) ps) (length ps) (first_sort D false 0 ps) (spell φ (closes ∷ rest)) b h n w1 st1
                 parts
-                → ReadOutcome text (letIn (map (variable_of D true) ps) (terms_of D ps) (plain D φ)) (headSort D φ) rest b h (suc n) w3 res
+                → ReadOutcome text (let_in (map (variable_of D true) ps) (terms_of D ps) (plain D φ)) (head_sort D φ) rest b h (suc n) w3 res
             go ps φ rest (PartsOutcome.done c' e' d now terms vars l) =
                 let ec : c1 ≡ c' = cc in
                 let et : h + length ps ≡ top = cc in
                 let ee : e1 ≡ e' = cc in
-                let b1 : bundle_in w1 c1 ≡ (fileAll (terms_of D ps) b).bundle = ap (bundle_in w1) ec ∙ now in
+                let b1 : bundle_in w1 c1 ≡ (file_all (terms_of D ps) b).bundle = ap (bundle_in w1) ec ∙ now in
                 let o = closed_outcome (gave φ (closes ∷ rest) (ap (lexemes_at text) ee ∙ l)) closed in
-                let-outcome (omega (arith, et, terms_count D ps)) (ap (halves true st1 h) (sym et) ∙ terms) (ap (halves false st1 h) (sym et) ∙ vars)
-                (subst (λ (y : Bundle). ReadOutcome text (plain D φ) (headSort D φ) rest y top n w2 whole) b1 o)
+                let_outcome (omega (arith, et, terms_count D ps)) (ap (halves true st1 h) (sym et) ∙ terms) (ap (halves false st1 h) (sym et) ∙ vars)
+                (subst (λ (y : Bundle). ReadOutcome text (plain D φ) (head_sort D φ) rest y top n w2 whole) b1 o)
             go ps φ rest (PartsOutcome.full o d) = absurd (parts_not_both d is)

@@ -14,7 +14,7 @@ use Rattle.expansion.specs.File.{counts_in}
 use Rattle.placing.proofs.ScratchOutcomes.{counts_are, holds}
 use Rattle.grammar.specs.Grammar as grammar
 use Rattle.grammar.specs.Grammar.{Formula, spell, spelling, lexemes, between, lexemes_from}
-use Rattle.reading.specs.Local.{headSort, plain}
+use Rattle.reading.specs.Local.{head_sort, plain}
 use Rattle.reading.specs.Records.{file}
 use Rattle.reading.proofs.Jobs.{not_deep}
 use Rattle.endings.specs.declared.ReadTerm.{ReadTerm}
@@ -26,11 +26,11 @@ pub text_reads : (D : Bundle) {text w st : List ℕ} {b : Bundle} {n : ℕ} {w' 
 unfolding spelling lexemes
 text_reads D {text} {w} {st} {b} {n} {w'} {st'} {ix'} {r} en left gave φ reads = go (gave φ [] reads)
   where
-    go : ReadOutcome text (plain D φ) (headSort D φ) [] b 0 n w' r → TextOutcome D φ b w' r
+    go : ReadOutcome text (plain D φ) (head_sort D φ) [] b 0 n w' r → TextOutcome D φ b w' r
     go (ReadOutcome.done c e d now l) =
         let k = (left.held.held c _ _ e d).ready in
         let same : c ≡ counts_in (file (plain D φ) b).bundle = counts_are w' c now in
-        TextOutcome.done (holds w' c k.room k.version now) e (d ∙ ap (λ (x : Counts). ReadTerm.Done x (file (plain D φ) b).term (headSort D φ) e) same)
+        TextOutcome.done (holds w' c k.room k.version now) e (d ∙ ap (λ (x : Counts). ReadTerm.Done x (file (plain D φ) b).term (head_sort D φ) e) same)
     go (ReadOutcome.full o d) = TextOutcome.full (subst (λ (m : ℕ). TooLarge (plain D φ) b 0 m) en o) d
 
 pub too_large_never_fits : TooLargeNeverFits

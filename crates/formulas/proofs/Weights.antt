@@ -1,7 +1,7 @@
 -- The parts of all terms up to a number, and the links that they have.
 --     arity, weight                  how many parts a term has; how many the terms up to a number have together
 --     pending_below                  at most so many parts wait at once in the term of that number
---     Light, file-light              THE LAW: a formula's records have a link for each part
+--     Light, file_light              THE LAW: a formula's records have a link for each part
 --     pending_never_fits             THE THEOREM
 use Prim.Native.Nat.{ℕ, zero, suc, ◌+◌, ◌≤◌, ◌<◌, max}
 use native.Mathlib.Omega.{arith}
@@ -13,26 +13,26 @@ use Rattle.bundle.specs.Bundle.{Bundle, TermRecord}
 use Rattle.bundle.specs.Limits.{limits}
 use Rattle.bundle.specs.File.{bundle_of}
 use Rattle.logic.specs.Lists.{All, Number}
-use Rattle.logic.specs.Terms.{Term, Terms, var, app, bind, letIn, none, more, gather, tree}
+use Rattle.logic.specs.Terms.{Term, Terms, var, app, bind, let_in, none, more, gather, tree}
 use Rattle.logic.specs.WellFormed.{Lower, TablesFormed}
 use Rattle.logic.specs.Longer.{Longer, with_terms, add_list, consecutive}
 use Rattle.logic.specs.Lookup.{seek, same_variable, same_application, same_binder, same_let}
 use Rattle.logic.proofs.Longer.{longer_refl, longer_trans, list_longer, terms_longer, consecutive_length}
 use Rattle.logic.proofs.Kept.{tree_kept}
-use Rattle.logic.proofs.Shapes.{Shape, var-shape, app-shape, bind-shape, let-shape, shape}
+use Rattle.logic.proofs.Shapes.{Shape, var_shape, app_shape, bind_shape, let_shape, shape}
 use Rattle.expansion.specs.Placed.{PlacedTerm, placed, place_variable, place_application, place_binder, place_let}
 use Rattle.expansion.proofs.Grown.{lists_longer}
 use Rattle.expansion.proofs.AppendedChecked.{Checked}
 use Rattle.expansion.proofs.Placement.{PlacedAs}
 use Rattle.grammar.specs.Grammar.{Formula}
 use Rattle.reading.specs.Local.{plain}
-use Rattle.reading.specs.Records.{PlacedTerms, file, fileAll}
+use Rattle.reading.specs.Records.{PlacedTerms, file, file_all}
 use Rattle.reading.specs.Answers.{ReadAs, FitsLimits, filed_for}
 use Rattle.reading.specs.Demands.{DeclarationsFormed}
 use Rattle.reading.proofs.TermSorts.{TermSorted, TermsSorted}
-use Rattle.reading.proofs.Records.{FiledAs, AllFiled, filed, all-filed}
+use Rattle.reading.proofs.Records.{FiledAs, AllFiled, filed, all_filed}
 use Rattle.reading.proofs.Jobs.{declared_checked, term_sorted, job_filed}
-use Rattle.formulas.specs.Pending.{count, pending, pendingAll, PendingNeverFits}
+use Rattle.formulas.specs.Pending.{count, pending, pending_all, PendingNeverFits}
 
 -- how many parts a term has that wait for it
 unfoldable arity : Term → ℕ
@@ -40,7 +40,7 @@ unfolding count
 arity (var x) = 0
 arity (app f ts) = count ts
 arity (bind q x t) = 0
-arity (letIn vs ts t) = count ts
+arity (let_in vs ts t) = count ts
 
 -- the parts of the terms 1 to n
 unfoldable weight : Bundle → ℕ → ℕ
@@ -73,7 +73,7 @@ count_gather f (t ∷ ts) = ap suc (count_gather f ts)
 
 module _ (b : Bundle) (formed : TablesFormed b) where
   lower_pending : (n : ℕ) (ts : List ℕ) → All (Lower (suc n)) ts → ((u : ℕ) → Lower (suc n) u → pending (tree b u) ≤ weight b n)
-      → pendingAll (gather (tree b) ts) ≤ weight b n
+      → pending_all (gather (tree b) ts) ≤ weight b n
   unfolding pending gather
   lower_pending n [] low each = omega arith
   lower_pending n (u ∷ ts) low each = omega (arith, each u low.0, lower_pending n ts low.1 each)
@@ -88,10 +88,10 @@ module _ (b : Bundle) (formed : TablesFormed b) where
       omega (arith, h, weight_on b u t (omega (arith, low.1))))
     where
       go : Shape b (suc t) → ((u : ℕ) → Lower (suc t) u → pending (tree b u) ≤ weight b t) → pending (tree b (suc t)) ≤ weight b t + arity (tree b (suc t))
-      go (var-shape x e n) each = rw e (omega arith)
-      go (app-shape f ts e k low sorts) each = rw e (omega (arith, lower_pending t ts low each))
-      go (bind-shape q x u e n low sorts) each = rw e (omega (arith, each u low))
-      go (let-shape vs ts u e nv lows low lists) each = rw e (omega (arith, each u low, lower_pending t ts lows each))
+      go (var_shape x e n) each = rw e (omega arith)
+      go (app_shape f ts e k low sorts) each = rw e (omega (arith, lower_pending t ts low each))
+      go (bind_shape q x u e n low sorts) each = rw e (omega (arith, each u low))
+      go (let_shape vs ts u e nv lows low lists) each = rw e (omega (arith, each u low, lower_pending t ts lows each))
 
   pending_below : (t : ℕ) → Number (length b.terms) t → pending (tree b t) ≤ weight b t
   pending_below t is = pending_to t t (omega arith) is
@@ -125,42 +125,42 @@ module _ (b₀ : Bundle) (formed : TablesFormed b₀) where
   mutual
     unfolding file arity
 
-    file-light : (τ : Term) (b : Bundle) → Longer b₀ b → Checked b → TermSorted b₀ τ → Light b → Light (file τ b).bundle
-    file-light (var x) b l old h light =
+    file_light : (τ : Term) (b : Bundle) → Longer b₀ b → Checked b → TermSorted b₀ τ → Light b → Light (file τ b).bundle
+    file_light (var x) b l old h light =
         placed_light b (add_list b []) _ (seek (same_variable x) b.terms) (var x) (list_longer b []) refl (omega (arith, list_links b []))
         old.formed.tables (filed b₀ formed (var x) b l old h).placed light
-    file-light (app f ts) b l old h light =
-        let p : PlacedTerms = fileAll ts b in
-        let a : AllFiled b ts p = all-filed b₀ formed ts b l old h.2 in
+    file_light (app f ts) b l old h light =
+        let p : PlacedTerms = file_all ts b in
+        let a : AllFiled b ts p = all_filed b₀ formed ts b l old h.2 in
         let n : count ts ≡ length p.terms = ap count (sym a.stand) ∙ count_gather (tree p.bundle) p.terms in
         placed_light p.bundle (add_list p.bundle p.terms) _ (seek (same_application p.bundle f p.terms) p.bundle.terms) (app f ts)
         (list_longer p.bundle p.terms) refl (omega (arith, n, list_links p.bundle p.terms)) a.checked.formed.tables
-        (filed b₀ formed (app f ts) b l old h).placed (all-light ts b l old h.2 light)
-    file-light (bind q x t) b l old h light =
+        (filed b₀ formed (app f ts) b l old h).placed (all_light ts b l old h.2 light)
+    file_light (bind q x t) b l old h light =
         let p : PlacedTerm = file t b in
         let a : FiledAs b t p = filed b₀ formed t b l old h.2 in
         placed_light p.bundle (add_list p.bundle []) _ (seek (same_binder q x p.term) p.bundle.terms) (bind q x t)
         (list_longer p.bundle []) refl (omega (arith, list_links p.bundle [])) a.placed.checked.formed.tables
-        (filed b₀ formed (bind q x t) b l old h).placed (file-light t b l old h.2 light)
-    file-light (letIn vs ts t) b l old h light =
-        let p : PlacedTerms = fileAll ts b in
-        let a : AllFiled b ts p = all-filed b₀ formed ts b l old h.4 in
+        (filed b₀ formed (bind q x t) b l old h).placed (file_light t b l old h.2 light)
+    file_light (let_in vs ts t) b l old h light =
+        let p : PlacedTerms = file_all ts b in
+        let a : AllFiled b ts p = all_filed b₀ formed ts b l old h.4 in
         let l₁ : Longer b₀ p.bundle = longer_trans l a.longer in
         let r : PlacedTerm = file t p.bundle in
         let c : FiledAs p.bundle t r = filed b₀ formed t p.bundle l₁ a.checked h.5 in
         let n : count ts ≡ length p.terms = ap count (sym a.stand) ∙ count_gather (tree p.bundle) p.terms in
-        let links : length r.bundle.links + arity (letIn vs ts t) ≤ length (add_list (add_list r.bundle vs) p.terms).links =
+        let links : length r.bundle.links + arity (let_in vs ts t) ≤ length (add_list (add_list r.bundle vs) p.terms).links =
         omega (arith, n, list_links r.bundle vs, list_links (add_list r.bundle vs) p.terms) in
         placed_light r.bundle (add_list (add_list r.bundle vs) p.terms) _ (seek (same_let r.bundle vs p.terms r.term) r.bundle.terms)
-        (letIn vs ts t) (lists_longer r.bundle vs p.terms) refl links c.placed.checked.formed.tables
-        (filed b₀ formed (letIn vs ts t) b l old h).placed
-        (file-light t p.bundle l₁ a.checked h.5 (all-light ts b l old h.4 light))
+        (let_in vs ts t) (lists_longer r.bundle vs p.terms) refl links c.placed.checked.formed.tables
+        (filed b₀ formed (let_in vs ts t) b l old h).placed
+        (file_light t p.bundle l₁ a.checked h.5 (all_light ts b l old h.4 light))
 
-    all-light : (ts : Terms) (b : Bundle) → Longer b₀ b → Checked b → TermsSorted b₀ ts → Light b → Light (fileAll ts b).bundle
-    all-light none b l old h light = light
-    all-light (more t ts) b l old h light =
+    all_light : (ts : Terms) (b : Bundle) → Longer b₀ b → Checked b → TermsSorted b₀ ts → Light b → Light (file_all ts b).bundle
+    all_light none b l old h light = light
+    all_light (more t ts) b l old h light =
         let a : FiledAs b t (file t b) = filed b₀ formed t b l old h.0 in
-        all-light ts (file t b).bundle (longer_trans l a.longer) a.placed.checked h.1 (file-light t b l old h.0 light)
+        all_light ts (file t b).bundle (longer_trans l a.longer) a.placed.checked h.1 (file_light t b l old h.0 light)
 
 -- ---- the theorem
 
@@ -177,7 +177,7 @@ pending_never_fits f text φ d r many fit =
     let old : Checked b = declared_checked f d in
     let j : FiledAs b (plain b φ) p = job_filed f text φ d r in
     let l : Light p.bundle =
-    file-light b old.formed.tables (plain b φ) b (longer_refl b) old (term_sorted f text φ d r) (no_weight b d.terms) in
+    file_light b old.formed.tables (plain b φ) b (longer_refl b) old (term_sorted f text φ d r) (no_weight b d.terms) in
     let same : pending (tree p.bundle p.term) ≡ pending (plain b φ) = ap pending j.placed.stands in
     omega (
       arith,

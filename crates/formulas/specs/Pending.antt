@@ -2,7 +2,7 @@
 use Rattle.std.specs.Prelude.{ℕ, suc, ◌+◌, ◌<◌, max, List}
 use Rattle.bundle.specs.Limits.{limits}
 use Rattle.bundle.specs.File.{bundle_of}
-use Rattle.logic.specs.Terms.{Term, Terms, var, app, bind, letIn, none, more}
+use Rattle.logic.specs.Terms.{Term, Terms, var, app, bind, let_in, none, more}
 use Rattle.grammar.specs.Grammar.{Formula}
 use Rattle.reading.specs.Local.{plain}
 use Rattle.reading.specs.Answers.{ReadAs, FitsLimits}
@@ -19,13 +19,13 @@ unfoldable mutual
 
   pub pending : Term → ℕ
   pending (var x) = 0
-  pending (app f ts) = count ts + pendingAll ts
+  pending (app f ts) = count ts + pending_all ts
   pending (bind q x t) = pending t
-  pending (letIn vs ts t) = count ts + max (pendingAll ts) (pending t)
+  pending (let_in vs ts t) = count ts + max (pending_all ts) (pending t)
 
-  pub pendingAll : Terms → ℕ
-  pendingAll none = 0
-  pendingAll (more t ts) = max (pending t) (pendingAll ts)
+  pub pending_all : Terms → ℕ
+  pending_all none = 0
+  pending_all (more t ts) = max (pending t) (pending_all ts)
 
 -- Terms that wait are parts of different terms, and each has its link: a formula with more of them than the limit of links does not fit.
 abbrev pub PendingNeverFits : Type 0

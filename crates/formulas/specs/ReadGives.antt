@@ -5,7 +5,7 @@ use Rattle.bundle.specs.Bundle.{Bundle}
 use Rattle.bundle.specs.File.{bundle_of}
 use Rattle.bundle.specs.Limits.{limits}
 use Rattle.logic.specs.Symbols.{truth_sort}
-use Rattle.logic.specs.Terms.{Binder, binder, number_of, Term, Terms, letIn, none, more}
+use Rattle.logic.specs.Terms.{Binder, binder, number_of, Term, Terms, let_in, none, more}
 use Rattle.scratch.specs.Scratch.{bundle_in}
 use Rattle.scratch.specs.Stack.{halves}
 use Rattle.expansion.specs.File.{counts_in}
@@ -14,8 +14,8 @@ use Rattle.grammar.specs.Grammar as grammar
 use Rattle.grammar.specs.Grammar.{Formula, SortedVariable, Lexeme, closes, spell, spell_variables}
 use Rattle.reading.specs.Called.{variable_called}
 use Rattle.reading.specs.Typing.{nested}
-use Rattle.reading.specs.Local.{headSort, plain}
-use Rattle.reading.specs.Records.{file, fileAll, depth, depthAll}
+use Rattle.reading.specs.Local.{head_sort, plain}
+use Rattle.reading.specs.Records.{file, file_all, depth, depth_all}
 use Rattle.reading.specs.Answers.{ReadAs, FitsLimits}
 use Rattle.reading.specs.Demands.{DeclarationsFormed}
 use Rattle.lexing.specs.Lexes.{lexemes_at}
@@ -23,7 +23,7 @@ use Rattle.heads.specs.Places.{Part, spell_parts}
 use Rattle.endings.specs.declared.ReadTerm.{ReadTerm}
 use Rattle.endings.specs.declared.ReadParts.{ReadParts}
 use Rattle.endings.specs.ReadOutcomes.{Held, TermHeld, PartsHeld}
-use Rattle.formulas.specs.Pending.{count, pending, pendingAll}
+use Rattle.formulas.specs.Pending.{count, pending, pending_all}
 
 -- ---- parts, beside the declarations D
 
@@ -39,15 +39,15 @@ variable_of D bound p = cond bound (variable_called D p.called) 0
 
 -- the sort of the first: s where it is known already, or where there is none
 unfoldable pub first_sort : Bundle → Bool → ℕ → List Part → ℕ
-unfolding headSort
+unfolding head_sort
 first_sort D true s ps = s
 first_sort D false s [] = s
-first_sort D false s (p ∷ ps) = headSort D p.formula
+first_sort D false s (p ∷ ps) = head_sort D p.formula
 
 -- the sort of a formula under variables of a quantifier
 unfoldable pub sort_under : Bundle → List SortedVariable → Formula → ℕ
-unfolding headSort
-sort_under D [] φ = headSort D φ
+unfolding head_sort
+sort_under D [] φ = head_sort D φ
 sort_under D (x ∷ xs) φ = truth_sort
 
 -- ---- what does not fit
@@ -60,9 +60,9 @@ pub data TooLarge (τ : Term) (b : Bundle) (h n : ℕ) : Type 0 where
   deep : n < depth τ → TooLarge τ b h n
 
 pub data AllTooLarge (ts : Terms) (b : Bundle) (h n : ℕ) : Type 0 where
-  records : TooMuch (fileAll ts b).bundle → AllTooLarge ts b h n
-  waiting : limits.links < h + (count ts + pendingAll ts) → AllTooLarge ts b h n
-  deep : n < depthAll ts → AllTooLarge ts b h n
+  records : TooMuch (file_all ts b).bundle → AllTooLarge ts b h n
+  waiting : limits.links < h + (count ts + pending_all ts) → AllTooLarge ts b h n
+  deep : n < depth_all ts → AllTooLarge ts b h n
 
 -- ---- what is answered
 
@@ -75,7 +75,7 @@ pub data ReadOutcome (text : List ℕ) (τ : Term) (s : ℕ) (ls : List Lexeme) 
 -- the same of m terms, whose pairs stand on the stack st from height h on: the terms, and the numbers vs
 pub data PartsOutcome (text : List ℕ) (ts : Terms) (vs : List ℕ) (m s : ℕ) (ls : List Lexeme) (b : Bundle) (h n : ℕ) (w st : List ℕ) (r : ReadParts) : Type 0
   where
-    done : (c : Counts) (e : ℕ) → r ≡ ReadParts.Done c (h + m) s e → bundle_in w c ≡ (fileAll ts b).bundle → halves true st h (h + m) ≡ (fileAll ts b).terms
+    done : (c : Counts) (e : ℕ) → r ≡ ReadParts.Done c (h + m) s e → bundle_in w c ≡ (file_all ts b).bundle → halves true st h (h + m) ≡ (file_all ts b).terms
         → halves false st h (h + m) ≡ vs → lexemes_at text e ≡ ls → PartsOutcome text ts vs m s ls b h n w st r
     full : AllTooLarge ts b h n → r ≡ ReadParts.Full → PartsOutcome text ts vs m s ls b h n w st r
 
@@ -105,7 +105,7 @@ pub record LeavesParts (text w st : List ℕ) (h i : ℕ) (w' st' ix' : List ℕ
 -- a formula
 abbrev pub Reads : (D : Bundle) (text : List ℕ) (b : Bundle) (h i n : ℕ) (w' : List ℕ) (r : ReadTerm) → Type 0
 Reads D text b h i n w' r =
-    (φ : Formula) (rest : List Lexeme) → lexemes_at text i ≡ spell φ rest → ReadOutcome text (plain D φ) (headSort D φ) rest b h n w' r
+    (φ : Formula) (rest : List Lexeme) → lexemes_at text i ≡ spell φ rest → ReadOutcome text (plain D φ) (head_sort D φ) rest b h n w' r
 
 -- the variables of a quantifier of this kind, its body and its closing bracket
 abbrev pub ReadsQuantified : (D : Bundle) (text : List ℕ) (b : Bundle) (h i n kind : ℕ) (w' : List ℕ) (r : ReadTerm) → Type 0
@@ -118,7 +118,7 @@ ReadsQuantified D text b h i n kind w' r =
 abbrev pub ReadsLet : (D : Bundle) (text : List ℕ) (b : Bundle) (h i n : ℕ) (w' : List ℕ) (r : ReadTerm) → Type 0
 ReadsLet D text b h i n w' r =
     (ps : List Part) (φ : Formula) (rest : List Lexeme) → lexemes_at text i ≡ spell_parts true ps (spell φ (closes ∷ rest))
-    → ReadOutcome text (letIn (map (variable_of D true) ps) (terms_of D ps) (plain D φ)) (headSort D φ) rest b h (suc n) w' r
+    → ReadOutcome text (let_in (map (variable_of D true) ps) (terms_of D ps) (plain D φ)) (head_sort D φ) rest b h (suc n) w' r
 
 -- parts, where the sort of the first is known or not
 abbrev pub ReadsParts : (D : Bundle) (text : List ℕ) (b : Bundle) (h i n : ℕ) (bound known : Bool) (s : ℕ) (w' st' : List ℕ) (r : ReadParts) → Type 0
@@ -131,7 +131,7 @@ ReadsParts D text b h i n bound known s w' st' r =
 -- r, and the words w after the call, are the records of the term of φ after b; or that term is too large
 pub data TextOutcome (D : Bundle) (φ : Formula) (b : Bundle) (w : List ℕ) (r : ReadTerm) : Type 0 where
   done : StandsFor w (file (plain D φ) b).bundle → (e : ℕ)
-      → r ≡ ReadTerm.Done (counts_in (file (plain D φ) b).bundle) (file (plain D φ) b).term (headSort D φ) e → TextOutcome D φ b w r
+      → r ≡ ReadTerm.Done (counts_in (file (plain D φ) b).bundle) (file (plain D φ) b).term (head_sort D φ) e → TextOutcome D φ b w r
   full : TooLarge (plain D φ) b 0 limits.terms → r ≡ ReadTerm.Full → TextOutcome D φ b w r
 
 abbrev pub ReadsText : (D : Bundle) (text : List ℕ) (b : Bundle) (w : List ℕ) (r : ReadTerm) → Type 0

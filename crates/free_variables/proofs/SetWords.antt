@@ -75,11 +75,11 @@ module _ (b : Bundle) (n m : ℕ) (one : 1 ≤ n) where
       → v ≡ cleared w (n * terms) (length w - n * terms) → ((j : ℕ) → get_or v j 0 < 2 ^ 64) → v ≡ free_area b n m
   unfolding free_area
   area_is w v terms count long room so clear words =
-      ext_get_or 0 v (tab word_of m) (same-long ∙ sym (tab_length word_of m))
-      (λ j h. word j (omega (arith, same-long)) (ltb j (n * length b.terms)) refl ∙ sym (tab_at word_of m j 0 (omega (arith, same-long))))
+      ext_get_or 0 v (tab word_of m) (same_long ∙ sym (tab_length word_of m))
+      (λ j h. word j (omega (arith, same_long)) (ltb j (n * length b.terms)) refl ∙ sym (tab_at word_of m j 0 (omega (arith, same_long))))
     where
-      same-long : length v ≡ m
-      same-long = rw clear (filled_length (λ k. 0) w (n * terms) (length w - n * terms) ∙ long)
+      same_long : length v ≡ m
+      same_long = rw clear (filled_length (λ k. 0) w (n * terms) (length w - n * terms) ∙ long)
 
       -- the sets of terms are kept
       kept : (q : ℕ) → q < terms → (k : ℕ) → k < n → get_or v (n * q + k) 0 ≡ get_or w (n * q + k) 0

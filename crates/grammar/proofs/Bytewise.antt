@@ -92,19 +92,19 @@ module _ {A : Type 0} where
   unfolding steps finish lexemes_from and_then step enter
   agrees [] st = refl
   agrees (c ∷ cs) st =
-      byFeed (feed (ends st.mode (class_of c)) st.stack) (agrees cs)
+      by_feed (feed (ends st.mode (class_of c)) st.stack) (agrees cs)
       ∙ sym (run_append (ends st.mode (class_of c)) (lexemes_from (onwards st.mode c (class_of c)) cs) st.stack)
     where
-      byViable : (m : Mode) (s : Stack A) (b : Bool) → viable m s.due ≡ b
+      by_viable : (m : Mode) (s : Stack A) (b : Bool) → viable m s.due ≡ b
           → and_then (steps cs (record { mode = m; stack = s })) finish ≡ run (lexemes_from m cs) s
           → and_then (and_then (cond b (some (record { mode = m; stack = s })) none) (steps cs)) finish ≡ run (lexemes_from m cs) s
-      byViable m s true e h = h
-      byViable m s false e h = sym (not_viable m s.due s.back cs e)
+      by_viable m s true e h = h
+      by_viable m s false e h = sym (not_viable m s.due s.back cs e)
 
-      byFeed : (o : Option (Stack A)) → ((st : State A) → and_then (steps cs st) finish ≡ run (lexemes_from st.mode cs) st.stack)
+      by_feed : (o : Option (Stack A)) → ((st : State A) → and_then (steps cs st) finish ≡ run (lexemes_from st.mode cs) st.stack)
           → and_then (and_then (and_then o (enter (onwards st.mode c (class_of c)))) (steps cs)) finish
           ≡ and_then o (run (lexemes_from (onwards st.mode c (class_of c)) cs))
-      byFeed none h = refl
-      byFeed (some s) h =
+      by_feed none h = refl
+      by_feed (some s) h =
           let m : Mode = onwards st.mode c (class_of c) in
-          byViable m s (viable m s.due) refl (h (record { mode = m; stack = s }))
+          by_viable m s (viable m s.due) refl (h (record { mode = m; stack = s }))

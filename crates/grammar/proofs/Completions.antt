@@ -10,7 +10,7 @@ use lib.Dec.{eqb}
 use borrow.Author.Tests.{eqb-true}
 use Rattle.grammar.specs.Bytes.{symbol, SortWord, bool, item, class_of, word_of}
 use Rattle.grammar.specs.Bytes.{bytes, sort, name}
-use Rattle.grammar.specs.Grammar.{declares, called, denies, noFormula, noBinding, word, Mode, between}
+use Rattle.grammar.specs.Grammar.{declares, called, denies, no_formula, no_binding, word, Mode, between}
 use Rattle.grammar.specs.Grammar.{comment, within, bracket, ends, outside, onwards, last, lexemes_from}
 use Rattle.grammar.specs.Parser.{Due, formula, formulas, inside, opener, closer, sorted, sorteds, bound, bounds, variable, sortName, One, Fill}
 use Rattle.grammar.specs.Parser.{Stack, and_then, advance, takes, push, feed, complete, run, starts, may_grow, viable, on_formula, on_formulas}
@@ -34,14 +34,14 @@ supply sortName rest = bytes "Bool " ++ rest
 
 abbrev supplied_as : (d : Due) → One d
 supplied_as formula = called (126 ∷ [])
-supplied_as formulas = noFormula
+supplied_as formulas = no_formula
 supplied_as inside = denies (called (126 ∷ []))
 supplied_as opener = tt
 supplied_as closer = tt
 supplied_as sorted = declares (126 ∷ []) bool
 supplied_as sorteds = []
 supplied_as bound = (126 ∷ [], called (126 ∷ []))
-supplied_as bounds = noBinding
+supplied_as bounds = no_binding
 supplied_as variable = 126 ∷ []
 supplied_as sortName = bool
 

@@ -7,8 +7,8 @@ use mathlib.Core.List.{List, [], ◌∷◌, ◌++◌}
 use mathlib.Core.Option.{Option, none, some, none-ne-some, some-injective}
 use Rattle.grammar.specs.Bytes.{Word, constant, negation, connective, quantifier, letting, sort, name}
 use Rattle.grammar.specs.Grammar.{SortedVariable, declares, Formula, called, truth, bracketed, Bracketed, denies, connects, applies, quantifies}
-use Rattle.grammar.specs.Grammar.{lets, Formulas, noFormula, andFormula, Bindings, noBinding, andBinding, Lexeme, opens, closes, word, stray}
-use Rattle.grammar.specs.Grammar.{spell, spell_variable, spell_variables, spellBracketed, spellFormulas, spellBindings, spelling}
+use Rattle.grammar.specs.Grammar.{lets, Formulas, no_formula, and_formula, Bindings, no_binding, and_binding, Lexeme, opens, closes, word, stray}
+use Rattle.grammar.specs.Grammar.{spell, spell_variable, spell_variables, spell_bracketed, spell_formulas, spell_bindings, spelling}
 use Rattle.grammar.specs.Parser.{Due, formula, formulas, inside, opener, closer, sorted, sorteds, bound, bounds, variable, sortName, One, Fill}
 use Rattle.grammar.specs.Parser.{spell_one, spell_fill, Move, on_formula, on_formulas, on_inside, on_variable, on_sort, advance, Stack, split, and_then}
 use Rattle.grammar.specs.Parser.{push, takes, feed, complete, run, start}
@@ -165,7 +165,7 @@ module _ {A : Type 0} where
 
   -- among formulas, one is read as where it alone is due
   first_formula : (φ : Formula) (ls : List Lexeme) (σ : List Due) (k : Fill (formulas ∷ σ) → A)
-      → feed (spell φ ls) (at formulas σ k) ≡ feed (spell φ ls) (at formula (formulas ∷ σ) (λ f. k (andFormula f.0 f.1.0, f.1.1)))
+      → feed (spell φ ls) (at formulas σ k) ≡ feed (spell φ ls) (at formula (formulas ∷ σ) (λ f. k (and_formula f.0 f.1.0, f.1.1)))
   unfolding spell feed takes and_then push advance on_formula on_formulas
   first_formula (called w) ls σ k = refl
   first_formula (truth v) ls σ k = refl
@@ -177,42 +177,42 @@ module _ {A : Type 0} where
     pub reads : (φ : Formula) (ls : List Lexeme) (σ : List Due) (k : Fill (formula ∷ σ) → A) → feed (spell φ ls) (at formula σ k) ≡ feed ls (past formula φ σ k)
     reads (called w) ls σ k = refl
     reads (truth v) ls σ k = refl
-    reads (bracketed b) ls σ k = reads-inside b ls σ (λ f. k (bracketed f.0, f.1))
+    reads (bracketed b) ls σ k = reads_inside b ls σ (λ f. k (bracketed f.0, f.1))
 
-    reads-inside : (b : Bracketed) (ls : List Lexeme) (σ : List Due) (k : Fill (inside ∷ σ) → A)
-        → feed (spellBracketed b ls) (at inside σ k) ≡ feed ls (past inside b σ k)
-    reads-inside (denies φ) ls σ k = reads φ (closes ∷ ls) (closer ∷ σ) (λ f. k (denies f.0, f.1.1))
-    reads-inside (connects c φ ψ) ls σ k =
+    reads_inside : (b : Bracketed) (ls : List Lexeme) (σ : List Due) (k : Fill (inside ∷ σ) → A)
+        → feed (spell_bracketed b ls) (at inside σ k) ≡ feed ls (past inside b σ k)
+    reads_inside (denies φ) ls σ k = reads φ (closes ∷ ls) (closer ∷ σ) (λ f. k (denies f.0, f.1.1))
+    reads_inside (connects c φ ψ) ls σ k =
         reads φ (spell ψ (closes ∷ ls)) (formula ∷ closer ∷ σ) (λ f. k (connects c f.0 f.1.0, f.1.1.1))
         ∙ reads ψ (closes ∷ ls) (closer ∷ σ) (λ f. k (connects c φ f.0, f.1.1))
-    reads-inside (applies w φ φs) ls σ k =
-        reads φ (spellFormulas φs ls) (formulas ∷ σ) (λ f. k (applies w f.0 f.1.0, f.1.1))
-        ∙ reads-formulas φs ls σ (λ f. k (applies w φ f.0, f.1))
-    reads-inside (quantifies q x xs φ) ls σ k =
+    reads_inside (applies w φ φs) ls σ k =
+        reads φ (spell_formulas φs ls) (formulas ∷ σ) (λ f. k (applies w f.0 f.1.0, f.1.1))
+        ∙ reads_formulas φs ls σ (λ f. k (applies w φ f.0, f.1))
+    reads_inside (quantifies q x xs φ) ls σ k =
         reads_variable x (spell_variables xs (spell φ (closes ∷ ls))) (sorteds ∷ formula ∷ closer ∷ σ)
         (λ f. k (quantifies q f.0 f.1.0 f.1.1.0, f.1.1.1.1))
         ∙ reads_variables xs (spell φ (closes ∷ ls)) (formula ∷ closer ∷ σ) (λ f. k (quantifies q x f.0 f.1.0, f.1.1.1))
         ∙ reads φ (closes ∷ ls) (closer ∷ σ) (λ f. k (quantifies q x xs f.0, f.1.1))
-    reads-inside (lets x φ xs ψ) ls σ k =
-        reads φ (closes ∷ spellBindings xs (spell ψ (closes ∷ ls))) (closer ∷ bounds ∷ formula ∷ closer ∷ σ)
+    reads_inside (lets x φ xs ψ) ls σ k =
+        reads φ (closes ∷ spell_bindings xs (spell ψ (closes ∷ ls))) (closer ∷ bounds ∷ formula ∷ closer ∷ σ)
         (λ f. k (lets x f.0 f.1.1.0 f.1.1.1.0, f.1.1.1.1.1))
-        ∙ reads-bindings xs (spell ψ (closes ∷ ls)) (formula ∷ closer ∷ σ) (λ f. k (lets x φ f.0 f.1.0, f.1.1.1))
+        ∙ reads_bindings xs (spell ψ (closes ∷ ls)) (formula ∷ closer ∷ σ) (λ f. k (lets x φ f.0 f.1.0, f.1.1.1))
         ∙ reads ψ (closes ∷ ls) (closer ∷ σ) (λ f. k (lets x φ xs f.0, f.1.1))
 
-    reads-formulas : (φs : Formulas) (ls : List Lexeme) (σ : List Due) (k : Fill (formulas ∷ σ) → A)
-        → feed (spellFormulas φs ls) (at formulas σ k) ≡ feed ls (past formulas φs σ k)
-    reads-formulas noFormula ls σ k = refl
-    reads-formulas (andFormula φ φs) ls σ k =
-        first_formula φ (spellFormulas φs ls) σ k
-        ∙ reads φ (spellFormulas φs ls) (formulas ∷ σ) (λ f. k (andFormula f.0 f.1.0, f.1.1))
-        ∙ reads-formulas φs ls σ (λ f. k (andFormula φ f.0, f.1))
+    reads_formulas : (φs : Formulas) (ls : List Lexeme) (σ : List Due) (k : Fill (formulas ∷ σ) → A)
+        → feed (spell_formulas φs ls) (at formulas σ k) ≡ feed ls (past formulas φs σ k)
+    reads_formulas no_formula ls σ k = refl
+    reads_formulas (and_formula φ φs) ls σ k =
+        first_formula φ (spell_formulas φs ls) σ k
+        ∙ reads φ (spell_formulas φs ls) (formulas ∷ σ) (λ f. k (and_formula f.0 f.1.0, f.1.1))
+        ∙ reads_formulas φs ls σ (λ f. k (and_formula φ f.0, f.1))
 
-    reads-bindings : (xs : Bindings) (ls : List Lexeme) (σ : List Due) (k : Fill (bounds ∷ σ) → A)
-        → feed (spellBindings xs ls) (at bounds σ k) ≡ feed ls (past bounds xs σ k)
-    reads-bindings noBinding ls σ k = refl
-    reads-bindings (andBinding x φ xs) ls σ k =
-        reads φ (closes ∷ spellBindings xs ls) (closer ∷ bounds ∷ σ) (λ f. k (andBinding x f.0 f.1.1.0, f.1.1.1))
-        ∙ reads-bindings xs ls σ (λ f. k (andBinding x φ f.0, f.1))
+    reads_bindings : (xs : Bindings) (ls : List Lexeme) (σ : List Due) (k : Fill (bounds ∷ σ) → A)
+        → feed (spell_bindings xs ls) (at bounds σ k) ≡ feed ls (past bounds xs σ k)
+    reads_bindings no_binding ls σ k = refl
+    reads_bindings (and_binding x φ xs) ls σ k =
+        reads φ (closes ∷ spell_bindings xs ls) (closer ∷ bounds ∷ σ) (λ f. k (and_binding x f.0 f.1.1.0, f.1.1.1))
+        ∙ reads_bindings xs ls σ (λ f. k (and_binding x φ f.0, f.1))
 
 -- ---- spellings and readings
 

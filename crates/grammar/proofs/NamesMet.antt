@@ -11,13 +11,13 @@ use lib.ListN.{length}
 use Rattle.grammar.specs.Bytes.{Class, space, lineEnd, semicolon, opening, closing, digit, symbol, other, Word, constant, negation, connective}
 use Rattle.grammar.specs.Bytes.{quantifier, letting, sort, name, class_of, word_of}
 use Rattle.grammar.specs.Grammar.{SortedVariable, declares, Formula, called, truth, bracketed, Bracketed, denies, connects, applies, quantifies}
-use Rattle.grammar.specs.Grammar.{lets, Formulas, noFormula, andFormula, Bindings, noBinding, andBinding, Lexeme, opens, closes, word, stray}
-use Rattle.grammar.specs.Grammar.{spell, spell_variable, spell_variables, spellBracketed, spellFormulas, spellBindings, spelling, Mode, between}
+use Rattle.grammar.specs.Grammar.{lets, Formulas, no_formula, and_formula, Bindings, no_binding, and_binding, Lexeme, opens, closes, word, stray}
+use Rattle.grammar.specs.Grammar.{spell, spell_variable, spell_variables, spell_bracketed, spell_formulas, spell_bindings, spelling, Mode, between}
 use Rattle.grammar.specs.Grammar.{comment, within, bracket, ends, onwards, last, lexemes_from, lexemes, Reads}
 use Rattle.grammar.specs.Parser.{Due, formula, formulas, inside, opener, closer, sorted, sorteds, bound, bounds, variable, sortName, One, Fill}
 use Rattle.grammar.specs.Parser.{Stack, and_then, push, advance, on_formula, on_formulas, on_inside, on_variable, on_sort, takes, feed}
 use Rattle.grammar.specs.Parser.{may_grow, viable, State, enter, step, start}
-use Rattle.grammar.specs.Names.{symbolOnly, variableOnly, Name, variable_names, names, namesInside, namesOfAll, namesBound}
+use Rattle.grammar.specs.Names.{symbolOnly, variableOnly, Name, variable_names, names, names_inside, names_of_all, names_bound}
 use Rattle.grammar.specs.Names.{name_at, word_at, met_at, Located, locate, called_of, ends_at, ended_by, while_steps, met_from, met}
 use Rattle.grammar.proofs.Words.{grown}
 use Rattle.grammar.proofs.Bytewise.{refuses}
@@ -67,7 +67,7 @@ module _ {A : Type 0} where
       ap (λ ns. record { place = variableOnly; spelled = x } ∷ ns) (traces_variables xs ls σ (λ f. k (declares x s ∷ f.0, f.1)))
 
   first_traced : (φ : Formula) (ls : List Lexeme) (σ : List Due) (k : Fill (formulas ∷ σ) → A)
-      → trace (spell φ ls) (at formulas σ k) ≡ trace (spell φ ls) (at formula (formulas ∷ σ) (λ f. k (andFormula f.0 f.1.0, f.1.1)))
+      → trace (spell φ ls) (at formulas σ k) ≡ trace (spell φ ls) (at formula (formulas ∷ σ) (λ f. k (and_formula f.0 f.1.0, f.1.1)))
   unfolding spell trace on_stack met_in met_at word_at name_at takes and_then push advance on_formula on_formulas
   first_traced (called w) ls σ k = refl
   first_traced (truth v) ls σ k = refl
@@ -81,45 +81,45 @@ module _ {A : Type 0} where
         → trace (spell φ ls) (at formula σ k) ≡ names φ (trace ls (past formula φ σ k))
     traces (called w) ls σ k = refl
     traces (truth v) ls σ k = refl
-    traces (bracketed b) ls σ k = traces-inside b ls σ (λ f. k (bracketed f.0, f.1))
+    traces (bracketed b) ls σ k = traces_inside b ls σ (λ f. k (bracketed f.0, f.1))
 
-    traces-inside : (b : Bracketed) (ls : List Lexeme) (σ : List Due) (k : Fill (inside ∷ σ) → A)
-        → trace (spellBracketed b ls) (at inside σ k) ≡ namesInside b (trace ls (past inside b σ k))
-    traces-inside (denies φ) ls σ k = traces φ (closes ∷ ls) (closer ∷ σ) (λ f. k (denies f.0, f.1.1))
-    traces-inside (connects c φ ψ) ls σ k =
+    traces_inside : (b : Bracketed) (ls : List Lexeme) (σ : List Due) (k : Fill (inside ∷ σ) → A)
+        → trace (spell_bracketed b ls) (at inside σ k) ≡ names_inside b (trace ls (past inside b σ k))
+    traces_inside (denies φ) ls σ k = traces φ (closes ∷ ls) (closer ∷ σ) (λ f. k (denies f.0, f.1.1))
+    traces_inside (connects c φ ψ) ls σ k =
         traces φ (spell ψ (closes ∷ ls)) (formula ∷ closer ∷ σ) (λ f. k (connects c f.0 f.1.0, f.1.1.1))
         ∙ ap (names φ) (traces ψ (closes ∷ ls) (closer ∷ σ) (λ f. k (connects c φ f.0, f.1.1)))
-    traces-inside (applies w φ φs) ls σ k =
+    traces_inside (applies w φ φs) ls σ k =
         ap (λ ns. record { place = symbolOnly; spelled = w } ∷ ns)
-        (traces φ (spellFormulas φs ls) (formulas ∷ σ) (λ f. k (applies w f.0 f.1.0, f.1.1))
-        ∙ ap (names φ) (traces-formulas φs ls σ (λ f. k (applies w φ f.0, f.1))))
-    traces-inside (quantifies q (declares x s) xs φ) ls σ k =
+        (traces φ (spell_formulas φs ls) (formulas ∷ σ) (λ f. k (applies w f.0 f.1.0, f.1.1))
+        ∙ ap (names φ) (traces_formulas φs ls σ (λ f. k (applies w φ f.0, f.1))))
+    traces_inside (quantifies q (declares x s) xs φ) ls σ k =
         ap (λ ns. record { place = variableOnly; spelled = x } ∷ ns)
         (traces_variables xs (spell φ (closes ∷ ls)) (formula ∷ closer ∷ σ) (λ f. k (quantifies q (declares x s) f.0 f.1.0, f.1.1.1))
         ∙ ap (variable_names xs) (traces φ (closes ∷ ls) (closer ∷ σ) (λ f. k (quantifies q (declares x s) xs f.0, f.1.1))))
-    traces-inside (lets x φ xs ψ) ls σ k =
+    traces_inside (lets x φ xs ψ) ls σ k =
         ap (λ ns. record { place = variableOnly; spelled = x } ∷ ns)
-        (traces φ (closes ∷ spellBindings xs (spell ψ (closes ∷ ls))) (closer ∷ bounds ∷ formula ∷ closer ∷ σ)
+        (traces φ (closes ∷ spell_bindings xs (spell ψ (closes ∷ ls))) (closer ∷ bounds ∷ formula ∷ closer ∷ σ)
         (λ f. k (lets x f.0 f.1.1.0 f.1.1.1.0, f.1.1.1.1.1))
         ∙ ap (names φ)
-        (traces-bindings xs (spell ψ (closes ∷ ls)) (formula ∷ closer ∷ σ) (λ f. k (lets x φ f.0 f.1.0, f.1.1.1))
-        ∙ ap (namesBound xs) (traces ψ (closes ∷ ls) (closer ∷ σ) (λ f. k (lets x φ xs f.0, f.1.1)))))
+        (traces_bindings xs (spell ψ (closes ∷ ls)) (formula ∷ closer ∷ σ) (λ f. k (lets x φ f.0 f.1.0, f.1.1.1))
+        ∙ ap (names_bound xs) (traces ψ (closes ∷ ls) (closer ∷ σ) (λ f. k (lets x φ xs f.0, f.1.1)))))
 
-    traces-formulas : (φs : Formulas) (ls : List Lexeme) (σ : List Due) (k : Fill (formulas ∷ σ) → A)
-        → trace (spellFormulas φs ls) (at formulas σ k) ≡ namesOfAll φs (trace ls (past formulas φs σ k))
-    traces-formulas noFormula ls σ k = refl
-    traces-formulas (andFormula φ φs) ls σ k =
-        first_traced φ (spellFormulas φs ls) σ k
-        ∙ traces φ (spellFormulas φs ls) (formulas ∷ σ) (λ f. k (andFormula f.0 f.1.0, f.1.1))
-        ∙ ap (names φ) (traces-formulas φs ls σ (λ f. k (andFormula φ f.0, f.1)))
+    traces_formulas : (φs : Formulas) (ls : List Lexeme) (σ : List Due) (k : Fill (formulas ∷ σ) → A)
+        → trace (spell_formulas φs ls) (at formulas σ k) ≡ names_of_all φs (trace ls (past formulas φs σ k))
+    traces_formulas no_formula ls σ k = refl
+    traces_formulas (and_formula φ φs) ls σ k =
+        first_traced φ (spell_formulas φs ls) σ k
+        ∙ traces φ (spell_formulas φs ls) (formulas ∷ σ) (λ f. k (and_formula f.0 f.1.0, f.1.1))
+        ∙ ap (names φ) (traces_formulas φs ls σ (λ f. k (and_formula φ f.0, f.1)))
 
-    traces-bindings : (xs : Bindings) (ls : List Lexeme) (σ : List Due) (k : Fill (bounds ∷ σ) → A)
-        → trace (spellBindings xs ls) (at bounds σ k) ≡ namesBound xs (trace ls (past bounds xs σ k))
-    traces-bindings noBinding ls σ k = refl
-    traces-bindings (andBinding x φ xs) ls σ k =
+    traces_bindings : (xs : Bindings) (ls : List Lexeme) (σ : List Due) (k : Fill (bounds ∷ σ) → A)
+        → trace (spell_bindings xs ls) (at bounds σ k) ≡ names_bound xs (trace ls (past bounds xs σ k))
+    traces_bindings no_binding ls σ k = refl
+    traces_bindings (and_binding x φ xs) ls σ k =
         ap (λ ns. record { place = variableOnly; spelled = x } ∷ ns)
-        (traces φ (closes ∷ spellBindings xs ls) (closer ∷ bounds ∷ σ) (λ f. k (andBinding x f.0 f.1.1.0, f.1.1.1))
-        ∙ ap (names φ) (traces-bindings xs ls σ (λ f. k (andBinding x φ f.0, f.1))))
+        (traces φ (closes ∷ spell_bindings xs ls) (closer ∷ bounds ∷ σ) (λ f. k (and_binding x f.0 f.1.1.0, f.1.1.1))
+        ∙ ap (names φ) (traces_bindings xs ls σ (λ f. k (and_binding x φ f.0, f.1))))
 
 -- ---- bytes
 
@@ -242,22 +242,22 @@ module _ {A : Type 0} where
   met_agrees [] n st = sym (last_traced st.mode n st.stack)
   met_agrees (c ∷ cs) n st =
       called_append (ended_by (class_of c) n st.mode st.stack.due) (while_steps (step st c) (met_from (suc n) cs))
-      ∙ ap₂ ◌++◌ (sym (ended_traced st.mode (class_of c) n st.stack)) (byFeed (feed (ends st.mode (class_of c)) st.stack) (met_agrees cs (suc n)))
+      ∙ ap₂ ◌++◌ (sym (ended_traced st.mode (class_of c) n st.stack)) (by_feed (feed (ends st.mode (class_of c)) st.stack) (met_agrees cs (suc n)))
       ∙ sym (trace_append (ends st.mode (class_of c)) (lexemes_from (onwards st.mode c (class_of c)) cs) st.stack)
     where
-      byViable : (m : Mode) (s : Stack A) (b : Bool) → viable m s.due ≡ b
+      by_viable : (m : Mode) (s : Stack A) (b : Bool) → viable m s.due ≡ b
           → called_of (met_from (suc n) cs (record { mode = m; stack = s })) ≡ trace (lexemes_from m cs) s
           → called_of (while_steps (cond b (some (record { mode = m; stack = s })) none) (met_from (suc n) cs)) ≡ trace (lexemes_from m cs) s
-      byViable m s true e h = h
-      byViable m s false e h = sym (not_viable_traced m s cs e)
+      by_viable m s true e h = h
+      by_viable m s false e h = sym (not_viable_traced m s cs e)
 
-      byFeed : (o : Option (Stack A)) → ((st : State A) → called_of (met_from (suc n) cs st) ≡ trace (lexemes_from st.mode cs) st.stack)
+      by_feed : (o : Option (Stack A)) → ((st : State A) → called_of (met_from (suc n) cs st) ≡ trace (lexemes_from st.mode cs) st.stack)
           → called_of (while_steps (and_then o (enter (onwards st.mode c (class_of c)))) (met_from (suc n) cs))
           ≡ on_stack o (trace (lexemes_from (onwards st.mode c (class_of c)) cs))
-      byFeed none h = refl
-      byFeed (some s) h =
+      by_feed none h = refl
+      by_feed (some s) h =
           let m : Mode = onwards st.mode c (class_of c) in
-          byViable m s (viable m s.due) refl (h (record { mode = m; stack = s }))
+          by_viable m s (viable m s.due) refl (h (record { mode = m; stack = s }))
 
 -- In a text that is read, the names met are those of its formula.
 pub names_met : (text : List ℕ) (φ : Formula) → Reads text φ → called_of (met text) ≡ names φ []

@@ -225,6 +225,7 @@ in_append l (x ∷ xs) ys (inr h) = go (in_append l xs ys h)
     go (inr b) = inr b
 
 in_left : (l : Located) (xs ys : List Located) → In l xs → In l (xs ++ ys)
+in_left l [] ys x' = elim x' [ ]
 in_left l (x ∷ xs) ys (inl e) = inl e
 in_left l (x ∷ xs) ys (inr h) = inr (in_left l xs ys h)
 
@@ -233,6 +234,7 @@ in_right l [] ys h = h
 in_right l (x ∷ xs) ys h = inr (in_right l xs ys h)
 
 every_in : (P : Located → Type 0) (ls : List Located) (l : Located) → Every P ls → In l ls → P l
+every_in P [] l h x'' = elim x'' [ ]
 every_in P (m ∷ ms) l h (inl e) = subst P (sym e) h.0
 every_in P (m ∷ ms) l h (inr i) = every_in P ms l h.1 i
 

@@ -33,12 +33,12 @@ mutual
     lets : List ℕ → Formula → Bindings → Formula → Bracketed
 
   pub data Formulas : Type 0 where
-    noFormula : Formulas
-    andFormula : Formula → Formulas → Formulas
+    no_formula : Formulas
+    and_formula : Formula → Formulas → Formulas
 
   pub data Bindings : Type 0 where
-    noBinding : Bindings
-    andBinding : List ℕ → Formula → Bindings → Bindings
+    no_binding : Bindings
+    and_binding : List ℕ → Formula → Bindings → Bindings
 
 -- ---- how they are spelled
 
@@ -65,25 +65,25 @@ unfoldable mutual
   pub spell : Formula → List Lexeme → List Lexeme
   spell (called w) rest = word (name w) ∷ rest
   spell (truth v) rest = word (constant v) ∷ rest
-  spell (bracketed b) rest = opens ∷ spellBracketed b rest
+  spell (bracketed b) rest = opens ∷ spell_bracketed b rest
 
   -- all after the opening bracket
-  pub spellBracketed : Bracketed → List Lexeme → List Lexeme
-  spellBracketed (denies φ) rest = word negation ∷ spell φ (closes ∷ rest)
-  spellBracketed (connects c φ ψ) rest = word (connective c) ∷ spell φ (spell ψ (closes ∷ rest))
-  spellBracketed (applies f φ φs) rest = word (name f) ∷ spell φ (spellFormulas φs rest)
-  spellBracketed (quantifies q x xs φ) rest = word (quantifier q) ∷ opens ∷ spell_variable x (spell_variables xs (spell φ (closes ∷ rest)))
-  spellBracketed (lets x φ xs ψ) rest = word letting ∷ opens ∷ opens ∷ word (name x) ∷ spell φ (closes ∷ spellBindings xs (spell ψ (closes ∷ rest)))
+  pub spell_bracketed : Bracketed → List Lexeme → List Lexeme
+  spell_bracketed (denies φ) rest = word negation ∷ spell φ (closes ∷ rest)
+  spell_bracketed (connects c φ ψ) rest = word (connective c) ∷ spell φ (spell ψ (closes ∷ rest))
+  spell_bracketed (applies f φ φs) rest = word (name f) ∷ spell φ (spell_formulas φs rest)
+  spell_bracketed (quantifies q x xs φ) rest = word (quantifier q) ∷ opens ∷ spell_variable x (spell_variables xs (spell φ (closes ∷ rest)))
+  spell_bracketed (lets x φ xs ψ) rest = word letting ∷ opens ∷ opens ∷ word (name x) ∷ spell φ (closes ∷ spell_bindings xs (spell ψ (closes ∷ rest)))
 
   -- formulas up to the closing bracket
-  pub spellFormulas : Formulas → List Lexeme → List Lexeme
-  spellFormulas noFormula rest = closes ∷ rest
-  spellFormulas (andFormula φ φs) rest = spell φ (spellFormulas φs rest)
+  pub spell_formulas : Formulas → List Lexeme → List Lexeme
+  spell_formulas no_formula rest = closes ∷ rest
+  spell_formulas (and_formula φ φs) rest = spell φ (spell_formulas φs rest)
 
   -- bindings up to the closing bracket
-  pub spellBindings : Bindings → List Lexeme → List Lexeme
-  spellBindings noBinding rest = closes ∷ rest
-  spellBindings (andBinding x φ xs) rest = opens ∷ word (name x) ∷ spell φ (closes ∷ spellBindings xs rest)
+  pub spell_bindings : Bindings → List Lexeme → List Lexeme
+  spell_bindings no_binding rest = closes ∷ rest
+  spell_bindings (and_binding x φ xs) rest = opens ∷ word (name x) ∷ spell φ (closes ∷ spell_bindings xs rest)
 
 unfoldable pub spelling : Formula → List Lexeme
 unfolding spell

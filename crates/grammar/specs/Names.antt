@@ -6,7 +6,7 @@ use Rattle.std.proofs.Math.Option.{Option, none, some}
 use Rattle.grammar.specs.Bytes.{Class, space, lineEnd, semicolon, opening, closing, digit, symbol, other, Word, constant, negation, connective}
 use Rattle.grammar.specs.Bytes.{quantifier, letting, sort, name, class_of, word_of}
 use Rattle.grammar.specs.Grammar.{SortedVariable, declares, Formula, called, truth, bracketed, Bracketed, denies, connects, applies, quantifies}
-use Rattle.grammar.specs.Grammar.{lets, Formulas, noFormula, andFormula, Bindings, noBinding, andBinding}
+use Rattle.grammar.specs.Grammar.{lets, Formulas, no_formula, and_formula, Bindings, no_binding, and_binding}
 use Rattle.grammar.specs.Grammar.{Mode, between, comment, within}
 use Rattle.grammar.specs.Parser.{Due, formula, formulas, inside, opener, closer, sorted, sorteds, bound, bounds, variable, sortName, State}
 use Rattle.grammar.specs.Parser.{step, Outcome, read, unread, start, parse}
@@ -36,22 +36,22 @@ unfoldable mutual
   pub names : Formula → List Name → List Name
   names (called w) rest = one either w rest
   names (truth v) rest = rest
-  names (bracketed b) rest = namesInside b rest
+  names (bracketed b) rest = names_inside b rest
 
-  pub namesInside : Bracketed → List Name → List Name
-  namesInside (denies φ) rest = names φ rest
-  namesInside (connects c φ ψ) rest = names φ (names ψ rest)
-  namesInside (applies f φ φs) rest = one symbolOnly f (names φ (namesOfAll φs rest))
-  namesInside (quantifies q x xs φ) rest = variable_names (x ∷ xs) (names φ rest)
-  namesInside (lets x φ xs ψ) rest = one variableOnly x (names φ (namesBound xs (names ψ rest)))
+  pub names_inside : Bracketed → List Name → List Name
+  names_inside (denies φ) rest = names φ rest
+  names_inside (connects c φ ψ) rest = names φ (names ψ rest)
+  names_inside (applies f φ φs) rest = one symbolOnly f (names φ (names_of_all φs rest))
+  names_inside (quantifies q x xs φ) rest = variable_names (x ∷ xs) (names φ rest)
+  names_inside (lets x φ xs ψ) rest = one variableOnly x (names φ (names_bound xs (names ψ rest)))
 
-  pub namesOfAll : Formulas → List Name → List Name
-  namesOfAll noFormula rest = rest
-  namesOfAll (andFormula φ φs) rest = names φ (namesOfAll φs rest)
+  pub names_of_all : Formulas → List Name → List Name
+  names_of_all no_formula rest = rest
+  names_of_all (and_formula φ φs) rest = names φ (names_of_all φs rest)
 
-  pub namesBound : Bindings → List Name → List Name
-  namesBound noBinding rest = rest
-  namesBound (andBinding x φ xs) rest = one variableOnly x (names φ (namesBound xs rest))
+  pub names_bound : Bindings → List Name → List Name
+  names_bound no_binding rest = rest
+  names_bound (and_binding x φ xs) rest = one variableOnly x (names φ (names_bound xs rest))
 
 -- ---- the names that the parser meets
 

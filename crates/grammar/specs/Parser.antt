@@ -5,9 +5,9 @@ use mathlib.Core.List.{List, [], ◌∷◌, ◌++◌}
 use Rattle.std.proofs.Math.Option.{Option, none, some}
 use Rattle.grammar.specs.Bytes.{SortWord, Word, constant, negation, connective, quantifier, letting, sort, name, class_of, bytes}
 use Rattle.grammar.specs.Grammar.{SortedVariable, declares, Formula, called, truth, bracketed, Bracketed, denies, connects, applies, quantifies}
-use Rattle.grammar.specs.Grammar.{lets, Formulas, noFormula, andFormula, Bindings, noBinding, andBinding, Lexeme, opens, closes, word, stray}
-use Rattle.grammar.specs.Grammar.{Mode, between, comment, within, ends, onwards, last, spell, spell_variable, spell_variables, spellBracketed}
-use Rattle.grammar.specs.Grammar.{spellFormulas, spellBindings}
+use Rattle.grammar.specs.Grammar.{lets, Formulas, no_formula, and_formula, Bindings, no_binding, and_binding, Lexeme, opens, closes, word, stray}
+use Rattle.grammar.specs.Grammar.{Mode, between, comment, within, ends, onwards, last, spell, spell_variable, spell_variables, spell_bracketed}
+use Rattle.grammar.specs.Grammar.{spell_formulas, spell_bindings}
 
 -- ---- what may be due
 
@@ -46,14 +46,14 @@ Fill (d ∷ σ) = One d × Fill σ
 unfoldable pub spell_one : (d : Due) → One d → List Lexeme → List Lexeme
 unfolding spell spell_variable spell_variables
 spell_one formula x rest = spell x rest
-spell_one formulas x rest = spellFormulas x rest
-spell_one inside x rest = spellBracketed x rest
+spell_one formulas x rest = spell_formulas x rest
+spell_one inside x rest = spell_bracketed x rest
 spell_one opener x rest = opens ∷ rest
 spell_one closer x rest = closes ∷ rest
 spell_one sorted x rest = spell_variable x rest
 spell_one sorteds x rest = spell_variables x rest
 spell_one bound x rest = opens ∷ word (name x.0) ∷ spell x.1 (closes ∷ rest)
-spell_one bounds x rest = spellBindings x rest
+spell_one bounds x rest = spell_bindings x rest
 spell_one variable x rest = word (name x) ∷ rest
 spell_one sortName x rest = word (sort x) ∷ rest
 
@@ -80,13 +80,13 @@ on_formula (sort s) = none
 on_formula (name w) = some (record { next = []; back = λ f. called w })
 
 unfoldable pub on_formulas : Word → Option (Move formulas)
-on_formulas (constant v) = some (record { next = formulas ∷ []; back = λ f. andFormula (truth v) f.0 })
+on_formulas (constant v) = some (record { next = formulas ∷ []; back = λ f. and_formula (truth v) f.0 })
 on_formulas negation = none
 on_formulas (connective c) = none
 on_formulas (quantifier q) = none
 on_formulas letting = none
 on_formulas (sort s) = none
-on_formulas (name w) = some (record { next = formulas ∷ []; back = λ f. andFormula (called w) f.0 })
+on_formulas (name w) = some (record { next = formulas ∷ []; back = λ f. and_formula (called w) f.0 })
 
 unfoldable pub on_inside : Word → Option (Move inside)
 on_inside (constant v) = none
@@ -123,8 +123,8 @@ advance formula opens = some (record { next = inside ∷ []; back = λ f. bracke
 advance formula closes = none
 advance formula (word w) = on_formula w
 advance formula stray = none
-advance formulas opens = some (record { next = inside ∷ formulas ∷ []; back = λ f. andFormula (bracketed f.0) f.1.0 })
-advance formulas closes = some (record { next = []; back = λ f. noFormula })
+advance formulas opens = some (record { next = inside ∷ formulas ∷ []; back = λ f. and_formula (bracketed f.0) f.1.0 })
+advance formulas closes = some (record { next = []; back = λ f. no_formula })
 advance formulas (word w) = on_formulas w
 advance formulas stray = none
 advance inside opens = none
@@ -151,8 +151,8 @@ advance bound opens = some (record { next = variable ∷ formula ∷ closer ∷ 
 advance bound closes = none
 advance bound (word w) = none
 advance bound stray = none
-advance bounds opens = some (record { next = variable ∷ formula ∷ closer ∷ bounds ∷ []; back = λ f. andBinding f.0 f.1.0 f.1.1.1.0 })
-advance bounds closes = some (record { next = []; back = λ f. noBinding })
+advance bounds opens = some (record { next = variable ∷ formula ∷ closer ∷ bounds ∷ []; back = λ f. and_binding f.0 f.1.0 f.1.1.1.0 })
+advance bounds closes = some (record { next = []; back = λ f. no_binding })
 advance bounds (word w) = none
 advance bounds stray = none
 advance variable opens = none

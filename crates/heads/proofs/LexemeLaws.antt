@@ -1,8 +1,8 @@
 -- The next lexeme of a text whose lexemes are known.
 --     next_is                                   its number, its word, and what follows
 --     spell_arguments, spell_pairs              parts are spelled as the arguments and the pairs that they are
---     alone_at, none_at, applied-at, listed_at  heads
---     variable_ends, variable-goes, part_ends, argument_goes, pair_goes     items of lists
+--     alone_at, none_at, applied_at, listed_at  heads
+--     variable_ends, variable_goes, part_ends, argument_goes, pair_goes     items of lists
 use Prim.Native.Nat.{ℕ, ◌≤◌, ◌<◌, ◌-◌}
 use native.Mathlib.Omega.{arith}
 use mathlib.Core.Path.{◌≡◌, refl, sym, ap, ◌∙◌, subst}
@@ -14,8 +14,8 @@ use borrow.Author.Tests.{ne_eqb, leb-true}
 use Rattle.bundle.specs.Limits.{limits}
 use Rattle.grammar.specs.Bytes.{Word, constant, negation, connective, quantifier, letting, sort, name, word_of}
 use Rattle.grammar.specs.Grammar.{SortedVariable, declares, Formula, called, truth, bracketed, Bracketed, denies, connects, applies, quantifies, lets}
-use Rattle.grammar.specs.Grammar.{Formulas, noFormula, andFormula, Bindings, noBinding, andBinding, Lexeme, opens, closes, word, stray}
-use Rattle.grammar.specs.Grammar.{spell, spellBracketed, spell_variable, spell_variables, spellFormulas, spellBindings}
+use Rattle.grammar.specs.Grammar.{Formulas, no_formula, and_formula, Bindings, no_binding, and_binding, Lexeme, opens, closes, word, stray}
+use Rattle.grammar.specs.Grammar.{spell, spell_bracketed, spell_variable, spell_variables, spell_formulas, spell_bindings}
 use Rattle.lexing.specs.Codes.{word_code, lexeme_code}
 use Rattle.reading.specs.Called.{number_after}
 use Rattle.lexing.specs.Counted.{number_within, variable_among}
@@ -102,15 +102,15 @@ next_is {text} {i} {r} h l ls e = go (h.found (λ z. no_more (sym (h.over z) ∙
 
 -- ---- parts are spelled as what they are
 
-pub spell_arguments : (φs : Formulas) (rest : List Lexeme) → spellFormulas φs rest ≡ spell_parts false (arguments φs) rest
+pub spell_arguments : (φs : Formulas) (rest : List Lexeme) → spell_formulas φs rest ≡ spell_parts false (arguments φs) rest
 unfolding spell spell_parts arguments
-spell_arguments noFormula rest = refl
-spell_arguments (andFormula φ φs) rest = ap (spell φ) (spell_arguments φs rest)
+spell_arguments no_formula rest = refl
+spell_arguments (and_formula φ φs) rest = ap (spell φ) (spell_arguments φs rest)
 
-pub spell_pairs : (xs : Bindings) (rest : List Lexeme) → spellBindings xs rest ≡ spell_parts true (pairs xs) rest
+pub spell_pairs : (xs : Bindings) (rest : List Lexeme) → spell_bindings xs rest ≡ spell_parts true (pairs xs) rest
 unfolding spell spell_parts pairs
-spell_pairs noBinding rest = refl
-spell_pairs (andBinding x φ xs) rest =
+spell_pairs no_binding rest = refl
+spell_pairs (and_binding x φ xs) rest =
     ap (λ (ls : List Lexeme). opens ∷ word (name x) ∷ spell φ (closes ∷ ls)) (spell_pairs xs rest)
 
 -- ---- heads
@@ -128,7 +128,7 @@ module _ {text : List ℕ} {i : ℕ} {first : Lexed} (h : Lexes text i first) wh
   alone_head n (truth v) rest e =
       let k = next_is h (word (constant v)) rest e in
       record { kind = refl; word = k.word_is (constant v) refl; inside = k.after }
-  alone_head n (bracketed φ) rest e = absurd (n (next_is h opens (spellBracketed φ rest) e).code)
+  alone_head n (bracketed φ) rest e = absurd (n (next_is h opens (spell_bracketed φ rest) e).code)
 
   -- no formula starts with another byte
   no_head : (first.code ≡ 0 → ⊥) → (3 ≤ first.code → first.code ≤ 9 → ⊥) → (φ : Formula) (rest : List Lexeme) → lexemes_at text i ≡ spell φ rest → ⊥
@@ -139,7 +139,7 @@ module _ {text : List ℕ} {i : ℕ} {first : Lexed} (h : Lexes text i first) wh
   no_head n m (truth v) rest e =
       let k = (next_is h (word (constant v)) rest e).code in
       m (omega (arith, k, (word_codes (constant v)).0)) (omega (arith, k, (word_codes (constant v)).1))
-  no_head n m (bracketed φ) rest e = n (next_is h opens (spellBracketed φ rest) e).code
+  no_head n m (bracketed φ) rest e = n (next_is h opens (spell_bracketed φ rest) e).code
 
   -- a lexeme that there is ends after byte i
   goes_on_lem : (first.code ≡ 10 → ⊥) → i < first.end
@@ -164,31 +164,31 @@ module _ {text : List ℕ} {i : ℕ} {first : Lexed} (h : Lexes text i first) wh
   }
 
   module _ (bracket : first.code ≡ 0) where
-    bracket-on : i < first.end
-    bracket-on = goes_on_lem (λ e. omega (arith, bracket, e))
+    bracket_on : i < first.end
+    bracket_on = goes_on_lem (λ e. omega (arith, bracket, e))
 
     -- so it is a bracket's
     inside_only : (P : Formula → List Lexeme → Type 0)
-        → ((φ : Bracketed) (rest : List Lexeme) → lexemes_at text first.end ≡ spellBracketed φ rest → P (bracketed φ) rest)
+        → ((φ : Bracketed) (rest : List Lexeme) → lexemes_at text first.end ≡ spell_bracketed φ rest → P (bracketed φ) rest)
         → (φ : Formula) (rest : List Lexeme) → lexemes_at text i ≡ spell φ rest → P φ rest
     unfolding spell lexeme_code
     inside_only P f (called w) rest e =
         absurd (omega (arith, bracket, (next_is h (word (name w)) rest e).code, (word_codes (name w)).0))
     inside_only P f (truth v) rest e =
         absurd (omega (arith, bracket, (next_is h (word (constant v)) rest e).code, (word_codes (constant v)).0))
-    inside_only P f (bracketed φ) rest e = f φ rest (next_is h opens (spellBracketed φ rest) e).after
+    inside_only P f (bracketed φ) rest e = f φ rest (next_is h opens (spell_bracketed φ rest) e).after
 
     module _ {head : Lexed} (h2 : Lexes text first.end head) where
       abbrev applied : Head
       applied = record { kind = 1; start = head.start; end = head.end; inside = head.end }
 
       -- not, a connective or a symbol
-      applied-head : (6 ≤ head.code → head.code ≤ 7 → ⊥) → (φ : Formula) (rest : List Lexeme) → lexemes_at text i ≡ spell φ rest
+      applied_head : (6 ≤ head.code → head.code ≤ 7 → ⊥) → (φ : Formula) (rest : List Lexeme) → lexemes_at text i ≡ spell φ rest
           → HeadOf text applied φ rest
       unfolding spell spell_parts lexeme_code word_code
-      applied-head n = inside_only (HeadOf text applied) go
+      applied_head n = inside_only (HeadOf text applied) go
         where
-          go : (φ : Bracketed) (rest : List Lexeme) → lexemes_at text first.end ≡ spellBracketed φ rest → HeadInside text applied φ rest
+          go : (φ : Bracketed) (rest : List Lexeme) → lexemes_at text first.end ≡ spell_bracketed φ rest → HeadInside text applied φ rest
           go (denies φ) rest e =
               let k = next_is h2 _ _ e in
               record { kind = refl; word = k.word_is negation refl; inside = k.after }
@@ -201,13 +201,13 @@ module _ {text : List ℕ} {i : ℕ} {first : Lexed} (h : Lexes text i first) wh
           go (quantifies q x xs φ) rest e = absurd (n (omega (arith, (next_is h2 _ _ e).code)) (omega (arith, (next_is h2 _ _ e).code)))
           go (lets x φ xs ψ) rest e = absurd (n (omega (arith, (next_is h2 _ _ e).code)) (omega (arith, (next_is h2 _ _ e).code)))
 
-      pub applied-at : (6 ≤ head.code → head.code ≤ 7 → ⊥) → HeadAt text i applied
-      applied-at n = record {
+      pub applied_at : (6 ≤ head.code → head.code ≤ 7 → ⊥) → HeadAt text i applied
+      applied_at n = record {
         order = h2.order;
         whole = h2.inside;
         within = h2.inside;
-        further = λ k. omega (arith, bracket-on, h2.after, h2.order);
-        means = applied-head n;
+        further = λ k. omega (arith, bracket_on, h2.after, h2.order);
+        means = applied_head n;
       }
 
       module _ {opened : Lexed} (h3 : Lexes text head.end opened) where
@@ -215,12 +215,12 @@ module _ {text : List ℕ} {i : ℕ} {first : Lexed} (h : Lexes text i first) wh
         listed k = record { kind = k; start = head.start; end = head.end; inside = opened.end }
 
         -- a quantifier or a let, by the number of its word
-        listed-head : 6 ≤ head.code → head.code ≤ 7 → (φ : Formula) (rest : List Lexeme) → lexemes_at text i ≡ spell φ rest
+        listed_head : 6 ≤ head.code → head.code ≤ 7 → (φ : Formula) (rest : List Lexeme) → lexemes_at text i ≡ spell φ rest
             → HeadOf text (listed (head.code - 4)) φ rest
         unfolding spell spell_variables spell_parts lexeme_code word_code
-        listed-head l m = inside_only (HeadOf text (listed (head.code - 4))) go
+        listed_head l m = inside_only (HeadOf text (listed (head.code - 4))) go
           where
-            go : (φ : Bracketed) (rest : List Lexeme) → lexemes_at text first.end ≡ spellBracketed φ rest
+            go : (φ : Bracketed) (rest : List Lexeme) → lexemes_at text first.end ≡ spell_bracketed φ rest
                 → HeadInside text (listed (head.code - 4)) φ rest
             go (denies φ) rest e = absurd (omega (arith, l, (next_is h2 _ _ e).code))
             go (connects c φ ψ) rest e = absurd (omega (arith, l, (next_is h2 _ _ e).code))
@@ -244,8 +244,8 @@ module _ {text : List ℕ} {i : ℕ} {first : Lexed} (h : Lexes text i first) wh
           order = h2.order;
           whole = h2.inside;
           within = h3.inside;
-          further = λ k. omega (arith, bracket-on, h2.after, h2.order, h3.after, h3.order);
-          means = listed-head l m;
+          further = λ k. omega (arith, bracket_on, h2.after, h2.order, h3.after, h3.order);
+          means = listed_head l m;
         }
 
 -- ---- items
@@ -323,9 +323,9 @@ module _ (n : ℕ) {text : List ℕ} {i : ℕ} {first : Lexed} (h : Lexes text i
   variable_ends m = record { item = ended_item; further = λ k. absurd (true≢false k); means = variable_last m }
 
   module _ (small : n ≤ limits.variables) where
-    called-word : {v : ℕ} (w : List ℕ) → v ≡ variable_among n w → v ≤ 4294967295
+    called_word : {v : ℕ} (w : List ℕ) → v ≡ variable_among n w → v ≤ 4294967295
     unfolding number_within
-    called-word {v} w e = rw e (go (leb 1 (number_after 118 w)) (leb (number_after 118 w) n) refl)
+    called_word {v} w e = rw e (go (leb 1 (number_after 118 w)) (leb (number_after 118 w) n) refl)
       where
         go : (p q : Bool) → leb (number_after 118 w) n ≡ q → cond (p && q) (number_after 118 w) 0 ≤ 4294967295
         go true true k = omega (arith, leb-true (number_after 118 w) n k)
@@ -333,13 +333,13 @@ module _ (n : ℕ) {text : List ℕ} {i : ℕ} {first : Lexed} (h : Lexes text i
         go false true k = omega arith
         go false false k = omega arith
 
-    pub variable-goes : {c s z : Lexed} {v : ℕ} → first.code ≡ 0 → Lexes text first.end c → Lexes text c.end s → Lexes text s.end z
+    pub variable_goes : {c s z : Lexed} {v : ℕ} → first.code ≡ 0 → Lexes text first.end c → Lexes text c.end s → Lexes text s.end z
         → v ≡ variable_among n (part text c.start c.end) → VariableAt text n i (on v z.end)
-    variable-goes {c} {s} {z} {v} m h2 h3 h4 e =
+    variable_goes {c} {s} {z} {v} m h2 h3 h4 e =
         let more : i < z.end =
         omega (arith, goes_on_lem h (λ k. omega (arith, m, k)), h2.after, h2.order, h3.after, h3.order, h4.after, h4.order) in
         record {
-          item = record { after = omega (arith, more); within = h4.inside; word = called-word (part text c.start c.end) e };
+          item = record { after = omega (arith, more); within = h4.inside; word = called_word (part text c.start c.end) e };
           further = λ k. more;
           means = variable_on m h2 h3 h4 e;
         }
@@ -350,7 +350,7 @@ module _ (n : ℕ) {text : List ℕ} {i : ℕ} {first : Lexed} (h : Lexes text i
       item = record {
         after = omega (arith, h.after, h.order, h2.after, h2.order);
         within = h2.inside;
-        word = called-word (part text c.start
+        word = called_word (part text c.start
             c.end) k;
       };
       means = pair_on m h2 k;

@@ -2,7 +2,7 @@
 use Rattle.std.specs.Prelude.{ℕ, ◌≤◌, ◌<◌, ◌≡◌, Bool, true, false, cond, List, [], ◌∷◌, length}
 use Rattle.grammar.specs.Bytes.{Word, constant, negation, connective, quantifier, letting, name, word_of}
 use Rattle.grammar.specs.Grammar.{SortedVariable, declares, Formula, called, truth, bracketed, Bracketed, denies, connects, applies, quantifies, lets}
-use Rattle.grammar.specs.Grammar.{Formulas, noFormula, andFormula, Bindings, noBinding, andBinding, Lexeme, opens, closes, word, spell, spell_variables}
+use Rattle.grammar.specs.Grammar.{Formulas, no_formula, and_formula, Bindings, no_binding, and_binding, Lexeme, opens, closes, word, spell, spell_variables}
 use Rattle.lexing.specs.Counted.{variable_among}
 use Rattle.lexing.specs.Lexes.{part, lexemes_at}
 use Rattle.heads.specs.declared.Head.{Head}
@@ -31,12 +31,12 @@ spell_parts bound [] rest = closes ∷ rest
 spell_parts bound (p ∷ ps) rest = spell_part bound p (spell_parts bound ps rest)
 
 unfoldable pub arguments : Formulas → List Part
-arguments noFormula = []
-arguments (andFormula φ φs) = record { called = []; formula = φ } ∷ arguments φs
+arguments no_formula = []
+arguments (and_formula φ φs) = record { called = []; formula = φ } ∷ arguments φs
 
 unfoldable pub pairs : Bindings → List Part
-pairs noBinding = []
-pairs (andBinding x φ xs) = record { called = x; formula = φ } ∷ pairs xs
+pairs no_binding = []
+pairs (and_binding x φ xs) = record { called = x; formula = φ } ∷ pairs xs
 
 -- ---- the head of a formula
 

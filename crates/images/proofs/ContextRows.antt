@@ -7,12 +7,12 @@
 --     record_below                           a record ends before a later one starts
 --     row_room                               room for a row, in the words of the code
 --     row_kept, moves_kept, mentions_kept    so the rows and sets of lower contexts do
---     mention_set, entered-place             one place written
+--     mention_set, entered_place             one place written
 --     told_place                             what is written says something
 --     Replacing, replacing_on                a list of variables replaced, side by side with a list of terms
 --     moved_inside                           only variables that there are can be moved
---     inherited, sets-copied, agrees_copied  the row and the sets of the parent
---     images-on, sets-on                     with the entry written over them, they are the context's own
+--     inherited, sets_copied, agrees_copied  the row and the sets of the parent
+--     images_on, sets_on                     with the entry written over them, they are the context's own
 --     apart_settled, subset_in_scope         a term is settled where its free set and the moved set have nothing in common; in scope where its free set is a
 --                                            subset of that of the mentioned variables
 use mathlib.Core.Path.{◌≡◌, refl, sym, ap, ◌∙◌}
@@ -204,52 +204,52 @@ module _ (b : Bundle) (w : List ℕ) (k x t : ℕ) (one : 1 ≤ x) (few : x ≤ 
     held = holds_small n x one (omega arith)
 
     -- the sets as the code leaves them
-    abbrev with-mention : List ℕ
-    with-mention = inserted m (mentioned_at n k) n x
+    abbrev with_mention : List ℕ
+    with_mention = inserted m (mentioned_at n k) n x
 
-    abbrev left-set : Bool → List ℕ
-    left-set p = cond p (inserted with-mention (moved_at n k) n x) (removed with-mention (moved_at n k) n x)
+    abbrev left_set : Bool → List ℕ
+    left_set p = cond p (inserted with_mention (moved_at n k) n x) (removed with_mention (moved_at n k) n x)
 
-    mention-long : length with-mention ≡ length m
-    mention-long = changed_length with_bit m (mentioned_at n k) n x
+    mention_long : length with_mention ≡ length m
+    mention_long = changed_length with_bit m (mentioned_at n k) n x
 
-    fits : moved_at n k + n ≤ length with-mention
-    fits = omega (arith, words, mention-long)
+    fits : moved_at n k + n ≤ length with_mention
+    fits = omega (arith, words, mention_long)
 
     -- the moved set is written after the other, and stands apart from it
-    before : (y : ℕ) → member with-mention (moved_at n k) n y ≡ member m (moved_at n k) n y
-    before y = member_same with-mention m (moved_at n k) n (λ i l. changed_out with_bit m (mentioned_at n k) n x (moved_at n k + i) (inl (omega arith))) y
+    before : (y : ℕ) → member with_mention (moved_at n k) n y ≡ member m (moved_at n k) n y
+    before y = member_same with_mention m (moved_at n k) n (λ i l. changed_out with_bit m (mentioned_at n k) n x (moved_at n k + i) (inl (omega arith))) y
 
-    in-set : (p : Bool) (y : ℕ) → member (left-set p) (moved_at n k) n y ≡ cond (eqb y x) p (member m (moved_at n k) n y)
-    in-set true y = member_inserted with-mention (moved_at n k) n x fits held y ∙ ap (λ (q : Bool). eqb y x || q) (before y) ∙ go (eqb y x)
+    in_set : (p : Bool) (y : ℕ) → member (left_set p) (moved_at n k) n y ≡ cond (eqb y x) p (member m (moved_at n k) n y)
+    in_set true y = member_inserted with_mention (moved_at n k) n x fits held y ∙ ap (λ (q : Bool). eqb y x || q) (before y) ∙ go (eqb y x)
       where
         go : (q : Bool) → (q || member m (moved_at n k) n y) ≡ cond q true (member m (moved_at n k) n y)
         go true = refl
         go false = refl
-    in-set false y = member_removed with-mention (moved_at n k) n x fits held y ∙ ap (λ (q : Bool). not (eqb y x) && q) (before y) ∙ go (eqb y x)
+    in_set false y = member_removed with_mention (moved_at n k) n x fits held y ∙ ap (λ (q : Bool). not (eqb y x) && q) (before y) ∙ go (eqb y x)
       where
         go : (q : Bool) → (not q && member m (moved_at n k) n y) ≡ cond q false (member m (moved_at n k) n y)
         go true = refl
         go false = refl
 
-    past : (p : Bool) (j : ℕ) → (j < moved_at n k) ⊎ (mentioned_at n k ≤ j) → get_or (left-set p) j 0 ≡ get_or with-mention j 0
-    past true j h = changed_out with_bit with-mention (moved_at n k) n x j h
-    past false j h = changed_out without_bit with-mention (moved_at n k) n x j h
+    past : (p : Bool) (j : ℕ) → (j < moved_at n k) ⊎ (mentioned_at n k ≤ j) → get_or (left_set p) j 0 ≡ get_or with_mention j 0
+    past true j h = changed_out with_bit with_mention (moved_at n k) n x j h
+    past false j h = changed_out without_bit with_mention (moved_at n k) n x j h
 
-    in-mentions : (p : Bool) (y : ℕ) → member (left-set p) (mentioned_at n k) n y ≡ (eqb y x || member m (mentioned_at n k) n y)
-    in-mentions p y =
-        member_same (left-set p) with-mention (mentioned_at n k) n (λ i l. past p (mentioned_at n k + i) (inr (omega arith))) y
+    in_mentions : (p : Bool) (y : ℕ) → member (left_set p) (mentioned_at n k) n y ≡ (eqb y x || member m (mentioned_at n k) n y)
+    in_mentions p y =
+        member_same (left_set p) with_mention (mentioned_at n k) n (λ i l. past p (mentioned_at n k + i) (inr (omega arith))) y
         ∙ member_inserted m (mentioned_at n k) n x (omega (arith, words)) held y
 
-    set_out : (p : Bool) (j : ℕ) → j < 2 * n * k → get_or (left-set p) j 0 ≡ get_or m j 0
+    set_out : (p : Bool) (j : ℕ) → j < 2 * n * k → get_or (left_set p) j 0 ≡ get_or m j 0
     set_out p j h = past p j (inl h) ∙ changed_out with_bit m (mentioned_at n k) n x j (inl (omega arith))
 
-    set_long : (p : Bool) → length (left-set p) ≡ length m
-    set_long true = changed_length with_bit with-mention (moved_at n k) n x ∙ mention-long
-    set_long false = changed_length without_bit with-mention (moved_at n k) n x ∙ mention-long
+    set_long : (p : Bool) → length (left_set p) ≡ length m
+    set_long true = changed_length with_bit with_mention (moved_at n k) n x ∙ mention_long
+    set_long false = changed_length without_bit with_mention (moved_at n k) n x ∙ mention_long
 
-    entered-set : m' ≡ left-set moves → Entered b w m (set w (length b.variables * k + (x - 1)) t) m' n k (λ y m. cond (eqb x y) (as_mention t) m)
-    entered-set e = rw e (record {
+    entered_set : m' ≡ left_set moves → Entered b w m (set w (length b.variables * k + (x - 1)) t) m' n k (λ y m. cond (eqb x y) (as_mention t) m)
+    entered_set e = rw e (record {
       lower = record {
         long_row = length-set w (length b.variables * k + (x - 1)) t;
         long_set = set_long moves;
@@ -258,8 +258,8 @@ module _ (b : Bundle) (w : List ℕ) (k x t : ℕ) (one : 1 ≤ x) (few : x ≤ 
       };
       mentions = mention_set;
       agrees = record {
-        moves = λ y. in-set moves y ∙ agree y (ℕ_discrete x y);
-        mentions = λ y. in-mentions moves y ∙ tells y (ℕ_discrete x y);
+        moves = λ y. in_set moves y ∙ agree y (ℕ_discrete x y);
+        mentions = λ y. in_mentions moves y ∙ tells y (ℕ_discrete x y);
       };
     })
       where
@@ -274,10 +274,10 @@ module _ (b : Bundle) (w : List ℕ) (k x t : ℕ) (one : 1 ≤ x) (few : x ≤ 
         tells y (no q) = rw (mention_set y, ne_eqb x y q, ne_eqb y x (λ r. q (sym r))) (agrees.mentions y)
 
     -- the same of the places as the code has them
-    pub entered-place : {p : ℕ} → p ≡ length b.variables * k + (x - 1) → m₁ ≡ with-mention
+    pub entered_place : {p : ℕ} → p ≡ length b.variables * k + (x - 1) → m₁ ≡ with_mention
         → m' ≡ cond moves (inserted m₁ (moved_at n k) n x) (removed m₁ (moved_at n k) n x)
         → Entered b w m (set w p t) m' n k (λ y m. cond (eqb x y) (as_mention t) m)
-    entered-place q d e = rw q (entered-set (rw d at e))
+    entered_place q d e = rw q (entered_set (rw d at e))
 
 -- a term's number, or what stands for a fixed variable, says something
 pub told_place : (t : ℕ) → 1 ≤ t → mentioned_by (as_mention t) ≡ true
@@ -366,8 +366,8 @@ module _ (b : Bundle) (w m w' m₁ : List ℕ) (n k p : ℕ) (lower : p < k) (ro
     word : (i : ℕ) → i < 2 * n → get_or m₁ (2 * n * k + i) 0 ≡ get_or m (2 * n * p + i) 0
     word i l = rw copy (filled_in (λ i. get_or m (2 * n * p + i) 0) m (2 * n * k) (2 * n) i room.words l)
 
-    pub sets-copied : SetsCopied m m₁ n k p
-    sets-copied = record {
+    pub sets_copied : SetsCopied m m₁ n k p
+    sets_copied = record {
       moves = λ x. member_moved m₁ m (moved_at n k) (moved_at n p) n (λ i l. word i (omega arith)) x;
       mentions =
           λ x. member_moved m₁ m (mentioned_at n k) (mentioned_at n p) n
@@ -397,16 +397,16 @@ module _ (b : Bundle) (w m w' m' : List ℕ) (n k p : ℕ) (lower : p < k) (imag
     here : (x : ℕ) → mention_in b w'' k x ≡ found b k x
     here x = entered.mentions x ∙ ap (f x) (copied x ∙ images.same p x lower) ∙ own x
 
-    pub images-on : Images b w'' (k + 1)
-    images-on = record { long = omega (arith, room.row, all.long_row); same = λ j x h. go j x (ℕ_discrete j k) h }
+    pub images_on : Images b w'' (k + 1)
+    images_on = record { long = omega (arith, room.row, all.long_row); same = λ j x h. go j x (ℕ_discrete j k) h }
       where
         go : (j x : ℕ) → Dec (j ≡ k) → j < k + 1 → mention_in b w'' j x ≡ found b j x
         go j x (yes q) h = rw q (here x)
         go j x (no q) h = row_kept b w m w'' m'' n k all j x (omega arith) ∙ images.same j x (omega arith)
 
-    pub sets-on : Scopes b m'' n (k + 1)
+    pub sets_on : Scopes b m'' n (k + 1)
     unfolding mentioned
-    sets-on = record {
+    sets_on = record {
       long = omega (arith, room.words, all.long_set, distrib n k);
       moves = λ j x h. go j x (ℕ_discrete j k) h;
       mentions = λ j x h. told j x (ℕ_discrete j k) h;
@@ -458,15 +458,15 @@ module _ (b : Bundle) (w m : List ℕ) (at n k t : ℕ) (free : (x : ℕ) → me
   subset_in_scope =
       both_ways (subset_of w at m (mentioned_at n k) n) (in_scope b k t)
       (λ e. up_to_all (length b.variables) here
-      (λ x one few. or-of (free_at b t x) (mentioned b k x) (λ f. sym (sets.mentions k x (omega arith)) ∙ subset_member w at m (mentioned_at n k) n e x (free x ∙ f))))
+      (λ x one few. or_of (free_at b t x) (mentioned b k x) (λ f. sym (sets.mentions k x (omega arith)) ∙ subset_member w at m (mentioned_at n k) n e x (free x ∙ f))))
       (λ e. member_subset w at m (mentioned_at n k) n words (λ u h. sets.mentions k u (omega arith) ∙ stands e u (sym (free u) ∙ h)))
     where
       here : ℕ → Bool
       here x = not (free_at b t x) || mentioned b k x
 
-      or-of : (p q : Bool) → (p ≡ true → q ≡ true) → (not p || q) ≡ true
-      or-of true q h = h refl
-      or-of false q h = refl
+      or_of : (p q : Bool) → (p ≡ true → q ≡ true) → (not p || q) ≡ true
+      or_of true q h = h refl
+      or_of false q h = refl
 
       of_or : (p q : Bool) → (not p || q) ≡ true → p ≡ true → q ≡ true
       of_or true q h e = h

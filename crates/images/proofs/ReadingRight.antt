@@ -1,9 +1,9 @@
 -- Where the memory is right, its reading is the bundle's own: so what the code says of the reading it says of the bundle.
 --     free_long                     the free sets stand within the words
---     free_right, settled-right, scope-right     the free variables of each term; the settled terms of a context, and those in scope, where its sets are right
+--     free_right, settled_right, scope_right     the free variables of each term; the settled terms of a context, and those in scope, where its sets are right
 --     step_right                    the steps, where the bed has none
---     reading-right                 THE LAW: the whole reading
---     fault-right, pairs-right, lent-right     so the faults of steps and the pairs of walks are the bundle's, and the memory is long enough
+--     reading_right                 THE LAW: the whole reading
+--     fault_right, pairs_right, lent_right     so the faults of steps and the pairs of walks are the bundle's, and the memory is long enough
 use mathlib.Core.Path.{◌≡◌, refl, sym, ap, ap₂, ◌∙◌, fun_ext}
 use mathlib.Core.Bool.{Bool, true, false, not, ◌||◌}
 use mathlib.Core.List.{List, append-nil}
@@ -102,8 +102,8 @@ module _ (f : List ℕ) (c : Counts) (w : List ℕ) (n : ℕ) (sets : FreeSets w
           free_past c.terms w n t v (omega arith) ∙ sym (none (at_none no_term (bundle_at f c).terms t (omega (arith, terms_length f c))))
 
   module _ (words : (j : ℕ) → get_or w j 0 < 2 ^ 64) (m : List ℕ) where
-    pub settled-right : (k t : ℕ) → Scopes (bundle_at f c) m n (k + 1) → settled_in c.terms w m n (moved_at n k) t ≡ settled (bundle_at f c) k t
-    settled-right k t scopes = go (ℕ_discrete t 0) (dec_le t c.terms)
+    pub settled_right : (k t : ℕ) → Scopes (bundle_at f c) m n (k + 1) → settled_in c.terms w m n (moved_at n k) t ≡ settled (bundle_at f c) k t
+    settled_right k t scopes = go (ℕ_discrete t 0) (dec_le t c.terms)
       where
         go : Dec (t ≡ 0) → Dec (t ≤ c.terms) → settled_in c.terms w m n (moved_at n k) t ≡ settled (bundle_at f c) k t
         go (yes q) d = settled_zero c.terms w m n (moved_at n k) t q ∙ sym (settled_none (bundle_at f c) k t (rw q))
@@ -115,8 +115,8 @@ module _ (f : List ℕ) (c : Counts) (w : List ℕ) (n : ℕ) (sets : FreeSets w
             settled_past c.terms w m n (moved_at n k) t (omega arith)
             ∙ sym (settled_none (bundle_at f c) k t (at_none no_term (bundle_at f c).terms t (omega (arith, terms_length f c))))
 
-    pub scope-right : (k t : ℕ) → Scopes (bundle_at f c) m n (k + 1) → in_scope_in c.terms w m n (mentioned_at n k) t ≡ in_scope (bundle_at f c) k t
-    scope-right k t scopes = go (ℕ_discrete t 0) (dec_le t c.terms)
+    pub scope_right : (k t : ℕ) → Scopes (bundle_at f c) m n (k + 1) → in_scope_in c.terms w m n (mentioned_at n k) t ≡ in_scope (bundle_at f c) k t
+    scope_right k t scopes = go (ℕ_discrete t 0) (dec_le t c.terms)
       where
         go : Dec (t ≡ 0) → Dec (t ≤ c.terms) → in_scope_in c.terms w m n (mentioned_at n k) t ≡ in_scope (bundle_at f c) k t
         go (yes q) d = scope_zero c.terms w m n (mentioned_at n k) t q ∙ sym (scope_none (bundle_at f c) k t (rw q))
@@ -129,65 +129,65 @@ module _ (f : List ℕ) (c : Counts) (w : List ℕ) (n : ℕ) (sets : FreeSets w
             ∙ sym (scope_none (bundle_at f c) k t (at_none no_term (bundle_at f c).terms t (omega (arith, terms_length f c))))
 
     module _ (images : List ℕ) (rows : Images (bundle_at f c) images (c.contexts + 1)) (scopes : Scopes (bundle_at f c) m n (c.contexts + 1)) where
-      no-context : (k : ℕ) → (k ≤ c.contexts → ⊥) → context_of (bundle_at f c) k ≡ no_context
-      no-context k l = at_none no_context (bundle_at f c).contexts k (omega (arith, contexts_length f c))
+      no_context_lem : (k : ℕ) → (k ≤ c.contexts → ⊥) → context_of (bundle_at f c) k ≡ no_context
+      no_context_lem k l = at_none no_context (bundle_at f c).contexts k (omega (arith, contexts_length f c))
 
-      pub all-mentions : (k x : ℕ) → mentions_in c images k x ≡ found (bundle_at f c) k x
-      all-mentions k x = go (dec_le k c.contexts)
+      pub all_mentions : (k x : ℕ) → mentions_in c images k x ≡ found (bundle_at f c) k x
+      all_mentions k x = go (dec_le k c.contexts)
         where
           go : Dec (k ≤ c.contexts) → mentions_in c images k x ≡ found (bundle_at f c) k x
           go (yes l) =
               rw (le-leb k c.contexts l) (ap (λ (v : ℕ). mention_at v images k x) (sym (variables_length f c)) ∙ rows.same k x (omega arith))
-          go (no l) = rw (lt-leb k c.contexts (omega arith), found_none (bundle_at f c) k (no-context k l))
+          go (no l) = rw (lt-leb k c.contexts (omega arith), found_none (bundle_at f c) k (no_context_lem k l))
 
-      pub all-images : (k x : ℕ) → images_in c images k x ≡ image (bundle_at f c) k x
-      all-images k x = ap as_image (all-mentions k x) ∙ sym (image_found (bundle_at f c) k x)
+      pub all_images : (k x : ℕ) → images_in c images k x ≡ image (bundle_at f c) k x
+      all_images k x = ap as_image (all_mentions k x) ∙ sym (image_found (bundle_at f c) k x)
 
-      few-scopes : (k : ℕ) → k ≤ c.contexts → Scopes (bundle_at f c) m n (k + 1)
-      few-scopes k l = scopes_few (bundle_at f c) m n (c.contexts + 1) (k + 1) (omega arith) (mul-le-mul_left n (omega arith)) scopes
+      few_scopes : (k : ℕ) → k ≤ c.contexts → Scopes (bundle_at f c) m n (k + 1)
+      few_scopes k l = scopes_few (bundle_at f c) m n (c.contexts + 1) (k + 1) (omega arith) (mul-le-mul_left n (omega arith)) scopes
 
-      pub all-settleds : (k t : ℕ) → all_settled_in c w m n k t ≡ settled (bundle_at f c) k t
-      all-settleds k t = go (dec_le k c.contexts)
+      pub all_settleds : (k t : ℕ) → all_settled_in c w m n k t ≡ settled (bundle_at f c) k t
+      all_settleds k t = go (dec_le k c.contexts)
         where
           go : Dec (k ≤ c.contexts) → all_settled_in c w m n k t ≡ settled (bundle_at f c) k t
           go (yes l) =
               rw (le-leb k c.contexts l)
-              (settled-right k t (few-scopes k l))
-          go (no l) = rw (lt-leb k c.contexts (omega arith), all_settled (bundle_at f c) k t (no-context k l))
+              (settled_right k t (few_scopes k l))
+          go (no l) = rw (lt-leb k c.contexts (omega arith), all_settled (bundle_at f c) k t (no_context_lem k l))
 
-      pub all-in-scope : (k t : ℕ) → all_in_scope_in c w m n k t ≡ in_scope (bundle_at f c) k t
+      pub all_in_scope : (k t : ℕ) → all_in_scope_in c w m n k t ≡ in_scope (bundle_at f c) k t
       unfolding all_in_scope_in in_scope
-      all-in-scope k t = go (dec_le k c.contexts)
+      all_in_scope k t = go (dec_le k c.contexts)
         where
           go : Dec (k ≤ c.contexts) → all_in_scope_in c w m n k t ≡ in_scope (bundle_at f c) k t
-          go (yes l) = rw (le-leb k c.contexts l) (scope-right k t (few-scopes k l))
+          go (yes l) = rw (le-leb k c.contexts l) (scope_right k t (few_scopes k l))
           go (no l) =
               rw (lt-leb k c.contexts (omega arith))
               (ap₂ up_to (sym (variables_length f c)) (fun_ext (λ x. ap not (free_right t x)
-              ∙ sym (or_neither (not (free_at (bundle_at f c) t x)) (not_mentioned (bundle_at f c) k x (no-context k l))))))
+              ∙ sym (or_neither (not (free_at (bundle_at f c) t x)) (not_mentioned (bundle_at f c) k x (no_context_lem k l))))))
 
-      pub reading-right : (bed : List ℕ) → length bed < 5 → reading_in f c w n images m bed ≡ reading_of (bundle_at f c)
+      pub reading_right : (bed : List ℕ) → length bed < 5 → reading_in f c w n images m bed ≡ reading_of (bundle_at f c)
       unfolding reading_in
-      reading-right bed short = λ i. record {
+      reading_right bed short = λ i. record {
         free = fun_ext (λ t. fun_ext (free_right t)) i;
-        image = fun_ext (λ k. fun_ext (all-images k)) i;
-        settled = fun_ext (λ k. fun_ext (all-settleds k)) i;
-        in_scope = fun_ext (λ k. fun_ext (all-in-scope k)) i;
+        image = fun_ext (λ k. fun_ext (all_images k)) i;
+        settled = fun_ext (λ k. fun_ext (all_settleds k)) i;
+        in_scope = fun_ext (λ k. fun_ext (all_in_scope k)) i;
         step = fun_ext (step_right f c bed short) i;
       }
 
       -- what is wrong with step k, in the words of the code and in those of the bundle
-      pub fault-right : (bed : List ℕ) → length bed < 5 → (k : ℕ)
+      pub fault_right : (bed : List ℕ) → length bed < 5 → (k : ℕ)
           → step_fault_by (reading_in f c w n images m bed) (bundle_at f c) (k - 1) (step_of (bundle_at f c) k) ≡ step_fault (bundle_at f c) k
       unfolding step_fault
-      fault-right bed short k = ap (λ (g : Reading). step_fault_by g (bundle_at f c) (k - 1) (step_of (bundle_at f c) k)) (reading-right bed short)
+      fault_right bed short k = ap (λ (g : Reading). step_fault_by g (bundle_at f c) (k - 1) (step_of (bundle_at f c) k)) (reading_right bed short)
 
       -- the pairs that its walk visits
-      pub pairs-right : (bed : List ℕ) → length bed < 5 → (k : ℕ)
+      pub pairs_right : (bed : List ℕ) → length bed < 5 → (k : ℕ)
           → pairs_by (reading_in f c w n images m bed) (bundle_at f c) (step_of (bundle_at f c) k) ≡ walked_pairs (bundle_at f c) k
       unfolding walked_pairs
-      pairs-right bed short k = ap (λ (g : Reading). pairs_by g (bundle_at f c) (step_of (bundle_at f c) k)) (reading-right bed short)
+      pairs_right bed short k = ap (λ (g : Reading). pairs_by g (bundle_at f c) (step_of (bundle_at f c) k)) (reading_right bed short)
 
-      pub lent-right : c.variables ≤ 64 * n → n ≤ set_words → Lent c w images m n
-      lent-right bits few =
+      pub lent_right : c.variables ≤ 64 * n → n ≤ set_words → Lent c w images m n
+      lent_right bits few =
           record { bits = bits; few = few; free = free_long; images = rw (variables_length f c) at rows.long; scopes = scopes.long }

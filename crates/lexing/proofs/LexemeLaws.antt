@@ -1,6 +1,6 @@
 -- Laws of the next lexeme.
 --     word_small, code_small, found_word            the numbers of lexemes; what is found as a word is the word that stands there
---     lexes_end, lexes_run, lexes-bracket, lexes-stray   the answers of `lexemes::next_lexeme`
+--     lexes_end, lexes_run, lexes_bracket, lexes_stray   the answers of `lexemes::next_lexeme`
 use Prim.Native.Nat.{ℕ, suc, ◌+◌, ◌-◌, ◌≤◌, ◌<◌}
 use native.Mathlib.Omega.{arith}
 use native.Mathlib.Numerals.{add-one}
@@ -74,10 +74,10 @@ module _ (text : List ℕ) (i s : ℕ) (h : Skipped text i s) where
 
   -- a byte that is a lexeme
   module _ (l : s < length text) (k : ℕ) (isClass : k ≡ class_code (class_of (get_or text s 0))) where
-    lexes-one : (c : ℕ) (x : Class) → class_of (get_or text s 0) ≡ x → c < 3 → c ≡ lexeme_code (lexeme_of text (lexed c s (s + 1)))
+    lexes_one : (c : ℕ) (x : Class) → class_of (get_or text s 0) ≡ x → c < 3 → c ≡ lexeme_code (lexeme_of text (lexed c s (s + 1)))
         → ends between x ++ lexemes_from (onwards between (get_or text s 0) x) (drop (suc s) text) ≡ lexeme_of text (lexed c s (s + 1)) ∷ lexemes_at text (suc s)
         → Lexes text i (lexed c s (s + 1))
-    lexes-one c x is low coded next =
+    lexes_one c x is low coded next =
         let first = rw is at (step text s l between) in
         record {
           after = h.after;
@@ -95,23 +95,23 @@ module _ (text : List ℕ) (i s : ℕ) (h : Skipped text i s) where
         off : c ≡ 10 → ⊥
         off z = omega arith
 
-    pub lexes-bracket : k ≤ 4 → Lexes text i (lexed (k - 3) s (s + 1))
+    pub lexes_bracket : k ≤ 4 → Lexes text i (lexed (k - 3) s (s + 1))
     unfolding class_code lexeme_code lexeme_of ends onwards bracket outside
-    lexes-bracket low = go (class_of (get_or text s 0)) refl (h.starts l) isClass
+    lexes_bracket low = go (class_of (get_or text s 0)) refl (h.starts l) isClass
       where
         go : (x : Class) → class_of (get_or text s 0) ≡ x → 3 ≤ class_code x → k ≡ class_code x → Lexes text i (lexed (k - 3) s (s + 1))
         go space is a q = absurd (omega arith)
         go lineEnd is a q = absurd (omega arith)
         go semicolon is a q = absurd (omega arith)
-        go opening is a q = let z : k - 3 ≡ 0 = omega arith in rw z (lexes-one 0 opening is (omega arith) refl refl)
-        go closing is a q = let z : k - 3 ≡ 1 = omega arith in rw z (lexes-one 1 closing is (omega arith) refl refl)
+        go opening is a q = let z : k - 3 ≡ 0 = omega arith in rw z (lexes_one 0 opening is (omega arith) refl refl)
+        go closing is a q = let z : k - 3 ≡ 1 = omega arith in rw z (lexes_one 1 closing is (omega arith) refl refl)
         go digit is a q = absurd (omega arith)
         go symbol is a q = absurd (omega arith)
         go other is a q = absurd (omega arith)
 
-    pub lexes-stray : 5 ≤ k → (k ≡ 6 → ⊥) → Lexes text i (lexed 2 s (s + 1))
+    pub lexes_stray : 5 ≤ k → (k ≡ 6 → ⊥) → Lexes text i (lexed 2 s (s + 1))
     unfolding class_code lexeme_code lexeme_of ends onwards bracket outside
-    lexes-stray high ne = go (class_of (get_or text s 0)) refl isClass
+    lexes_stray high ne = go (class_of (get_or text s 0)) refl isClass
       where
         go : (x : Class) → class_of (get_or text s 0) ≡ x → k ≡ class_code x → Lexes text i (lexed 2 s (s + 1))
         go space is q = absurd (omega arith)
@@ -119,6 +119,6 @@ module _ (text : List ℕ) (i s : ℕ) (h : Skipped text i s) where
         go semicolon is q = absurd (omega arith)
         go opening is q = absurd (omega arith)
         go closing is q = absurd (omega arith)
-        go digit is q = lexes-one 2 digit is (omega arith) refl refl
+        go digit is q = lexes_one 2 digit is (omega arith) refl refl
         go symbol is q = absurd (ne q)
-        go other is q = lexes-one 2 other is (omega arith) refl refl
+        go other is q = lexes_one 2 other is (omega arith) refl refl

@@ -1,8 +1,8 @@
 -- Laws of a letter and a numeral, digit by digit, as `names::number_within` reads them; and the names of a bundle by its counts.
 --     nothing_short, nothing_letter, nothing_zero          runs that are no letter and numeral
---     counting_start, counting-on                          digits so far
---     nothing-below, nothing_above, nothing-high           a byte that is no digit; a number that is too high
---     nothing-low, counted                                 the run's end
+--     counting_start, counting_on                          digits so far
+--     nothing_below, nothing_above, nothing_high           a byte that is no digit; a number that is too high
+--     nothing_low, counted                                 the run's end
 --     known_symbol, known_variable, known_either           the kind due, by its number
 --     counts_suffice                                       THE LAW: the counts of a bundle say as much as the bundle
 use Prim.Native.Nat.{ℕ, suc, ◌+◌, ◌-◌, ◌*◌, ◌≤◌, ◌<◌}
@@ -82,8 +82,8 @@ module _ (letter low high : ℕ) where
       unfolding each decimal
       next = rw same (h.rest ∙ ap (λ ds. cond (each is_digit ds) (decimal n ds) 0) (drop-cons w j 0 l))
 
-      pub nothing-below : c < 48 → 0 ≡ number_within letter low high w
-      nothing-below k = nothing w (rw (lt-leb 48 c k) at next)
+      pub nothing_below : c < 48 → 0 ≡ number_within letter low high w
+      nothing_below k = nothing w (rw (lt-leb 48 c k) at next)
 
       pub nothing_above : 57 < c → 0 ≡ number_within letter low high w
       nothing_above k = nothing w (rw (lt-leb c 57 k, and_false (leb 48 c)) at next)
@@ -91,24 +91,24 @@ module _ (letter low high : ℕ) where
       digits : 48 ≤ c → c ≤ 57 → number_after letter w ≡ cond (each is_digit (drop (suc j) w)) (decimal (10 * n + (c - 48)) (drop (suc j) w)) 0
       digits k m = rw (le-leb 48 c k, le-leb c 57 m) at next
 
-      pub nothing-high : 48 ≤ c → c ≤ 57 → high < 10 * n + (c - 48) → 0 ≡ number_within letter low high w
-      nothing-high k m over = go (each is_digit (drop (suc j) w)) (digits k m)
+      pub nothing_high : 48 ≤ c → c ≤ 57 → high < 10 * n + (c - 48) → 0 ≡ number_within letter low high w
+      nothing_high k m over = go (each is_digit (drop (suc j) w)) (digits k m)
         where
           go : (b : Bool) → number_after letter w ≡ cond b (decimal (10 * n + (c - 48)) (drop (suc j) w)) 0 → 0 ≡ number_within letter low high w
           go true e = too_high w (omega (arith, e, over, decimal_rises (10 * n + (c - 48)) (drop (suc j) w)))
           go false e = nothing w e
 
-      pub counting-on : 48 ≤ c → c ≤ 57 → 10 * n + (c - 48) ≤ high → Counting w (10 * n + (c - 48)) (j + 1)
-      counting-on k m s = rw (add-one j) (record { inside = l; small = s; rest = digits k m })
+      pub counting_on : 48 ≤ c → c ≤ 57 → 10 * n + (c - 48) ≤ high → Counting w (10 * n + (c - 48)) (j + 1)
+      counting_on k m s = rw (add-one j) (record { inside = l; small = s; rest = digits k m })
 
     module _ (past : length w ≤ j) where
       whole : number_after letter w ≡ n
       unfolding each decimal
       whole = rw (drop_of_length-le w past) at h.rest
 
-      pub nothing-low : n < low → 0 ≡ number_within letter low high w
+      pub nothing_low : n < low → 0 ≡ number_within letter low high w
       unfolding number_within
-      nothing-low k = rw (whole, lt-leb low n k)
+      nothing_low k = rw (whole, lt-leb low n k)
 
       pub counted : low ≤ n → n ≡ number_within letter low high w
       unfolding number_within

@@ -1,7 +1,7 @@
 -- Laws of the search for a lexeme, byte by byte.
 --     step, past                                        one byte; the text's end
---     skip_start, skip-on, skip-here, skip_end          white space and comments, as `lexemes::skipped` goes over them
---     run_start, run_on, run-low, run-other, run_past   a run of symbol characters, as `lexemes::run_end` goes over it
+--     skip_start, skip_on, skip_here, skip_end          white space and comments, as `lexemes::skipped` goes over them
+--     run_start, run_on, run_low, run_other, run_past   a run of symbol characters, as `lexemes::run_end` goes over it
 --     part_more, grows, stops                           one byte more in a run; one that ends it
 use Prim.Native.Nat.{ℕ, zero, suc, ◌+◌, ◌-◌, ◌*◌, ◌≤◌, ◌<◌}
 use native.Mathlib.Omega.{arith}
@@ -124,22 +124,22 @@ module _ (text : List ℕ) (i m j : ℕ) (h : Skipping text i m j) where
   skip_index k isClass = omega (arith, h.mode, isClass, class_small (class_of (get_or text j 0)))
 
   module _ (l : j < length text) (k n : ℕ) (isClass : k ≡ class_code (class_of (get_or text j 0))) (isMode : n ≡ get_or skips (8 * m + k) 0) where
-    mode-is : n ≡ mode_after m (class_of (get_or text j 0))
-    mode-is = isMode ∙ ap (λ x. get_or skips (8 * m + x) 0) isClass
+    mode_is : n ≡ mode_after m (class_of (get_or text j 0))
+    mode_is = isMode ∙ ap (λ x. get_or skips (8 * m + x) 0) isClass
 
-    pub skip-on : (n ≡ 2 → ⊥) → Skipping text i n (j + 1)
-    skip-on ne =
-        let q : mode_after m (class_of (get_or text j 0)) ≡ 2 → ⊥ = λ e. ne (mode-is ∙ e) in
-        rw (add-one j, mode-is) (record {
+    pub skip_on : (n ≡ 2 → ⊥) → Skipping text i n (j + 1)
+    skip_on ne =
+        let q : mode_after m (class_of (get_or text j 0)) ≡ 2 → ⊥ = λ e. ne (mode_is ∙ e) in
+        rw (add-one j, mode_is) (record {
           after = omega (arith, h.after);
           inside = l;
           mode = mode_small m (class_of (get_or text j 0)) h.mode q;
           same = h.same ∙ step text j l (skipping m) ∙ goes_on_lem m (get_or text j 0) (class_of (get_or text j 0)) (drop (suc j) text) h.mode q;
         })
 
-    pub skip-here : n ≡ 2 → Skipped text i j
-    skip-here e =
-        let f = starts_here m (class_of (get_or text j 0)) h.mode (sym mode-is ∙ e) in
+    pub skip_here : n ≡ 2 → Skipped text i j
+    skip_here e =
+        let f = starts_here m (class_of (get_or text j 0)) h.mode (sym mode_is ∙ e) in
         record {
           after = h.after;
           inside = h.inside;
@@ -244,11 +244,11 @@ module _ (text : List ℕ) (s j : ℕ) (h : Running text s j) where
           ∙ ap (λ xs. word (word_of (part text s j)) ∷ xs) (sym (step text j l between));
     }
 
-    pub run-low : k < 5 → RunEnds text s j
-    run-low f = run_stops (inl (omega arith))
+    pub run_low : k < 5 → RunEnds text s j
+    run_low f = run_stops (inl (omega arith))
 
-    pub run-other : k ≡ 7 → RunEnds text s j
-    run-other f = run_stops (inr (sym isClass ∙ f))
+    pub run_other : k ≡ 7 → RunEnds text s j
+    run_other f = run_stops (inr (sym isClass ∙ f))
 
   pub run_past : length text ≤ j → RunEnds text s j
   unfolding last

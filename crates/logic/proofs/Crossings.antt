@@ -2,7 +2,7 @@
 --     LetBinds, bound_variables           the variables that a well-formed term binds
 --     sorts_meet_lem, sorts_met               variables of one sort, and lists of them
 --     all_sorts_meet_lem, all_sorts_met
---     Alike, alike-meets                  crossed binders under which the same terms meet
+--     Alike, alike_meets                  crossed binders under which the same terms meet
 --     cross_alike                         a let's variables crossed one after another are as all at once, where they are different
 --     cross_meets                         so the same terms meet
 use mathlib.Core.Path.{◌≡◌, refl, sym, ap, ap₂, ◌∙◌, subst}
@@ -18,7 +18,7 @@ use Rattle.bundle.specs.Bundle.{Bundle, TermRecord, term_of, sort_of_variable}
 use Rattle.bundle.specs.Links.{items}
 use Rattle.bundle.specs.Lists.{numbers, has}
 use Rattle.logic.specs.Lists.{Among, All, Different, Number}
-use Rattle.logic.specs.Terms.{Binder, Term, Terms, var, app, bind, letIn, none, more, kind_of, application, binder, letting}
+use Rattle.logic.specs.Terms.{Binder, Term, Terms, var, app, bind, let_in, none, more, kind_of, application, binder, letting}
 use Rattle.logic.specs.WellFormed.{TermFormed, a_variable, an_application, a_binder, a_let}
 use Rattle.logic.specs.ReflWalk.{Crossed, lefts, rights, cross_all, meets, sorts_meet, all_sorts_meet}
 use Rattle.logic.proofs.Tests.{and_left, and_right, and_both, numbers_of_lem, numbers_in}
@@ -46,18 +46,18 @@ module _ (b : Bundle) where
   pub bound_variables : (r : ℕ) → TermFormed b r → Binds (term_of b r)
   unfolding kind_of
   bound_variables r (a_variable x e n) = subst Binds (sym e) ((λ q k. n), λ k. absurd (omega arith))
-  bound_variables r (an_application f s e k st low sorts) = subst Binds (sym e) ((λ q k. absurd (no-binder q k)), λ k. absurd (omega arith))
+  bound_variables r (an_application f s e k st low sorts) = subst Binds (sym e) ((λ q k. absurd (no_binder q k)), λ k. absurd (omega arith))
     where
-      no-binder : (q : Binder) → application ≡ binder q → ⊥
-      no-binder q k = let z : ◌≡◌ {A = ℕ} 0 1 = cc in omega arith
+      no_binder : (q : Binder) → application ≡ binder q → ⊥
+      no_binder q k = let z : ◌≡◌ {A = ℕ} 0 1 = cc in omega arith
   bound_variables r (a_binder q k x t e h n low sorts) = subst Binds (sym e) ((λ o z. n), λ z. absurd (no_let (sym (ap kind_of z) ∙ h)))
     where
       no_let : letting ≡ binder q → ⊥
       no_let o = let z : ◌≡◌ {A = ℕ} 0 1 = cc in omega arith
-  bound_variables r (a_let vs ts t e sv nv st lows low lists) = subst Binds (sym e) ((λ q k. absurd (no-binder q k)), λ k. all)
+  bound_variables r (a_let vs ts t e sv nv st lows low lists) = subst Binds (sym e) ((λ q k. absurd (no_binder q k)), λ k. all)
     where
-      no-binder : (q : Binder) → letting ≡ binder q → ⊥
-      no-binder q k = let z : ◌≡◌ {A = ℕ} 0 1 = cc in omega arith
+      no_binder : (q : Binder) → letting ≡ binder q → ⊥
+      no_binder q k = let z : ◌≡◌ {A = ℕ} 0 1 = cc in omega arith
 
       all : LetBinds (record { kind = 5; a = vs; b = ts; c = t })
       all = record {
@@ -146,16 +146,16 @@ module _ (b : Bundle) (σ : ℕ → Term) where
       inr (sym (a.left x) ∙ out, e, λ y among f. apart y ((has_exactly y (rights ps)).0 (a.right y ∙ (has_exactly y (rights qs)).1 among)) f)
 
   mutual
-    pub alike-meets : (t : Term) (ps qs : Crossed) (r : Term) → Alike ps qs → Meets b σ ps t r → Meets b σ qs t r
-    alike-meets (var x) ps qs r a m = alike_variable x ps qs r a m
-    alike-meets (app f ts) ps qs r a (us, e, ms) = (us, e, alike_all ts ps qs us a ms)
-    alike-meets (bind q x t) ps qs r a (y, u, e, s, m) = (y, u, e, s, alike-meets t ((x, y) ∷ ps) ((x, y) ∷ qs) u (alike_cons (x, y) ps qs a) m)
-    alike-meets (letIn xs ts u) ps qs r a (ys, us, v, e, s, ms, m) =
-        (ys, us, v, e, s, alike_all ts ps qs us a ms, alike-meets u (pair_up xs ys ++ ps) (pair_up xs ys ++ qs) v (alike_pairs xs ys ps qs a) m)
+    pub alike_meets : (t : Term) (ps qs : Crossed) (r : Term) → Alike ps qs → Meets b σ ps t r → Meets b σ qs t r
+    alike_meets (var x) ps qs r a m = alike_variable x ps qs r a m
+    alike_meets (app f ts) ps qs r a (us, e, ms) = (us, e, alike_all ts ps qs us a ms)
+    alike_meets (bind q x t) ps qs r a (y, u, e, s, m) = (y, u, e, s, alike_meets t ((x, y) ∷ ps) ((x, y) ∷ qs) u (alike_cons (x, y) ps qs a) m)
+    alike_meets (let_in xs ts u) ps qs r a (ys, us, v, e, s, ms, m) =
+        (ys, us, v, e, s, alike_all ts ps qs us a ms, alike_meets u (pair_up xs ys ++ ps) (pair_up xs ys ++ qs) v (alike_pairs xs ys ps qs a) m)
 
     alike_all : (ts : Terms) (ps qs : Crossed) (rs : Terms) → Alike ps qs → MeetsAll b σ ps ts rs → MeetsAll b σ qs ts rs
     alike_all none ps qs rs a e = e
-    alike_all (more t ts) ps qs rs a (v, vs, e, m, ms) = (v, vs, e, alike-meets t ps qs v a m, alike_all ts ps qs vs a ms)
+    alike_all (more t ts) ps qs rs a (v, vs, e, m, ms) = (v, vs, e, alike_meets t ps qs v a m, alike_all ts ps qs vs a ms)
 
 -- ---- a let's variables
 
@@ -215,6 +215,6 @@ pub cross_meets : (b : Bundle) (σ : ℕ → Term) (xs ys : List ℕ) (ps : Cros
     → Meets b σ (pair_up xs ys ++ ps) t r ↔ Meets b σ (cross_all xs ys ps) t r
 cross_meets b σ xs ys ps dx dy t r =
     let a : Alike (pair_up xs ys ++ ps) (cross_all xs ys ps) = cross_alike xs ys ps dx dy in (
-      alike-meets b σ t (pair_up xs ys ++ ps) (cross_all xs ys ps) r a,
-      alike-meets b σ t (cross_all xs ys ps) (pair_up xs ys ++ ps) r (alike_sym (pair_up xs ys ++ ps) (cross_all xs ys ps) a),
+      alike_meets b σ t (pair_up xs ys ++ ps) (cross_all xs ys ps) r a,
+      alike_meets b σ t (cross_all xs ys ps) (pair_up xs ys ++ ps) r (alike_sym (pair_up xs ys ++ ps) (cross_all xs ys ps) a),
     )

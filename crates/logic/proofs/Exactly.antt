@@ -1,6 +1,6 @@
 -- Tests and what they say, put together: a test that holds exactly where a proposition does.
 --     eq_exactly, le_exactly, lt_exactly                  of numbers
---     not_exactly, or-exactly, imply-exactly, and-exactly, not_true_exactly, not_false_exactly     of truth values
+--     not_exactly, or_exactly, imply_exactly, and_exactly, not_true_exactly, not_false_exactly     of truth values
 --     number_exactly                                      a record's number
 --     has_exactly, each_exactly, different_exactly, same_list_exactly     of lists
 use mathlib.Core.Path.{◌≡◌, refl, sym}
@@ -39,8 +39,8 @@ module _ {A : Type 0} (p : Bool) (f : (p ≡ true) ↔ A) where
       go false e n = refl
 
   module _ {B : Type 0} (q : Bool) (g : (q ≡ true) ↔ B) where
-    pub or-exactly : ((p || q) ≡ true) ↔ (A ⊎ B)
-    or-exactly = (λ e. there (or_cases p q e), back)
+    pub or_exactly : ((p || q) ≡ true) ↔ (A ⊎ B)
+    or_exactly = (λ e. there (or_cases p q e), back)
       where
         there : (p ≡ true) ⊎ (q ≡ true) → A ⊎ B
         there (inl h) = inl (f.0 h)
@@ -50,8 +50,8 @@ module _ {A : Type 0} (p : Bool) (f : (p ≡ true) ↔ A) where
         back (inl a) = or_left p q (f.1 a)
         back (inr c) = or_right p q (g.1 c)
 
-    pub imply-exactly : ((not p || q) ≡ true) ↔ (A → B)
-    imply-exactly = (λ e a. there (or_cases (not p) q e) a, λ h. back p refl h)
+    pub imply_exactly : ((not p || q) ≡ true) ↔ (A → B)
+    imply_exactly = (λ e a. there (or_cases (not p) q e) a, λ h. back p refl h)
       where
         there : (not p ≡ true) ⊎ (q ≡ true) → A → B
         there (inl n) a = not_in p n (f.1 a)
@@ -61,8 +61,8 @@ module _ {A : Type 0} (p : Bool) (f : (p ≡ true) ↔ A) where
         back true e h = g.1 (h (f.0 e))
         back false e h = refl
 
-    pub and-exactly : ((p && q) ≡ true) ↔ (A × B)
-    and-exactly = (λ e. (f.0 (and_left p q e), g.0 (and_right p q e)), λ h. and_both p q (f.1 h.0) (g.1 h.1))
+    pub and_exactly : ((p && q) ≡ true) ↔ (A × B)
+    and_exactly = (λ e. (f.0 (and_left p q e), g.0 (and_right p q e)), λ h. and_both p q (f.1 h.0) (g.1 h.1))
 
 -- a test and its contrary
 pub not_true_exactly : (p : Bool) → (not p ≡ true) ↔ (p ≡ false)
@@ -78,17 +78,17 @@ not_false_exactly false = (sym, sym)
 pub has_exactly : (x : ℕ) (xs : List ℕ) → (has x xs ≡ true) ↔ Among x xs
 unfolding has
 has_exactly x [] = (false≢true, λ h. absurd h)
-has_exactly x (y ∷ ys) = or-exactly (eqb x y) (eq_exactly x y) (has x ys) (has_exactly x ys)
+has_exactly x (y ∷ ys) = or_exactly (eqb x y) (eq_exactly x y) (has x ys) (has_exactly x ys)
 
 pub each_exactly : (p : ℕ → Bool) (P : ℕ → Type 0) → ((x : ℕ) → (p x ≡ true) ↔ P x) → (xs : List ℕ) → (each p xs ≡ true) ↔ All P xs
 unfolding each
 each_exactly p P h [] = (λ e. tt, λ u. refl)
-each_exactly p P h (x ∷ xs) = and-exactly (p x) (h x) (each p xs) (each_exactly p P h xs)
+each_exactly p P h (x ∷ xs) = and_exactly (p x) (h x) (each p xs) (each_exactly p P h xs)
 
 pub different_exactly : (xs : List ℕ) → (different xs ≡ true) ↔ Different xs
 unfolding different
 different_exactly [] = (λ e. tt, λ u. refl)
-different_exactly (x ∷ xs) = and-exactly (not (has x xs)) (not_exactly (has x xs) (has_exactly x xs)) (different xs) (different_exactly xs)
+different_exactly (x ∷ xs) = and_exactly (not (has x xs)) (not_exactly (has x xs) (has_exactly x xs)) (different xs) (different_exactly xs)
 
 pub same_list_exactly : (xs ys : List ℕ) → (same_list xs ys ≡ true) ↔ (xs ≡ ys)
 same_list_exactly xs ys = (same_list_lem xs ys, list_same xs ys)

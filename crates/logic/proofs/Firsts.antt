@@ -1,7 +1,7 @@
 -- Laws of the first fault of a section, for a loop that counts i up from 1 to n and returns at the first record that is bad.
 -- `rest_fault f n i` is the first fault from record i on. A loop's invariant says that the first fault of all is that one.
 --     or_else_on, or_else_here     nothing is wrong: the rest says; something is: it is that
---     rest_start, rest-on, rest-here, rest_end     a loop's start, a good record, a bad one, no record left
+--     rest_start, rest_on, rest_here, rest_end     a loop's start, a good record, a bad one, no record left
 --     none_bad, none_bad_first     nothing is wrong in a section exactly where nothing is wrong with each record
 --     next_both, both_next         nothing is wrong in two sections exactly where nothing is wrong in each
 use mathlib.Core.Path.{◌≡◌, refl, sym, ap, subst, ◌∙◌}
@@ -39,12 +39,12 @@ module _ (f : ℕ → ℕ) (n : ℕ) where
         rw (e, add-one i)
 
     -- the code found m at record i. It is 0: look further
-    pub rest-on : {m : ℕ} → m ≡ f i → i ≤ n → m ≡ 0 → rest_fault f n i ≡ rest_fault f n (i + 1)
-    rest-on e l z = one_more l ∙ or_else_on (f i) i _ (sym e ∙ z)
+    pub rest_on : {m : ℕ} → m ≡ f i → i ≤ n → m ≡ 0 → rest_fault f n i ≡ rest_fault f n (i + 1)
+    rest_on e l z = one_more l ∙ or_else_on (f i) i _ (sym e ∙ z)
 
     -- it is not 0: record i is bad
-    pub rest-here : {m : ℕ} → m ≡ f i → i ≤ n → (m ≡ 0 → ⊥) → rest_fault f n i ≡ fault m i
-    rest-here e l ne = rw e (one_more l ∙ or_else_here (f i) i _ (λ z. ne (e ∙ z)))
+    pub rest_here : {m : ℕ} → m ≡ f i → i ≤ n → (m ≡ 0 → ⊥) → rest_fault f n i ≡ fault m i
+    rest_here e l ne = rw e (one_more l ∙ or_else_here (f i) i _ (λ z. ne (e ∙ z)))
 
     -- no record is left
     pub rest_end : n < i → rest_fault f n i ≡ fault 0 0

@@ -4,7 +4,7 @@
 --     given, tree_fixes, tree_replaces   the same of images as trees
 --     formed_context                     in a well-formed bundle a context of a kind other than 0 is well formed,
 --     parent_lower, same_sorts           so its parent is lower; its terms have the sorts of its variables
---     fixed-tree, replaced-tree, replaced-sorts     so these equations hold of what the rules' Fixes and Replaces say
+--     fixed_tree, replaced_tree, replaced_sorts     so these equations hold of what the rules' Fixes and Replaces say
 use mathlib.Core.Path.{◌≡◌, refl, sym, ap, ap₂, ◌∙◌}
 use Prim.Native.Nat.{ℕ, ◌<◌}
 use native.Mathlib.Omega.{arith}
@@ -135,19 +135,19 @@ module _ (b : Bundle) where
   -- ---- the same, of what the rules say of a context
 
   module _ (wf : WellFormed b) where
-    pub fixed-tree : {Δ y Γ : ℕ} → Fixes b Δ y Γ → (x : ℕ) → image_tree b Δ x ≡ cond (eqb y x) (var x) (image_tree b Γ x)
-    fixed-tree {Δ} f x =
+    pub fixed_tree : {Δ y Γ : ℕ} → Fixes b Δ y Γ → (x : ℕ) → image_tree b Δ x ≡ cond (eqb y x) (var x) (image_tree b Γ x)
+    fixed_tree {Δ} f x =
         tree_fixes Δ f.kind (parent_lower (formed_context wf Δ (λ e. omega (arith, f.kind)))) x
         ∙ ap₂ (λ (y Γ : ℕ). cond (eqb y x) (var x) (image_tree b Γ x)) f.variable f.parent
 
-    pub replaced-tree : {Δ Γ : ℕ} {xs : List ℕ} {ts : Terms} → Replaces b Δ xs ts Γ → (x : ℕ) → image_tree b Δ x ≡ given xs ts (image_tree b Γ) x
-    replaced-tree {Δ} {Γ} r x =
+    pub replaced_tree : {Δ Γ : ℕ} {xs : List ℕ} {ts : Terms} → Replaces b Δ xs ts Γ → (x : ℕ) → image_tree b Δ x ≡ given xs ts (image_tree b Γ) x
+    replaced_tree {Δ} {Γ} r x =
         tree_replaces Δ r.kind (parent_lower (formed_context wf Δ (λ e. omega (arith, r.kind)))) x
         ∙ ap (λ (p : ℕ). given (items b (context_of b Δ).a) (gather (tree b) (items b (context_of b Δ).b)) (image_tree b p) x) r.parent
         ∙ ap₂ (λ (xs : List ℕ) (ts : Terms). given xs ts (image_tree b Γ) x) r.variables r.terms
 
-    pub replaced-sorts : {Δ Γ : ℕ} {xs : List ℕ} {ts : Terms} → Replaces b Δ xs ts Γ → map (sort_of_variable b) xs ≡ sorts_of b ts
-    replaced-sorts {Δ} r =
+    pub replaced_sorts : {Δ Γ : ℕ} {xs : List ℕ} {ts : Terms} → Replaces b Δ xs ts Γ → map (sort_of_variable b) xs ≡ sorts_of b ts
+    replaced_sorts {Δ} r =
         sym (ap (map (sort_of_variable b)) r.variables)
         ∙ same_sorts (formed_context wf Δ (λ e. omega (arith, r.kind))) r.kind
         ∙ ap (sorts_of b) r.terms

@@ -18,11 +18,11 @@ use Rattle.logic.specs.Terms.{Binder, kind_of, is_binder, variable, binder, othe
 pub kind_binder : (k : ℕ) → is_binder k ≡ true → (q : Binder) × (kind_of k ≡ binder q)
 kind_binder k = (is_binder_exactly k).0
 
-module _ (k : ℕ) (not2 : k ≡ 2 → ⊥) (no-binder : is_binder k ≡ false) (not5 : k ≡ 5 → ⊥) where
+module _ (k : ℕ) (not2 : k ≡ 2 → ⊥) (no_binder : is_binder k ≡ false) (not5 : k ≡ 5 → ⊥) where
   pub kind_rest : kind_of k ≡ cond (eqb k 1) variable other
   unfolding kind_of
   kind_rest =
-      let none = or_none (eqb k 3) (eqb k 4) (sym (is_binder_numbers k) ∙ no-binder) in
+      let none = or_none (eqb k 3) (eqb k 4) (sym (is_binder_numbers k) ∙ no_binder) in
       rw (ne_eqb k 2 not2, none.0, none.1, ne_eqb k 5 not5)
 
   pub kind_other : (k ≡ 1 → ⊥) → kind_of k ≡ other
@@ -35,8 +35,8 @@ binder_no_list k e = (λ z. false≢true (rw z at e), λ z. false≢true (rw z a
 
 -- the code's test of a kind with a list of terms: neither 2 nor 5, or one of them
 pub kind_none : (k : ℕ) → (k ≡ 1 → ⊥) → is_binder k ≡ false → (not (eqb k 2) && not (eqb k 5)) ≡ true → kind_of k ≡ other
-kind_none k not1 no-binder neither =
-    kind_other k (eqb-false k 2 (not-true (eqb k 2) (and_left (not (eqb k 2)) (not (eqb k 5)) neither))) no-binder
+kind_none k not1 no_binder neither =
+    kind_other k (eqb-false k 2 (not-true (eqb k 2) (and_left (not (eqb k 2)) (not (eqb k 5)) neither))) no_binder
     (eqb-false k 5 (not-true (eqb k 5) (and_right (not (eqb k 2)) (not (eqb k 5)) neither))) not1
 
 pub kind_let : (k : ℕ) → (k ≡ 2 → ⊥) → (not (eqb k 2) && not (eqb k 5)) ≡ false → k ≡ 5

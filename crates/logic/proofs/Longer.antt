@@ -2,7 +2,7 @@
 --     prefix_refl, prefix_trans, prefix_length, prefix_at, prefix_new     lists that begin alike
 --     longer_refl, longer_trans, sizes     bundles that begin alike
 --     with_symbols .., symbols_longer ..    records appended to one section
---     symbol-added ..                      the record just appended, as every longer bundle has it
+--     symbol_added ..                      the record just appended, as every longer bundle has it
 --     chain_link, chain_kept               lists of links in order, which stay as they are
 --     consecutive, start_of, add_list        a list of values as new links, one after another; its first link
 --     list_longer, list_added              the list just appended, as every longer bundle has it
@@ -176,17 +176,17 @@ module _ (b : Bundle) where
 
   -- the record just appended, as every longer bundle B has it
   module _ {B : Bundle} where
-    pub symbol-added : (r : Symbol) → Longer (with_symbols b (r ∷ [])) B → symbol_of B (suc (length b.symbols)) ≡ r
-    symbol-added r e = prefix_new no_symbol b.symbols B.symbols r e.symbols
+    pub symbol_added : (r : Symbol) → Longer (with_symbols b (r ∷ [])) B → symbol_of B (suc (length b.symbols)) ≡ r
+    symbol_added r e = prefix_new no_symbol b.symbols B.symbols r e.symbols
 
-    pub variable-added : (s : ℕ) → Longer (with_variables b (s ∷ [])) B → sort_of_variable B (suc (length b.variables)) ≡ s
-    variable-added s e = prefix_new 0 b.variables B.variables s e.variables
+    pub variable_added : (s : ℕ) → Longer (with_variables b (s ∷ [])) B → sort_of_variable B (suc (length b.variables)) ≡ s
+    variable_added s e = prefix_new 0 b.variables B.variables s e.variables
 
-    pub term-added : (r : TermRecord) → Longer (with_terms b (r ∷ [])) B → term_of B (suc (length b.terms)) ≡ r
-    term-added r e = prefix_new no_term b.terms B.terms r e.terms
+    pub term_added : (r : TermRecord) → Longer (with_terms b (r ∷ [])) B → term_of B (suc (length b.terms)) ≡ r
+    term_added r e = prefix_new no_term b.terms B.terms r e.terms
 
-    pub context-added : (r : Context) → Longer (with_contexts b (r ∷ [])) B → context_of B (suc (length b.contexts)) ≡ r
-    context-added r e = prefix_new no_context b.contexts B.contexts r e.contexts
+    pub context_added : (r : Context) → Longer (with_contexts b (r ∷ [])) B → context_of B (suc (length b.contexts)) ≡ r
+    context_added r e = prefix_new no_context b.contexts B.contexts r e.contexts
 
     pub step_added : (r : Step) → Longer (with_steps b (r ∷ [])) B → step_of B (suc (length b.steps)) ≡ r
     step_added r e = prefix_new no_step b.steps B.steps r e.steps

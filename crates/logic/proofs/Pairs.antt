@@ -28,7 +28,7 @@ use Rattle.logic.specs.Instance.{ReflForm}
 use Rattle.logic.specs.Statements.{Spent, SpentExactly, WalkedExactly, LastWalked, no_walk, last_walk, LastPairs, LastPairsAtMost}
 use Rattle.logic.proofs.Tests.{or_left, or_right, and_left, and_right, failing_none}
 use Rattle.logic.proofs.Firsts.{none_bad}
-use Rattle.logic.proofs.Exactly.{eq_exactly, not_exactly, and-exactly}
+use Rattle.logic.proofs.Exactly.{eq_exactly, not_exactly, and_exactly}
 use Rattle.logic.proofs.TermNumbers.{IsTerm}
 use Rattle.logic.proofs.ReflWalk.{walk_some}
 use Rattle.logic.proofs.ReflStep.{form_exactly}
@@ -59,17 +59,17 @@ suffices_false : (b : Bundle) (s : Step) (r : ℕ) → suffices_as b (rule_of r)
 unfolding rule_of suffices_as refl_suffices
 suffices_false b s r e = go (eqb r 1) refl (eqb r 2) (eqb r 3) (eqb r 4) (eqb r 5) e
   where
-    walk-over : (p : Bool) → (p || leb (refl_walk b s).pairs pair_limit) ≡ false → Dec ((refl_walk b s).pairs ≤ pair_limit)
+    walk_over : (p : Bool) → (p || leb (refl_walk b s).pairs pair_limit) ≡ false → Dec ((refl_walk b s).pairs ≤ pair_limit)
         → (p ≡ false) × (pair_limit < (refl_walk b s).pairs)
-    walk-over true h d = absurd (false≢true (sym h))
-    walk-over false h (yes le) = absurd (false≢true (sym h ∙ le-leb (refl_walk b s).pairs pair_limit le))
-    walk-over false h (no over) = (refl, omega arith)
+    walk_over true h d = absurd (false≢true (sym h))
+    walk_over false h (yes le) = absurd (false≢true (sym h ∙ le-leb (refl_walk b s).pairs pair_limit le))
+    walk_over false h (no over) = (refl, omega arith)
 
     go : (p : Bool) → eqb r 1 ≡ p → (q t u v : Bool)
         → suffices_as b (cond p REFL (cond q CONG (cond t TRANS (cond u BIND (cond v LET noRule))))) s ≡ false
         → (r ≡ 1) × (refl_holds b s ≡ false) × (pair_limit < (refl_walk b s).pairs)
     go true is q t u v h =
-        let (no_form, over) = walk-over (refl_holds b s) h (dec_le (refl_walk b s).pairs pair_limit) in (eqb-true r 1 is, no_form, over)
+        let (no_form, over) = walk_over (refl_holds b s) h (dec_le (refl_walk b s).pairs pair_limit) in (eqb-true r 1 is, no_form, over)
     go false is true t u v h = absurd (false≢true (sym h))
     go false is false true u v h = absurd (false≢true (sym h))
     go false is false false true v h = absurd (false≢true (sym h))
@@ -121,7 +121,7 @@ spent_exactly b well k = (λ e. there (step_refers b k) refl (scoped b k) refl (
 pub walked_exactly : WalkedExactly
 unfolding walked refl_holds
 walked_exactly b well k left right =
-    and-exactly (eqb (step_of b k).rule 1) (eq_exactly (step_of b k).rule 1) (not (refl_holds b (step_of b k)))
+    and_exactly (eqb (step_of b k).rule 1) (eq_exactly (step_of b k).rule 1) (not (refl_holds b (step_of b k)))
     (not_exactly (refl_holds b (step_of b k)) (form_exactly b well (step_of b k) left right))
 
 pairs_walked : (b : Bundle) (k : ℕ) → walked b k ≡ true → walked_pairs b k ≡ (refl_walk b (step_of b k)).pairs
@@ -180,14 +180,14 @@ last_pairs_at_most b e = go (last_pairs_lem b (length b.steps))
         enough : suffices_as b (rule_of s.rule) s ≡ true
         enough = (failing_none (step_tests b k) refl (none_bad (step_fault b) (length b.steps) e k n.0 n.1)).1.1.0
 
-        is-walked : (eqb s.rule 1 ≡ true) × (not (refl_holds b s) ≡ true)
-        is-walked = (and_left (eqb s.rule 1) (not (refl_holds b s)) w, and_right (eqb s.rule 1) (not (refl_holds b s)) w)
+        is_walked : (eqb s.rule 1 ≡ true) × (not (refl_holds b s) ≡ true)
+        is_walked = (and_left (eqb s.rule 1) (not (refl_holds b s)) w, and_right (eqb s.rule 1) (not (refl_holds b s)) w)
 
-        not-false : (p : Bool) → not p ≡ true → p ≡ false
-        not-false true h = absurd (false≢true h)
-        not-false false h = refl
+        not_false : (p : Bool) → not p ≡ true → p ≡ false
+        not_false true h = absurd (false≢true h)
+        not_false false h = refl
 
         within : Dec ((refl_walk b s).pairs ≤ pair_limit) → p ≤ pair_limit
         within (yes le) = omega (arith, is)
         within (no over) =
-            absurd (false≢true (sym (false_suffices b s s.rule (eqb-true s.rule 1 is-walked.0) (not-false (refl_holds b s) is-walked.1) (omega arith)) ∙ enough))
+            absurd (false≢true (sym (false_suffices b s s.rule (eqb-true s.rule 1 is_walked.0) (not_false (refl_holds b s) is_walked.1) (omega arith)) ∙ enough))

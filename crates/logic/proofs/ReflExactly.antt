@@ -19,7 +19,7 @@ use Rattle.bundle.specs.Lists.{each, has}
 use Rattle.logic.specs.declared.Image.{Image}
 use Rattle.logic.specs.declared.Image.TheVariants.{Own, Gives}
 use Rattle.logic.specs.Lists.{Among, All, Number}
-use Rattle.logic.specs.Terms.{Binder, Term, Terms, var, app, bind, letIn, none, more, Kind, kind_of, application, binder, letting, gather, tree}
+use Rattle.logic.specs.Terms.{Binder, Term, Terms, var, app, bind, let_in, none, more, Kind, kind_of, application, binder, letting, gather, tree}
 use Rattle.logic.specs.Free.{Free, free_at}
 use Rattle.logic.specs.Contexts.{image, tree_of_image, image_tree}
 use Rattle.logic.specs.Distinct.{Distinct}
@@ -28,10 +28,10 @@ use Rattle.logic.specs.ReflWalk.{Crossed, lefts, rights, cross_all, meets, sorts
 use Rattle.logic.specs.Statements.{PairWalkExactly}
 use Rattle.logic.proofs.Tests.{and_left, and_right, and_both}
 use Rattle.logic.proofs.TermKinds.{binder_kind}
-use Rattle.logic.proofs.Exactly.{not_exactly, and-exactly, each_exactly}
+use Rattle.logic.proofs.Exactly.{not_exactly, and_exactly, each_exactly}
 use Rattle.logic.proofs.FreeSettled.{is_variable_exactly, free_at_exactly}
 use Rattle.logic.proofs.Formed.{tables_formed_distinct, tree_variable, tree_application, tree_binder, tree_let}
-use Rattle.logic.proofs.TermNumbers.{IsTerm, same, of_kind, app-args, bind-body, let-parts, app-fields, bind-fields, let_fields, ImageTerm, image_term_lem}
+use Rattle.logic.proofs.TermNumbers.{IsTerm, same, of_kind, app_args, bind_body, let_parts, app_fields, bind_fields, let_fields, ImageTerm, image_term_lem}
 use Rattle.logic.proofs.Shapes.{formed_before}
 use Rattle.logic.proofs.Meets.{zero_one, pair_up, place_has, meets_place, VariableMeets, Meets, MeetsAll, meets_exactly}
 use Rattle.logic.proofs.Crossings.{LetBinds, bound_variables, sorts_meet_lem, sorts_met, all_sorts_meet_lem, all_sorts_met, cross_meets}
@@ -89,7 +89,7 @@ module _ (b : Bundle) (well : WellFormed b) (c : ℕ) where
       → (free_meets (free_at b) (image b c) b ps x r ≡ true) ↔ ((tree b r ≡ image_tree b c x) × ((y : ℕ) → Among y (rights ps) → Free y (tree b r) → ⊥))
   unfolding free_meets image_tree
   free_meets_exactly ps x r n =
-      and-exactly (image_is b (image b c x) x r) (image_is_exactly (image b c x) x r (image_term_lem b well c x) n)
+      and_exactly (image_is b (image b c x) x r) (image_is_exactly (image b c x) x r (image_term_lem b well c x) n)
       (each (λ y. not (free_at b r y)) (rights ps))
       (Iff.trans
       (each_exactly (λ y. not (free_at b r y)) (λ y. Free y (tree b r) → ⊥) (λ y. not_exactly (free_at b r y) (free_at_exactly b formed r y)) (rights ps))
@@ -193,15 +193,15 @@ module _ (b : Bundle) (well : WellFormed b) (c : ℕ) where
           let f-is : f ≡ o.a = eqb-true f o.a (and_right (eqb o.kind 2) (eqb f o.a) m) in (
             gather (tree b) (items b o.b),
             rw f-is (tree_application b formed r (of_kind b formed r k)),
-            (lists_exactly ps (items b s) (items b o.b) h (app-args b formed r n k)).0 w,
+            (lists_exactly ps (items b s) (items b o.b) h (app_args b formed r n k)).0 w,
           )
 
       back : MeetAt ps (app f (gather (tree b) (items b s))) r → (pair_then met parts).same ≡ true
       back (us, e, ms) =
-          let (k, f-is, args) = app-fields b formed r f us n e in
+          let (k, f-is, args) = app_fields b formed r f us n e in
           (pair_same met parts).1 (
             and_both (eqb o.kind 2) (eqb f o.a) (eq-eqb o.kind 2 k) (eq-eqb f o.a (sym f-is)),
-            (lists_exactly ps (items b s) (items b o.b) h (app-args b formed r n k)).1 (rw args ms),
+            (lists_exactly ps (items b s) (items b o.b) h (app_args b formed r n k)).1 (rw args ms),
           )
 
   binder_exactly : (q : Binder) (k x t : ℕ) → kind_of k ≡ binder q → Number (length b.variables) x → Exact t → (ps : Crossed) (r : ℕ) → IsTerm b r
@@ -230,21 +230,21 @@ module _ (b : Bundle) (well : WellFormed b) (c : ℕ) where
             tree b o.b,
             tree_binder b formed r q (of_kind b formed r k-is) is,
             (sorts_meet_lem b x o.a (and_right kinds sorts m)).2,
-            (h ((x, o.a) ∷ ps) o.b (bind-body b formed r q n (ap kind_of k-is ∙ is))).0 w,
+            (h ((x, o.a) ∷ ps) o.b (bind_body b formed r q n (ap kind_of k-is ∙ is))).0 w,
           )
 
       back : MeetAt ps (bind q x (tree b t)) r → (pair_then (kinds && sorts) body).same ≡ true
       back (y, u, e, s, m) =
-          let (o_is, y-is, u-is) = bind-fields b formed r q y u e in
+          let (o_is, y-is, u-is) = bind_fields b formed r q y u e in
           (pair_same (kinds && sorts) body).1 (
             and_both kinds sorts (eq-eqb o.kind k (binder_kind o.kind q o_is ∙ sym (binder_kind k q is)))
                 (sorts_met b x o.a nx ((bound_variables b r (formed.terms r n)).0 q o_is) (s ∙ ap (sort_of_variable b) (sym y-is))),
-            (h ((x, o.a) ∷ ps) o.b (bind-body b formed r q n o_is)).1 (rw (y-is, u-is) m),
+            (h ((x, o.a) ∷ ps) o.b (bind_body b formed r q n o_is)).1 (rw (y-is, u-is) m),
           )
 
   let_exactly : (vs ts t : ℕ) → LetBinds b (record { kind = 5; a = vs; b = ts; c = t }) → All Exact (items b ts) → Exact t → (ps : Crossed) (r : ℕ) → IsTerm b r
       → ((pair_walk_as (free_at b) (image b c) b letting (pair_walk b c) (record { kind = 5; a = vs; b = ts; c = t }) ps r).same ≡ true)
-      ↔ MeetAt ps (letIn (items b vs) (gather (tree b) (items b ts)) (tree b t)) r
+      ↔ MeetAt ps (let_in (items b vs) (gather (tree b) (items b ts)) (tree b t)) r
   unfolding pair_walk_as let_meets
   let_exactly vs ts t binds hs h ps r n = (there, back)
     where
@@ -274,13 +274,13 @@ module _ (b : Bundle) (well : WellFormed b) (c : ℕ) where
           (tree b t) u
 
       there : (pair_then ((kinds && sorts) && many) (and_then parts body)).same ≡ true
-          → MeetAt ps (letIn (items b vs) (gather (tree b) (items b ts)) (tree b t)) r
+          → MeetAt ps (let_in (items b vs) (gather (tree b) (items b ts)) (tree b t)) r
       there e =
           let (m, w) = (pair_same ((kinds && sorts) && many) (and_then parts body)).0 e in
           let (ws, wb) = (then_same parts body).0 w in
           let met : (kinds && sorts) ≡ true = and_left (kinds && sorts) many m in
           let k : o.kind ≡ 5 = eqb-true o.kind 5 (and_left kinds sorts met) in
-          let (nb, ns) = let-parts b formed r n k in (
+          let (nb, ns) = let_parts b formed r n k in (
             items b o.a,
             gather (tree b) (items b o.b),
             tree b o.c,
@@ -290,11 +290,11 @@ module _ (b : Bundle) (well : WellFormed b) (c : ℕ) where
             (crossed k (tree b o.c)).1 ((h (cross_all (items b vs) (items b o.a) ps) o.c nb).0 wb),
           )
 
-      back : MeetAt ps (letIn (items b vs) (gather (tree b) (items b ts)) (tree b t)) r
+      back : MeetAt ps (let_in (items b vs) (gather (tree b) (items b ts)) (tree b t)) r
           → (pair_then ((kinds && sorts) && many) (and_then parts body)).same ≡ true
       back (ys, us, v, e, s, ms, m) =
           let (k, ys-is, us-is, v-is) = let_fields b formed r ys us v e in
-          let (nb, ns) = let-parts b formed r n k in
+          let (nb, ns) = let_parts b formed r n k in
           let right : LetBinds b (term_of b r) = (bound_variables b r (formed.terms r n)).1 k in
           (pair_same ((kinds && sorts) && many) (and_then parts body)).1 (
             and_both (kinds && sorts) many
@@ -336,7 +336,7 @@ module _ (b : Bundle) (well : WellFormed b) (c : ℕ) where
           subst (λ (κ : Kind). ((pair_walk_as (free_at b) (image b c) b κ (pair_walk b c) s ps r).same ≡ true) ↔ MeetAt ps (bind q x (tree b t)) r) (sym h)
           (binder_exactly q k x t h n (ih t low) ps r nr))
       go (a_let vs ts t e sv nv st lows low lists) =
-          exact_of l f (record { kind = 5; a = vs; b = ts; c = t }) e (letIn (items b vs) (gather (tree b) (items b ts)) (tree b t)) (tree_let b formed l e)
+          exact_of l f (record { kind = 5; a = vs; b = ts; c = t }) e (let_in (items b vs) (gather (tree b) (items b ts)) (tree b t)) (tree_let b formed l e)
           (let_exactly vs ts t (subst (LetBinds b) e ((bound_variables b l f).1 (ap (λ (s : TermRecord). s.kind) e))) (all_lower l ih (items b ts) lows) (ih t low))
 
   up_to_lem : (n l : ℕ) → l ≤ n → IsTerm b l → Exact l

@@ -1,7 +1,7 @@
 -- Soundness of whole-term REFL: a term, seen through a context, has the value of its capture-avoiding replacement, in every world.
 --     Agree                     values that variables take left and right below the binders crossed
 --     agree_put, agree_assign   so they stay where two binders are crossed
---     meets-value               terms that meet have equal values
+--     meets_value               terms that meet have equal values
 --     replacement_sound         THE THEOREM. Nothing is asked of the bundle, nor of the values that the variables take
 use mathlib.Core.Path.{◌≡◌, refl, sym, ap, ap₂, ◌∙◌, fun_ext}
 use Prim.Native.Nat.{ℕ}
@@ -14,7 +14,7 @@ use Rattle.bundle.specs.Bundle.{Bundle, sort_of_variable}
 use Rattle.bundle.specs.Lists.{has}
 use Rattle.logic.specs.Lists.{Among}
 use Rattle.logic.specs.Symbols.{kind_of_symbol}
-use Rattle.logic.specs.Terms.{Term, Terms, var, app, bind, letIn, none, more, tree}
+use Rattle.logic.specs.Terms.{Term, Terms, var, app, bind, let_in, none, more, tree}
 use Rattle.logic.specs.Contexts.{image_tree}
 use Rattle.logic.specs.ReflWalk.{Crossed, lefts, rights, meets}
 use Rattle.logic.specs.Values.{Value, truth, truth_of, World, meaning_of, bound_value, put, assign, value, values, seen}
@@ -69,28 +69,28 @@ module _ {b : Bundle} (w : World b) (σ : ℕ → Term) (ρ₀ : ℕ → Value) 
   mutual
     unfolding value
 
-    meets-value : (l : Term) (ps : Crossed) (r : Term) (τ ρ : ℕ → Value) → Agree ps τ ρ → Meets b σ ps l r → value w τ l ≡ value w ρ r
-    meets-value (var x) ps r τ ρ h m = variable_value ps x r τ ρ h m
-    meets-value (app f ts) ps r τ ρ h (us, e, ms) =
-        ap (meaning_of w (kind_of_symbol b f)) (meets-values ts ps us τ ρ h ms) ∙ sym (ap (value w ρ) e)
-    meets-value (bind q x t) ps r τ ρ h (y, u, e, s, m) =
+    meets_value : (l : Term) (ps : Crossed) (r : Term) (τ ρ : ℕ → Value) → Agree ps τ ρ → Meets b σ ps l r → value w τ l ≡ value w ρ r
+    meets_value (var x) ps r τ ρ h m = variable_value ps x r τ ρ h m
+    meets_value (app f ts) ps r τ ρ h (us, e, ms) =
+        ap (meaning_of w (kind_of_symbol b f)) (meets_values ts ps us τ ρ h ms) ∙ sym (ap (value w ρ) e)
+    meets_value (bind q x t) ps r τ ρ h (y, u, e, s, m) =
         ap₂ (λ (p : Value → Bool) (k : ℕ). bound_value w q k p)
-        (fun_ext (λ v. ap truth_of (meets-value t ((x, y) ∷ ps) u (put τ x v) (put ρ y v) (agree_put ps τ ρ x y v h) m))) s
+        (fun_ext (λ v. ap truth_of (meets_value t ((x, y) ∷ ps) u (put τ x v) (put ρ y v) (agree_put ps τ ρ x y v h) m))) s
         ∙ sym (ap (value w ρ) e)
-    meets-value (letIn xs ts u) ps r τ ρ h (ys, us, v, e, s, ms, m) =
-        meets-value u (pair_up xs ys ++ ps) v (assign xs (values w τ ts) τ) (assign ys (values w τ ts) ρ)
+    meets_value (let_in xs ts u) ps r τ ρ h (ys, us, v, e, s, ms, m) =
+        meets_value u (pair_up xs ys ++ ps) v (assign xs (values w τ ts) τ) (assign ys (values w τ ts) ρ)
         (agree_assign ps τ ρ xs ys (values w τ ts) s h) m
-        ∙ ap (λ (vs : List Value). value w (assign ys vs ρ) v) (meets-values ts ps us τ ρ h ms)
+        ∙ ap (λ (vs : List Value). value w (assign ys vs ρ) v) (meets_values ts ps us τ ρ h ms)
         ∙ sym (ap (value w ρ) e)
 
-    meets-values : (ls : Terms) (ps : Crossed) (rs : Terms) (τ ρ : ℕ → Value) → Agree ps τ ρ → MeetsAll b σ ps ls rs → values w τ ls ≡ values w ρ rs
-    meets-values none ps rs τ ρ h e = sym (ap (values w ρ) e)
-    meets-values (more t ts) ps rs τ ρ h (v, vs, e, m, ms) =
-        ap₂ (λ (u : Value) (us : List Value). u ∷ us) (meets-value t ps v τ ρ h m) (meets-values ts ps vs τ ρ h ms) ∙ sym (ap (values w ρ) e)
+    meets_values : (ls : Terms) (ps : Crossed) (rs : Terms) (τ ρ : ℕ → Value) → Agree ps τ ρ → MeetsAll b σ ps ls rs → values w τ ls ≡ values w ρ rs
+    meets_values none ps rs τ ρ h e = sym (ap (values w ρ) e)
+    meets_values (more t ts) ps rs τ ρ h (v, vs, e, m, ms) =
+        ap₂ (λ (u : Value) (us : List Value). u ∷ us) (meets_value t ps v τ ρ h m) (meets_values ts ps vs τ ρ h ms) ∙ sym (ap (values w ρ) e)
 
 pub replacement_sound : ReplacementSound
 unfolding seen value meets lefts rights
 replacement_sound b Γ left right h w ρ =
-    meets-value w (image_tree b Γ) ρ left [] right (seen b w Γ ρ) ρ
+    meets_value w (image_tree b Γ) ρ left [] right (seen b w Γ ρ) ρ
     (record { matching = λ x z e. absurd (false≢true e); free_left = λ x e. refl; others = λ y out. refl })
     ((meets_exactly b (image_tree b Γ) left right).1 h)

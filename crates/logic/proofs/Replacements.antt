@@ -1,6 +1,6 @@
 -- Laws of capture-avoiding replacement and of terms that are the same up to names.
---     settled_plain, settled-apart     where each free variable replaces itself, replacement changes nothing and captures nothing
---     unbound-apart               nor does it capture anything where the term has no binder
+--     settled_plain, settled_apart     where each free variable replaces itself, replacement changes nothing and captures nothing
+--     unbound_apart               nor does it capture anything where the term has no binder
 --     same_form, image_form       so document 01's two forms of REFL are replacements
 --     SameUpToNames               terms that are the same up to the names of bound variables
 --     same_exactly                THE LAW: a term is another's replacement by its own variables exactly where the two are the same up to names
@@ -18,12 +18,12 @@ use lib.Dec.{eqb}
 use Rattle.bundle.specs.Bundle.{Bundle, sort_of_variable}
 use Rattle.bundle.specs.Lists.{has}
 use Rattle.logic.specs.Lists.{Among, Number}
-use Rattle.logic.specs.Terms.{Binder, forAll, Term, Terms, var, app, bind, letIn, none, more, tree}
+use Rattle.logic.specs.Terms.{Binder, forAll, Term, Terms, var, app, bind, let_in, none, more, tree}
 use Rattle.logic.specs.Free.{Free, Frees}
 use Rattle.logic.specs.Contexts.{image_tree, Settled}
 use Rattle.logic.specs.WellFormed.{WellFormed}
-use Rattle.logic.specs.Nameless.{Marked, MarkedList, whole, own, apply, over, lets, end, next, Place, place, nameless, namelessAll}
-use Rattle.logic.specs.Replacement.{replaced, replacedAll, plain, plain_all, NoCapture, NoCaptures, Replacement}
+use Rattle.logic.specs.Nameless.{Marked, MarkedList, whole, own, apply, over, lets, end, next, Place, place, nameless, nameless_all}
+use Rattle.logic.specs.Replacement.{replaced, replaced_all, plain, plain_all, NoCapture, NoCaptures, Replacement}
 use Rattle.logic.specs.ReflWalk.{Crossed, lefts, rights, pair_walk}
 use Rattle.logic.proofs.Exactly.{has_exactly}
 use Rattle.logic.proofs.Images.{tree_empty}
@@ -51,7 +51,7 @@ module _ (σ : ℕ → Term) where
   under_bind : (around : List ℕ) (q : Binder) (y : ℕ) (t : Term) → Kept around (λ x. Free x (bind q y t)) → Kept (y ∷ around) (λ x. Free x t)
   under_bind around q y t h x f out = h x ((λ e. out (inl e)), f) (λ m. out (inr m))
 
-  under_let : (around : List ℕ) (ys : List ℕ) (ts : Terms) (u : Term) → Kept around (λ x. Free x (letIn ys ts u)) → Kept (ys ++ around) (λ x. Free x u)
+  under_let : (around : List ℕ) (ys : List ℕ) (ts : Terms) (u : Term) → Kept around (λ x. Free x (let_in ys ts u)) → Kept (ys ++ around) (λ x. Free x u)
   under_let around ys ts u h x f out = h x (inr ((λ m. out (among_left x ys around m)), f)) (λ m. out (among_right x ys around m))
 
   outside : (around : List ℕ) (x : ℕ) → has x around ≡ false → Among x around → ⊥
@@ -66,20 +66,20 @@ module _ (σ : ℕ → Term) where
         go : (p : Bool) → has x around ≡ p → plain (cond p (own x) (whole (σ x))) ≡ var x
         go true e = refl
         go false e = h x refl (outside around x e)
-    settled_plain (app f ts) around h = ap (app f) (settled-plains ts around h)
+    settled_plain (app f ts) around h = ap (app f) (settled_plains ts around h)
     settled_plain (bind q y t) around h = ap (bind q y) (settled_plain t (y ∷ around) (under_bind around q y t h))
-    settled_plain (letIn ys ts u) around h =
-        ap₂ (letIn ys) (settled-plains ts around (λ x f. h x (inl f))) (settled_plain u (ys ++ around) (under_let around ys ts u h))
+    settled_plain (let_in ys ts u) around h =
+        ap₂ (let_in ys) (settled_plains ts around (λ x f. h x (inl f))) (settled_plain u (ys ++ around) (under_let around ys ts u h))
 
-    settled-plains : (ts : Terms) (around : List ℕ) → Kept around (λ x. Frees x ts) → plain_all (replacedAll σ around ts) ≡ ts
-    settled-plains none around h = refl
-    settled-plains (more t ts) around h = ap₂ more (settled_plain t around (λ x f. h x (inl f))) (settled-plains ts around (λ x f. h x (inr f)))
+    settled_plains : (ts : Terms) (around : List ℕ) → Kept around (λ x. Frees x ts) → plain_all (replaced_all σ around ts) ≡ ts
+    settled_plains none around h = refl
+    settled_plains (more t ts) around h = ap₂ more (settled_plain t around (λ x f. h x (inl f))) (settled_plains ts around (λ x f. h x (inr f)))
 
   mutual
     unfolding replaced
 
-    pub settled-apart : (t : Term) (around : List ℕ) → Kept around (λ x. Free x t) → NoCapture around (replaced σ around t)
-    settled-apart (var x) around h = go (has x around) refl
+    pub settled_apart : (t : Term) (around : List ℕ) → Kept around (λ x. Free x t) → NoCapture around (replaced σ around t)
+    settled_apart (var x) around h = go (has x around) refl
       where
         go : (p : Bool) → has x around ≡ p → NoCapture around (cond p (own x) (whole (σ x)))
         go true e = tt
@@ -87,14 +87,14 @@ module _ (σ : ℕ → Term) where
             let is : σ x ≡ var x = h x refl (outside around x e) in
             let y-is : y ≡ x = subst (Free y) is f in
             outside around x e (subst (λ (z : ℕ). Among z around) y-is m)
-    settled-apart (app f ts) around h = settled-aparts ts around h
-    settled-apart (bind q y t) around h = settled-apart t (y ∷ around) (under_bind around q y t h)
-    settled-apart (letIn ys ts u) around h =
-        (settled-aparts ts around (λ x f. h x (inl f)), settled-apart u (ys ++ around) (under_let around ys ts u h))
+    settled_apart (app f ts) around h = settled_aparts ts around h
+    settled_apart (bind q y t) around h = settled_apart t (y ∷ around) (under_bind around q y t h)
+    settled_apart (let_in ys ts u) around h =
+        (settled_aparts ts around (λ x f. h x (inl f)), settled_apart u (ys ++ around) (under_let around ys ts u h))
 
-    settled-aparts : (ts : Terms) (around : List ℕ) → Kept around (λ x. Frees x ts) → NoCaptures around (replacedAll σ around ts)
-    settled-aparts none around h = tt
-    settled-aparts (more t ts) around h = (settled-apart t around (λ x f. h x (inl f)), settled-aparts ts around (λ x f. h x (inr f)))
+    settled_aparts : (ts : Terms) (around : List ℕ) → Kept around (λ x. Frees x ts) → NoCaptures around (replaced_all σ around ts)
+    settled_aparts none around h = tt
+    settled_aparts (more t ts) around h = (settled_apart t around (λ x f. h x (inl f)), settled_aparts ts around (λ x f. h x (inr f)))
 
 -- a term without binders
 abbrev mutual
@@ -102,7 +102,7 @@ abbrev mutual
   Unbound (var x) = Unit {0}
   Unbound (app f ts) = UnboundAll ts
   Unbound (bind q x t) = ⊥
-  Unbound (letIn xs ts u) = ⊥
+  Unbound (let_in xs ts u) = ⊥
 
   pub UnboundAll : Terms → Type 0
   UnboundAll none = Unit {0}
@@ -112,22 +112,22 @@ module _ (σ : ℕ → Term) where
   mutual
     unfolding replaced has
 
-    pub unbound-apart : (t : Term) → Unbound t → NoCapture [] (replaced σ [] t)
-    unbound-apart (var x) h = λ y m f. m
-    unbound-apart (app f ts) h = unbound-aparts ts h
-    unbound-apart (bind q x t) h = absurd h
-    unbound-apart (letIn xs ts u) h = absurd h
+    pub unbound_apart : (t : Term) → Unbound t → NoCapture [] (replaced σ [] t)
+    unbound_apart (var x) h = λ y m f. m
+    unbound_apart (app f ts) h = unbound_aparts ts h
+    unbound_apart (bind q x t) h = absurd h
+    unbound_apart (let_in xs ts u) h = absurd h
 
-    unbound-aparts : (ts : Terms) → UnboundAll ts → NoCaptures [] (replacedAll σ [] ts)
-    unbound-aparts none h = tt
-    unbound-aparts (more t ts) h = (unbound-apart t h.0, unbound-aparts ts h.1)
+    unbound_aparts : (ts : Terms) → UnboundAll ts → NoCaptures [] (replaced_all σ [] ts)
+    unbound_aparts none h = tt
+    unbound_aparts (more t ts) h = (unbound_apart t h.0, unbound_aparts ts h.1)
 
 -- ---- document 01's two forms of REFL
 
 -- left and right are the same term and it is settled
 pub same_form : (b : Bundle) (c : ℕ) (t : Term) → Settled b c t → Replacement b (image_tree b c) t t
 same_form b c t h =
-    (replaced (image_tree b c) [] t, refl, settled-apart (image_tree b c) t [] (λ x f out. h x f), settled_plain (image_tree b c) t [] (λ x f out. h x f))
+    (replaced (image_tree b c) [] t, refl, settled_apart (image_tree b c) t [] (λ x f out. h x f), settled_plain (image_tree b c) t [] (λ x f out. h x f))
 
 -- left is a variable and right its image
 pub image_form : (b : Bundle) (σ : ℕ → Term) (x : ℕ) → Replacement b σ (var x) (σ x)
@@ -159,26 +159,26 @@ module _ (b : Bundle) where
     same_names : (l : Term) (ps : Crossed) (r : Term) → Meets b var ps l r
         → nameless b (lefts ps) (replaced var (lefts ps) l) ≡ nameless b (rights ps) (replaced var (rights ps) r)
     same_names (var x) ps r h = variable_names_lem ps x r h
-    same_names (app f ts) ps r (us, e, h) = rw e (ap (apply f) (all-names ts ps us h))
+    same_names (app f ts) ps r (us, e, h) = rw e (ap (apply f) (all_names ts ps us h))
     same_names (bind q x t) ps r (y, u, e, s, h) = rw e (ap₂ (over q) s (same_names t ((x, y) ∷ ps) u h))
-    same_names (letIn xs ts u) ps r (ys, us, v, e, s, hs, h) =
+    same_names (let_in xs ts u) ps r (ys, us, v, e, s, hs, h) =
         let body : nameless b (xs ++ lefts ps) (replaced var (xs ++ lefts ps) u) ≡ nameless b (ys ++ rights ps) (replaced var (ys ++ rights ps) v) =
         rw (pair_lefts (sort_of_variable b) xs ys ps s, pair_rights (sort_of_variable b) xs ys ps s) at (same_names u (pair_up xs ys ++ ps) v h) in
-        let bounds : namelessAll b (lefts ps) (replacedAll var (lefts ps) ts) ≡ namelessAll b (rights ps) (replacedAll var (rights ps) us) =
-        all-names ts ps us hs in
+        let bounds : nameless_all b (lefts ps) (replaced_all var (lefts ps) ts) ≡ nameless_all b (rights ps) (replaced_all var (rights ps) us) =
+        all_names ts ps us hs in
         rw e (cc)
 
-    all-names : (ls : Terms) (ps : Crossed) (rs : Terms) → MeetsAll b var ps ls rs
-        → namelessAll b (lefts ps) (replacedAll var (lefts ps) ls) ≡ namelessAll b (rights ps) (replacedAll var (rights ps) rs)
-    all-names none ps rs e = rw e
-    all-names (more t ts) ps rs (v, vs, e, h, hs) = rw e (ap₂ next (same_names t ps v h) (all-names ts ps vs hs))
+    all_names : (ls : Terms) (ps : Crossed) (rs : Terms) → MeetsAll b var ps ls rs
+        → nameless_all b (lefts ps) (replaced_all var (lefts ps) ls) ≡ nameless_all b (rights ps) (replaced_all var (rights ps) rs)
+    all_names none ps rs e = rw e
+    all_names (more t ts) ps rs (v, vs, e, h, hs) = rw e (ap₂ next (same_names t ps v h) (all_names ts ps vs hs))
 
   -- THE LAW
   pub same_exactly : (l r : Term) → Replacement b var l r ↔ SameUpToNames b l r
   unfolding lefts rights
   same_exactly l r = (
     λ h. same_names l [] r ((meets_exactly b var l r).1 h),
-    λ e. (replaced var [] r, sym e, settled-apart var r [] (λ x f out. refl), settled_plain var r [] (λ x f out. refl)),
+    λ e. (replaced var [] r, sym e, settled_apart var r [] (λ x f out. refl), settled_plain var r [] (λ x f out. refl)),
   )
 
   pub same_walk : WellFormed b → (l r : ℕ) → Number (length b.terms) l → Number (length b.terms) r
@@ -194,7 +194,7 @@ module _ (b : Bundle) (σ : ℕ → Term) where
   put_in (var x) = whole (σ x)
   put_in (app f ts) = whole (app f ts)
   put_in (bind q x t) = whole (bind q x t)
-  put_in (letIn xs ts u) = whole (letIn xs ts u)
+  put_in (let_in xs ts u) = whole (let_in xs ts u)
 
   mutual
     unfolding put_in
@@ -221,9 +221,9 @@ module _ (b : Bundle) (σ : ℕ → Term) where
         go false = refl
     filled (app f ts) around = ap (apply f) (filleds ts around)
     filled (bind q x t) around = ap (over q (sort_of_variable b x)) (filled t (x ∷ around))
-    filled (letIn xs ts u) around = ap₂ (lets (map (sort_of_variable b) xs)) (filleds ts around) (filled u (xs ++ around))
+    filled (let_in xs ts u) around = ap₂ (lets (map (sort_of_variable b) xs)) (filleds ts around) (filled u (xs ++ around))
 
-    filleds : (ts : Terms) (around : List ℕ) → fills (namelessAll b around (replacedAll var around ts)) ≡ namelessAll b around (replacedAll σ around ts)
+    filleds : (ts : Terms) (around : List ℕ) → fills (nameless_all b around (replaced_all var around ts)) ≡ nameless_all b around (replaced_all σ around ts)
     filleds none around = refl
     filleds (more t ts) around = ap₂ next (filled t around) (filleds ts around)
 
@@ -276,15 +276,15 @@ module _ (b : Bundle) where
         (ap var y-is, subst (λ (z : ℕ). has z around ≡ false) y-is out)
     free_of (app f ts) x e = zero_one cc
     free_of (bind q y t) x e = zero_one cc
-    free_of (letIn ys ts u) x e = zero_one cc
+    free_of (let_in ys ts u) x e = zero_one cc
 
     app_of : (t : Term) (f : ℕ) (ns : MarkedList Place) → names t ≡ apply f ns
-        → (ts : Terms) × (t ≡ app f ts) × (namelessAll b around (replacedAll var around ts) ≡ ns)
+        → (ts : Terms) × (t ≡ app f ts) × (nameless_all b around (replaced_all var around ts) ≡ ns)
     unfolding nameless replaced
     app_of (var y) f ns e = let (out, is) = variable_of_lem y (apply f ns) e (λ p q. zero_one cc) in zero_one cc
     app_of (app g ts) f ns e = (ts, cc, cc)
     app_of (bind q y t) f ns e = zero_one cc
-    app_of (letIn ys ts u) f ns e = zero_one cc
+    app_of (let_in ys ts u) f ns e = zero_one cc
 
     bind_of : (t : Term) (q : Binder) (s : ℕ) (n : Marked Place) → names t ≡ over q s n
         → (y : ℕ) × (u : Term) × (t ≡ bind q y u) × (nameless b (y ∷ around) (replaced var (y ∷ around) u) ≡ n)
@@ -292,9 +292,9 @@ module _ (b : Bundle) where
     bind_of (var y) q s n e = let (out, is) = variable_of_lem y (over q s n) e (λ p h. zero_one cc) in zero_one cc
     bind_of (app g ts) q s n e = zero_one cc
     bind_of (bind o y u) q s n e = (y, u, cc, cc)
-    bind_of (letIn ys ts u) q s n e = zero_one cc
+    bind_of (let_in ys ts u) q s n e = zero_one cc
 
-    one_of : (ts : Terms) (n : Marked Place) → namelessAll b around (replacedAll var around ts) ≡ next n end → (t : Term) × (ts ≡ more t none) × (names t ≡ n)
+    one_of : (ts : Terms) (n : Marked Place) → nameless_all b around (replaced_all var around ts) ≡ next n end → (t : Term) × (ts ≡ more t none) × (names t ≡ n)
     unfolding nameless replaced
     one_of none n e = zero_one cc
     one_of (more t none) n e = (t, refl, cc)

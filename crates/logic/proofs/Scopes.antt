@@ -21,7 +21,7 @@ use Rattle.logic.specs.Rules.{scoped_as}
 use Rattle.logic.specs.Instance.{SidesInScope}
 use Rattle.logic.specs.Statements.{ScopeExactly, ClaimClosed}
 use Rattle.logic.proofs.Tests.{up_to_lem, up_to_all}
-use Rattle.logic.proofs.Exactly.{and-exactly, imply-exactly}
+use Rattle.logic.proofs.Exactly.{and_exactly, imply_exactly}
 use Rattle.logic.proofs.FreeSettled.{free_at_exactly, free_number}
 use Rattle.logic.proofs.Found.{mentioned_exactly}
 
@@ -53,7 +53,7 @@ scope_exactly b well c t = (there, back)
     here x = not (free_at b t x) || mentioned b c x
 
     stands : (x : ℕ) → (here x ≡ true) ↔ (Free x (tree b t) → Mentioned b c x)
-    stands x = imply-exactly (free_at b t x) (free_at_exactly b well.tables t x) (mentioned b c x) (mentioned_exactly b well c x)
+    stands x = imply_exactly (free_at b t x) (free_at_exactly b well.tables t x) (mentioned b c x) (mentioned_exactly b well c x)
 
     there : in_scope b c t ≡ true → InScope b c (tree b t)
     there e x h =
@@ -67,7 +67,7 @@ module _ (b : Bundle) (well : WellFormed b) where
   pub scoped_exactly : (s : Step) → (scoped_as b s ≡ true) ↔ SidesInScope b s
   unfolding scoped_as
   scoped_exactly s =
-      and-exactly (in_scope b s.context s.left) (scope_exactly b well s.context s.left) (in_scope b s.context s.right)
+      and_exactly (in_scope b s.context s.left) (scope_exactly b well s.context s.left) (in_scope b s.context s.right)
       (scope_exactly b well s.context s.right)
 
   -- ---- a variable that is out of scope

@@ -24,7 +24,7 @@ use Rattle.logic.proofs.Passes.{lower_of}
 use Rattle.logic.proofs.Formed.{formed_pass, tree_variable, tree_application}
 use Rattle.logic.proofs.ReflWalk.{walk_here}
 use Rattle.logic.proofs.ReflExactly.{pair_same, then_same, pair_walk_exactly}
-use Rattle.logic.proofs.Replacements.{Unbound, unbound-apart}
+use Rattle.logic.proofs.Replacements.{Unbound, unbound_apart}
 
 some_power : (n : ℕ) → 1 ≤ 2 ^ n
 some_power zero = omega arith
@@ -75,9 +75,9 @@ module _ (b : Bundle) (formed : TablesFormed b) (c : ℕ) where
     all_lower l m ih [] h = tt
     all_lower l m ih (t ∷ ts) h = (ih t h.0, all_lower l m ih ts h.1)
 
-    binder-pairs : (s : TermRecord) (m : ℕ) → AtMost (pair_walk b c) m s.b → (ps : Crossed) (r : ℕ)
+    binder_pairs : (s : TermRecord) (m : ℕ) → AtMost (pair_walk b c) m s.b → (ps : Crossed) (r : ℕ)
         → (pair_then (binder_meets b s r) (pair_walk b c s.b (binder_crossed b s r ps) (term_of b r).b)).pairs ≤ 1 + 2 * m
-    binder-pairs s m h ps r =
+    binder_pairs s m h ps r =
         let body : PairWalk = pair_walk b c s.b (binder_crossed b s r ps) (term_of b r).b in
         omega (arith, pair_pairs (binder_meets b s r) body, h (binder_crossed b s r ps) (term_of b r).b)
 
@@ -103,7 +103,7 @@ module _ (b : Bundle) (formed : TablesFormed b) (c : ℕ) where
             omega (arith, pair_pairs (application_meets b o r) (lists_walk (pair_walk b c) ps (items b s) rs))
     step l m n (a_binder q k x t e h v low sorts) ih ps r =
         let s : TermRecord = record { kind = k; a = x; b = t; c = 0 } in
-        rw (here l s e) (subst (λ (κ : Kind). (pair_walk_as (free_at b) (image b c) b κ (pair_walk b c) s ps r).pairs ≤ 1 + 2 * m) (sym h) (binder-pairs s m (ih t low) ps r))
+        rw (here l s e) (subst (λ (κ : Kind). (pair_walk_as (free_at b) (image b c) b κ (pair_walk b c) s ps r).pairs ≤ 1 + 2 * m) (sym h) (binder_pairs s m (ih t low) ps r))
     step l m n (a_let vs ts t e sv nv st lows low lists) ih ps r = rw (here l o e) go
       where
         o : TermRecord
@@ -235,7 +235,7 @@ doubled_reached b well c n r hn hr d copy =
     (pair_walk_exactly b well c n r hn hr).1 (
       replaced (image_tree b c) [] (tree b n),
       refl,
-      unbound-apart (image_tree b c) (tree b n) (doubled_unbound b well.tables n d hn.0),
+      unbound_apart (image_tree b c) (tree b n) (doubled_unbound b well.tables n d hn.0),
       sym copy,
     ) in
     let pairs : (pair_walk b c n [] r).pairs ≡ 2 ^ n - 1 = pair_walk_doubled b well.tables c n hn d [] r same in

@@ -22,7 +22,7 @@ use Rattle.logic.specs.Longer.{Longer}
 use Rattle.logic.specs.ReflWalk.{Crossed, lefts, rights, cross_all, meets, sorts_meet, all_sorts_meet, image_is, bound_meets, free_meets, variable_meets, application_meets, binder_meets, let_meets, PairWalk, one_pair, pair_then, and_then, lists_walk, pair_walk_as, pair_walk_of, pair_walk}
 use Rattle.logic.specs.Statements.{PairWalkKept}
 use Rattle.logic.proofs.Tests.{and_left}
-use Rattle.logic.proofs.TermNumbers.{IsTerm, app-args, bind-body, let-parts}
+use Rattle.logic.proofs.TermNumbers.{IsTerm, app_args, bind_body, let_parts}
 use Rattle.logic.proofs.Shapes.{formed_before}
 use Rattle.logic.proofs.Crossings.{bound_variables}
 use Rattle.logic.proofs.Kept.{known_kept, variable_kept, term_kept, items_kept, free_kept, arguments_kept, let_lists_kept, image_kept}
@@ -79,10 +79,10 @@ module _ {b b' : Bundle} (more : Longer b b') (well : WellFormed b) (c : ℕ) (i
     t : term_of b' r ≡ term_of b r
     t = term_kept more r n.1
 
-    image-is-kept : (g : Image) (x : ℕ) → image_is b' g x r ≡ image_is b g x r
+    image_is_kept : (g : Image) (x : ℕ) → image_is b' g x r ≡ image_is b g x r
     unfolding image_is
-    image-is-kept Own x = λ i. eqb (t i).kind 1 && eqb (t i).a x
-    image-is-kept (Gives u) x = refl
+    image_is_kept Own x = λ i. eqb (t i).kind 1 && eqb (t i).a x
+    image_is_kept (Gives u) x = refl
 
     variable_same : (x : ℕ) → variable_meets (free_at b') (image b' c) b' ps x r ≡ variable_meets (free_at b) (image b c) b ps x r
     unfolding variable_meets bound_meets free_meets
@@ -91,31 +91,31 @@ module _ {b b' : Bundle} (more : Longer b b') (well : WellFormed b) (c : ℕ) (i
         (is i && each (λ y. not (free_kept more well.tables r n.1 i y)) (rights ps))
       where
         is : image_is b' (image b' c x) x r ≡ image_is b (image b c x) x r
-        is = (λ i. image_is b' (image_kept more well c in_range i x) x r) ∙ image-is-kept (image b c x) x
+        is = (λ i. image_is b' (image_kept more well c in_range i x) x r) ∙ image_is_kept (image b c x) x
 
-    application-same : (f s : ℕ) → s ≤ length b.links → All Kept (items b s)
+    application_same : (f s : ℕ) → s ≤ length b.links → All Kept (items b s)
         → pair_walk_as (free_at b') (image b' c) b' application (pair_walk b' c) (record { kind = 2; a = f; b = s; c = 0 }) ps r
         ≡ pair_walk_as (free_at b) (image b c) b application (pair_walk b c) (record { kind = 2; a = f; b = s; c = 0 }) ps r
     unfolding pair_walk_as application_meets o
-    application-same f s start h =
+    application_same f s start h =
         pair_kept (eqb o.kind 2 && eqb f o.a) (eqb (term_of b' r).kind 2 && eqb f (term_of b' r).a)
         (lists_walk (pair_walk b c) ps (items b s) (items b o.b)) (lists_walk (pair_walk b' c) ps (items b' s) (items b' (term_of b' r).b))
         (λ i. eqb (t i).kind 2 && eqb f (t i).a)
         (λ e. let k : o.kind ≡ 2 = eqb-true o.kind 2 (and_left (eqb o.kind 2) (eqb f o.a) e) in
         ap₂ (lists_walk (pair_walk b' c) ps) (items_kept more well.tables s start)
         (ap (λ (u : TermRecord). items b' u.b) t ∙ arguments_kept more well.tables r k)
-        ∙ lists_kept ps (items b s) (items b o.b) h (app-args b well.tables r n k))
+        ∙ lists_kept ps (items b s) (items b o.b) h (app_args b well.tables r n k))
 
-    binder-same : (q : Binder) (k x u : ℕ) → kind_of k ≡ binder q → Number (length b.variables) x → Kept u
+    binder_same : (q : Binder) (k x u : ℕ) → kind_of k ≡ binder q → Number (length b.variables) x → Kept u
         → pair_walk_as (free_at b') (image b' c) b' (binder q) (pair_walk b' c) (record { kind = k; a = x; b = u; c = 0 }) ps r
         ≡ pair_walk_as (free_at b) (image b c) b (binder q) (pair_walk b c) (record { kind = k; a = x; b = u; c = 0 }) ps r
     unfolding pair_walk_as binder_meets o
-    binder-same q k x u k-is nx h =
+    binder_same q k x u k-is nx h =
         pair_kept (kinds o.kind && sorts) (kinds (term_of b' r).kind && sorts')
         (pair_walk b c u ((x, o.a) ∷ ps) o.b) (pair_walk b' c u ((x, (term_of b' r).a) ∷ ps) (term_of b' r).b)
         (and_kept (kinds o.kind) (kinds (term_of b' r).kind) sorts sorts' (λ i. kinds (t i).kind)
         (λ e. ap (λ (v : TermRecord). sorts_meet b' x v.a) t ∙ sorts_kept x o.a nx ((bound_variables b r (formed r n)).0 q (is e))))
-        (λ e. (λ i. pair_walk b' c u ((x, (t i).a) ∷ ps) (t i).b) ∙ h ((x, o.a) ∷ ps) o.b (bind-body b well.tables r q n (is (and_left (kinds o.kind) sorts e))))
+        (λ e. (λ i. pair_walk b' c u ((x, (t i).a) ∷ ps) (t i).b) ∙ h ((x, o.a) ∷ ps) o.b (bind_body b well.tables r q n (is (and_left (kinds o.kind) sorts e))))
       where
         kinds : ℕ → Bool
         kinds n = eqb n k
@@ -129,12 +129,12 @@ module _ {b b' : Bundle} (more : Longer b b') (well : WellFormed b) (c : ℕ) (i
         is : kinds o.kind ≡ true → kind_of o.kind ≡ binder q
         is e = ap kind_of (eqb-true o.kind k e) ∙ k-is
 
-    let-same : (vs ts u : ℕ) → vs ≤ length b.links → All (Number (length b.variables)) (items b vs) → ts ≤ length b.links
+    let_same : (vs ts u : ℕ) → vs ≤ length b.links → All (Number (length b.variables)) (items b vs) → ts ≤ length b.links
         → All Kept (items b ts) → Kept u
         → pair_walk_as (free_at b') (image b' c) b' letting (pair_walk b' c) (record { kind = 5; a = vs; b = ts; c = u }) ps r
         ≡ pair_walk_as (free_at b) (image b c) b letting (pair_walk b c) (record { kind = 5; a = vs; b = ts; c = u }) ps r
     unfolding pair_walk_as let_meets o
-    let-same vs ts u start-v nv start-t hs h =
+    let_same vs ts u start-v nv start-t hs h =
         pair_kept ((eqb o.kind 5 && sorts) && many) ((eqb (term_of b' r).kind 5 && sorts') && many')
         (and_then (lists_walk (pair_walk b c) ps (items b ts) (items b o.b)) (pair_walk b c u (cross_all (items b vs) (items b o.a) ps) o.c))
         (and_then (lists_walk (pair_walk b' c) ps (items b' ts) (items b' (term_of b' r).b))
@@ -159,15 +159,15 @@ module _ {b b' : Bundle} (more : Longer b b') (well : WellFormed b) (c : ℕ) (i
         vars : items b' vs ≡ items b vs
         vars = items_kept more well.tables vs start-v
 
-        vars-r : o.kind ≡ 5 → items b' (term_of b' r).a ≡ items b o.a
-        vars-r k = ap (λ (v : TermRecord). items b' v.a) t ∙ (let_lists_kept more well.tables r k).0
+        vars_r : o.kind ≡ 5 → items b' (term_of b' r).a ≡ items b o.a
+        vars_r k = ap (λ (v : TermRecord). items b' v.a) t ∙ (let_lists_kept more well.tables r k).0
 
-        bounds-r : o.kind ≡ 5 → items b' (term_of b' r).b ≡ items b o.b
-        bounds-r k = ap (λ (v : TermRecord). items b' v.b) t ∙ (let_lists_kept more well.tables r k).1
+        bounds_r : o.kind ≡ 5 → items b' (term_of b' r).b ≡ items b o.b
+        bounds_r k = ap (λ (v : TermRecord). items b' v.b) t ∙ (let_lists_kept more well.tables r k).1
 
         same_sorts : o.kind ≡ 5 → sorts' ≡ sorts
         same_sorts k =
-            ap₂ (all_sorts_meet b') vars (vars-r k)
+            ap₂ (all_sorts_meet b') vars (vars_r k)
             ∙ all_sorts_kept (items b vs) (items b o.a) nv ((bound_variables b r (formed r n)).1 k).variables
 
         same_parts : o.kind ≡ 5
@@ -176,10 +176,10 @@ module _ {b b' : Bundle} (more : Longer b b') (well : WellFormed b) (c : ℕ) (i
             ≡ and_then (lists_walk (pair_walk b c) ps (items b ts) (items b o.b)) (pair_walk b c u (cross_all (items b vs) (items b o.a) ps) o.c)
         same_parts k =
             ap₂ and_then
-            (ap₂ (lists_walk (pair_walk b' c) ps) (items_kept more well.tables ts start-t) (bounds-r k)
-            ∙ lists_kept ps (items b ts) (items b o.b) hs (let-parts b well.tables r n k).1)
-            ((λ i. pair_walk b' c u (cross_all (vars i) (vars-r k i) ps) (t i).c)
-            ∙ h (cross_all (items b vs) (items b o.a) ps) o.c (let-parts b well.tables r n k).0)
+            (ap₂ (lists_walk (pair_walk b' c) ps) (items_kept more well.tables ts start-t) (bounds_r k)
+            ∙ lists_kept ps (items b ts) (items b o.b) hs (let_parts b well.tables r n k).1)
+            ((λ i. pair_walk b' c u (cross_all (vars i) (vars_r k i) ps) (t i).c)
+            ∙ h (cross_all (items b vs) (items b o.a) ps) o.c (let_parts b well.tables r n k).0)
 
   -- ---- all terms, by their numbers
 
@@ -200,15 +200,15 @@ module _ {b b' : Bundle} (more : Longer b b') (well : WellFormed b) (c : ℕ) (i
   formed_kept l m (a_variable x e n) ih =
       kept_of l m (record { kind = 1; a = x; b = 0; c = 0 }) e (λ ps r nr. ap one_pair (variable_same ps r nr x))
   formed_kept l m (an_application g s e k st low sorts) ih =
-      kept_of l m (record { kind = 2; a = g; b = s; c = 0 }) e (λ ps r nr. application-same ps r nr g s st (all_lower l ih (items b s) low))
+      kept_of l m (record { kind = 2; a = g; b = s; c = 0 }) e (λ ps r nr. application_same ps r nr g s st (all_lower l ih (items b s) low))
   formed_kept l m (a_binder q k x u e h n low sorts) ih =
       let s : TermRecord = record { kind = k; a = x; b = u; c = 0 } in
       kept_of l m s e
       (λ ps r nr.
-      subst (λ (κ : Kind). pair_walk_as (free_at b') (image b' c) b' κ (pair_walk b' c) s ps r ≡ pair_walk_as (free_at b) (image b c) b κ (pair_walk b c) s ps r) (sym h) (binder-same ps r nr q k x u h n (ih u low)))
+      subst (λ (κ : Kind). pair_walk_as (free_at b') (image b' c) b' κ (pair_walk b' c) s ps r ≡ pair_walk_as (free_at b) (image b c) b κ (pair_walk b c) s ps r) (sym h) (binder_same ps r nr q k x u h n (ih u low)))
   formed_kept l m (a_let vs ts u e sv nv st lows low lists) ih =
       kept_of l m (record { kind = 5; a = vs; b = ts; c = u }) e
-      (λ ps r nr. let-same ps r nr vs ts u sv nv st (all_lower l ih (items b ts) lows) (ih u low))
+      (λ ps r nr. let_same ps r nr vs ts u sv nv st (all_lower l ih (items b ts) lows) (ih u low))
 
   up_to_lem : (k l : ℕ) → l ≤ k → IsTerm b l → Kept l
   up_to_lem zero l le m = absurd (omega arith)

@@ -2,7 +2,7 @@
 -- is lower.
 --     image_zero                       in the empty context
 --     image_fixed, image_replaced      the entry mentions the variable
---     image-on, image-not-lower        it does not: on to the parent; a parent that is not lower ends the walk
+--     image_on, image_not_lower        it does not: on to the parent; a parent that is not lower ends the walk
 use mathlib.Core.Path.{◌≡◌, refl, ap, ◌∙◌}
 use Prim.Native.Nat.{ℕ, ◌≤◌, ◌<◌}
 use borrow.Author.Tests.{lt-ltb, le-ltb}
@@ -35,10 +35,10 @@ module _ (b : Bundle) (k x : ℕ) {m : Mention} (says : m ≡ mention b (context
 
   -- p is the parent
   module _ (e : m ≡ Absent) {p : ℕ} (parent : p ≡ (context_of b k).parent) where
-    pub image-on : p < k → image b k x ≡ image b p x
+    pub image_on : p < k → image b k x ≡ image b p x
     unfolding image_by
-    image-on low = image_below b k x ∙ rw (← says, e, ← parent, lt-ltb p k low)
+    image_on low = image_below b k x ∙ rw (← says, e, ← parent, lt-ltb p k low)
 
-    pub image-not-lower : k ≤ p → image b k x ≡ Own
+    pub image_not_lower : k ≤ p → image b k x ≡ Own
     unfolding image_by
-    image-not-lower high = image_below b k x ∙ rw (← says, e, ← parent, le-ltb p k high)
+    image_not_lower high = image_below b k x ∙ rw (← says, e, ← parent, le-ltb p k high)

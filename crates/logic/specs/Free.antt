@@ -7,7 +7,7 @@ use Rattle.bundle.specs.Lists.{has, numbers}
 use Rattle.bundle.specs.File.{tab}
 use Rattle.logic.specs.Lists.{Among}
 use Rattle.logic.specs.Table.{table}
-use Rattle.logic.specs.Terms.{Term, Terms, Kind, kind_of, var, app, bind, letIn, none, more, variable, application, binder, letting, other}
+use Rattle.logic.specs.Terms.{Term, Terms, Kind, kind_of, var, app, bind, let_in, none, more, variable, application, binder, letting, other}
 
 -- The free variables of a variable term are its variable; of an application, those of its arguments; of a quantifier, those of its body but
 -- its own variable; of a let, those of its bound terms, and those of its body but the let's own.
@@ -18,7 +18,7 @@ unfoldable mutual
   free (var y) x = eqb x y
   free (app f ts) x = frees ts x
   free (bind q y t) x = not (eqb x y) && free t x
-  free (letIn vs ts u) x = (free u x && not (has x vs)) || frees ts x
+  free (let_in vs ts u) x = (free u x && not (has x vs)) || frees ts x
 
   pub frees : Terms → ℕ → Bool
   frees none x = false
@@ -30,7 +30,7 @@ abbrev mutual
   Free x (var y) = x ≡ y
   Free x (app f ts) = Frees x ts
   Free x (bind q y t) = (x ≡ y → ⊥) × Free x t
-  Free x (letIn vs ts u) = Frees x ts ⊎ ((Among x vs → ⊥) × Free x u)
+  Free x (let_in vs ts u) = Frees x ts ⊎ ((Among x vs → ⊥) × Free x u)
 
   pub Frees : ℕ → Terms → Type 0
   Frees x none = ⊥

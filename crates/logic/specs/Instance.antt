@@ -4,7 +4,7 @@ use Rattle.std.specs.Prelude.{ℕ, ◌≤◌, ◌≡◌, ◌⊎◌, List, [], �
 use Rattle.bundle.specs.Bundle.{Bundle, Step, context_of, step_of}
 use Rattle.bundle.specs.Links.{items}
 use Rattle.logic.specs.Lists.{All, Number}
-use Rattle.logic.specs.Terms.{Binder, Term, Terms, var, app, bind, letIn, none, more, gather, tree}
+use Rattle.logic.specs.Terms.{Binder, Term, Terms, var, app, bind, let_in, none, more, gather, tree}
 use Rattle.logic.specs.Free.{Free}
 use Rattle.logic.specs.Contexts.{image_tree, Settled, InScope}
 use Rattle.logic.specs.Replacement.{Replacement}
@@ -59,7 +59,7 @@ pub data Instance (b : Bundle) (rule : Rule) (Γ : ℕ) (left right : Term) (pre
       → (Free y left → ⊥) → ((z : ℕ) → Free z left → Free y (image_tree b Γ z) → ⊥) → Instance b rule Γ left right premises
   -- LET: premises carry each bound term to some s in the step's context; the last carries the body to the right side in a context that
   -- replaces the let's variables by those s, in order, with the step's context as parent.
-  by_let : rule ≡ LET → (xs : List ℕ) (rs ss : Terms) (t : Term) (ps : List ℕ) (p Δ : ℕ) → left ≡ letIn xs rs t → premises ≡ ps ++ (p ∷ [])
+  by_let : rule ≡ LET → (xs : List ℕ) (rs ss : Terms) (t : Term) (ps : List ℕ) (p Δ : ℕ) → left ≡ let_in xs rs t → premises ≡ ps ++ (p ∷ [])
       → SayAll b Γ rs ss ps → Says b p Δ t right → Replaces b Δ xs ss Γ → Instance b rule Γ left right premises
 
 -- each of the terms is settled in context Γ: the paper's Γ(s) = s
@@ -77,7 +77,7 @@ pub record LetAsPrinted (b : Bundle) (Γ : ℕ) (left right : Term) (premises : 
   pub earlier : List ℕ
   pub last : ℕ
   pub inner : ℕ
-  pub is_let_lem : left ≡ letIn variables bound body
+  pub is_let : left ≡ let_in variables bound body
   pub premises_are : premises ≡ earlier ++ (last ∷ [])
   pub bound_say : SayAll b Γ bound carried earlier
   pub body_says : Says b last inner body right

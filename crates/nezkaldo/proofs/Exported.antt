@@ -34,7 +34,7 @@ use Rattle.expansion.specs.File.{file_of}
 use Rattle.expansion.specs.Expansion.{Outcome, expansion}
 use Rattle.expansion.specs.Demands.{LongEnough, ZerosLeft, WrittenWell}
 use Rattle.expansion.proofs.JobSizes.{refused_job_small}
-use Rattle.expansion.proofs.JobChecks.{job_exactly, job-answer, job_room, refused_job_where}
+use Rattle.expansion.proofs.JobChecks.{job_exactly, job_answer, job_room, refused_job_where}
 use Rattle.expansion.proofs.Demands.{refused_job_exactly, written_exactly, areas_left, expansion_right}
 use Rattle.reading.specs.Reading.{reading}
 use Rattle.reading.specs.Demands.{ReadWell, RuleExpanded}
@@ -107,7 +107,7 @@ file_short f out words sets n e =
     let (formed, closed, fits, long) = (written_exactly f out words sets).0 (n, e) in
     let shortest : LongEnough (bytes_of limits) words sets = record { output = omega arith; scratch = long.scratch; stack = long.stack } in
     let room = job_room f (bytes_of limits) words sets ((job_exactly f (bytes_of limits) words sets).1 (formed, closed, fits, shortest)) in
-    let told = job-answer f out words sets ((job_exactly f out words sets).1 (formed, closed, fits, long)) in
+    let told = job_answer f out words sets ((job_exactly f out words sets).1 (formed, closed, fits, long)) in
     let same : n ≡ length (file_of (expanded (bundle_of f))) = cc in
     omega arith
 

@@ -2,7 +2,7 @@
 --     Fits, fits_start to fits_on                  the arguments, as `arguments::arguments_fit` goes over them
 --     symbol_range                                 what is called a symbol has a declared symbol's number
 --     takes_none, takes_list                       the answers of `arguments::symbol_fine`
---     fine-variable, fine-none, fine-list          the answers of `arguments::name_fine`
+--     fine_variable, fine_none, fine_list          the answers of `arguments::name_fine`
 use Prim.Native.Nat.{ℕ, zero, suc, ◌+◌, ◌-◌, ◌≤◌}
 use native.Mathlib.Omega.{arith}
 use mathlib.Core.Path.{◌≡◌, refl, sym, ap, ◌∙◌}
@@ -27,7 +27,7 @@ use Rattle.lexing.specs.Lexes.{lexemes_at}
 use Rattle.reading.specs.Called.{number_after, symbol_called}
 use Rattle.reading.specs.Local.{accepts, alone_fine}
 use Rattle.bracketing.specs.Brackets.{after_formula, starts_part, parts_from}
-use Rattle.bracketing.specs.Nodes.{sortFrom, takes}
+use Rattle.bracketing.specs.Nodes.{sort_from, takes}
 use Rattle.bracketing.specs.Places.{Reaches}
 use Rattle.bracketing.proofs.SortPlaces.{variable_is, symbol_is}
 use Rattle.node_tests.specs.Tests.{named_fine}
@@ -36,7 +36,7 @@ use Rattle.node_tests.proofs.PartLaws.{part_none, part_some, ended, goes_on_lem}
 -- ---- arguments against a list of sorts
 
 abbrev sorts_at : List ℕ → Counts → List ℕ → ℕ → List ℕ
-sorts_at f c text at = parts_from (sortFrom (bundle_at f c)) (lexemes_at text at)
+sorts_at f c text at = parts_from (sort_from (bundle_at f c)) (lexemes_at text at)
 
 -- the arguments from i on fit the list where those from `at` on fit what follows link k
 pub record Fits (f : List ℕ) (c : Counts) (text : List ℕ) (i list k at : ℕ) : Type 0 where
@@ -58,24 +58,24 @@ module _ {f : List ℕ} {c : Counts} {text : List ℕ} {i list k at : ℕ} (w : 
 
   pub fits_end : not p ≡ true → eqb k 0 ≡ whole
   fits_end n =
-      sym (w.same ∙ rw (part_none (sortFrom (bundle_at f c)) (lexemes_at text at) (ended p part n)) (same_nil (sized_at f c) k w.links))
+      sym (w.same ∙ rw (part_none (sort_from (bundle_at f c)) (lexemes_at text at) (ended p part n)) (same_nil (sized_at f c) k w.links))
 
   module _ (more : not p ≡ false) where
-    one_more : sorts_at f c text at ≡ sortFrom (bundle_at f c) (lexemes_at text at) ∷ parts_from (sortFrom (bundle_at f c)) (after_formula (lexemes_at text at))
-    one_more = part_some (sortFrom (bundle_at f c)) (lexemes_at text at) (goes_on_lem p part more)
+    one_more : sorts_at f c text at ≡ sort_from (bundle_at f c) (lexemes_at text at) ∷ parts_from (sort_from (bundle_at f c)) (after_formula (lexemes_at text at))
+    one_more = part_some (sort_from (bundle_at f c)) (lexemes_at text at) (goes_on_lem p part more)
 
-    pub fits-short : k ≡ 0 → false ≡ whole
+    pub fits_short : k ≡ 0 → false ≡ whole
     unfolding same_list
-    fits-short z = sym (w.same ∙ rw (one_more, walk_nil f c k z))
+    fits_short z = sym (w.same ∙ rw (one_more, walk_nil f c k z))
 
-    module _ (nz : k ≡ 0 → ⊥) {v s : ℕ} (is : v ≡ (link_of (bundle_at f c) k).value) (sort : s ≡ sortFrom (bundle_at f c) (lexemes_at text at)) where
+    module _ (nz : k ≡ 0 → ⊥) {v s : ℕ} (is : v ≡ (link_of (bundle_at f c) k).value) (sort : s ≡ sort_from (bundle_at f c) (lexemes_at text at)) where
       turn : (r : ℕ) → r ≡ next_of (bundle_at f c).links k
-          → whole ≡ (eqb v s && same_list (items (bundle_at f c) r) (parts_from (sortFrom (bundle_at f c)) (after_formula (lexemes_at text at))))
+          → whole ≡ (eqb v s && same_list (items (bundle_at f c) r) (parts_from (sort_from (bundle_at f c)) (after_formula (lexemes_at text at))))
       unfolding same_list
       turn r n = w.same ∙ rw (one_more, walk_cons f c k v r nz w.links is n, ← sort)
 
-      pub fits-differs : (v ≡ s → ⊥) → false ≡ whole
-      fits-differs ne = sym (turn (next_of (bundle_at f c).links k) refl ∙ rw (ne_eqb v s ne))
+      pub fits_differs : (v ≡ s → ⊥) → false ≡ whole
+      fits_differs ne = sym (turn (next_of (bundle_at f c).links k) refl ∙ rw (ne_eqb v s ne))
 
       pub fits_on : v ≡ s → {r : ℕ} → r ≡ next_of (bundle_at f c).links k → {next : ℕ} → Reaches text at next (after_formula (lexemes_at text at))
           → Fits f c text i list r next
@@ -149,20 +149,20 @@ module _ (f : List ℕ) (c : Counts) (w : List ℕ) (x : ℕ) (is : x ≡ symbol
     unfolding named_fine
     named = rw (← variable_is f c w, ← var, called)
 
-    pub fine-variable : (y ≡ 0 → ⊥) → true ≡ named_fine (bundle_at f c) w
+    pub fine_variable : (y ≡ 0 → ⊥) → true ≡ named_fine (bundle_at f c) w
     unfolding alone_fine
-    fine-variable nz = rw named (go y nz)
+    fine_variable nz = rw named (go y nz)
       where
         go : (y : ℕ) → (y ≡ 0 → ⊥) → true ≡ alone_fine (bundle_at f c) y x
         go zero nz = absurd (nz refl)
         go (suc y) nz = refl
 
-    pub fine-none : y ≡ 0 → x ≡ 0 → true ≡ named_fine (bundle_at f c) w
+    pub fine_none : y ≡ 0 → x ≡ 0 → true ≡ named_fine (bundle_at f c) w
     unfolding alone_fine signature_of argument_sorts
-    fine-none z e = rw (named, z, e)
+    fine_none z e = rw (named, z, e)
 
-    pub fine-list : y ≡ 0 → (x ≡ 0 → ⊥) → (list first : ℕ) → list ≡ (symbol_of (bundle_at f c) (x - 32)).sorts → first ≡ starts_at c.links list
+    pub fine_list : y ≡ 0 → (x ≡ 0 → ⊥) → (list first : ℕ) → list ≡ (symbol_of (bundle_at f c) (x - 32)).sorts → first ≡ starts_at c.links list
         → eqb first 0 ≡ named_fine (bundle_at f c) w
     unfolding alone_fine
-    fine-list z nz list first e s =
+    fine_list z nz list first e s =
         rw (named, z, listed nz list e [], walk_start f c list first s) (sym (same_nil (sized_at f c) first (walk_start_le f c list first s)))

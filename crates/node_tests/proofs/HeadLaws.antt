@@ -1,9 +1,9 @@
 -- Connectives, quantifiers and lets: what code finds, and the tests.
 --     joins_items, joins_truths                               the answers of `heads::joined`
---     declared_at, bound-fits, bound-differs                  pairs: a variable with a sort, a variable with a formula
---     Passing, pass_end, pass-fails, pass_on                  a test of all parts, as a loop goes over them
+--     declared_at, bound_fits, bound_differs                  pairs: a variable with a sort, a variable with a formula
+--     Passing, pass_end, pass_fails, pass_on                  a test of all parts, as a loop goes over them
 --     fresh_start                                             the answer of `heads::let_fine`
---     Fresh, fresh_end, fresh-zero, fresh-seen, fresh_on      bindings, as `heads::all_fresh` goes over them
+--     Fresh, fresh_end, fresh_zero, fresh_seen, fresh_on      bindings, as `heads::all_fresh` goes over them
 use Prim.Native.Nat.{ℕ, zero, ◌+◌, ◌≤◌, ◌<◌}
 use native.Mathlib.Omega.{arith}
 use native.Mathlib.Decide.{ℕ_discrete}
@@ -28,7 +28,7 @@ use Rattle.lexing.specs.Counted.{variable_among}
 use Rattle.lexing.specs.Lexes.{lexemes_at}
 use Rattle.reading.specs.Called.{number_after, variable_called}
 use Rattle.bracketing.specs.Brackets.{front_of, rest_of, after_formula, starts_part, parts_from}
-use Rattle.bracketing.specs.Nodes.{name_in, sort_in, sortFrom, variable_in, as_declared, every, bound_from, distinct}
+use Rattle.bracketing.specs.Nodes.{name_in, sort_in, sort_from, variable_in, as_declared, every, bound_from, distinct}
 use Rattle.bracketing.specs.Places.{Reaches}
 use Rattle.bracketing.proofs.SortPlaces.{variable_is}
 use Rattle.node_tests.specs.Tests.{joins_by, fresh_from}
@@ -56,16 +56,16 @@ module _ (f : List ℕ) (c : Counts) (ls : List Lexeme) (x : ℕ) (is : x ≡ va
   unfolding as_declared
   declared_at third said there e = rw (variable, ← sort, ← there, ← e)
 
-  module _ (third : List Lexeme) (s : ℕ) (there : third ≡ rest_of (rest_of ls)) (e : s ≡ sortFrom (bundle_at f c) third) where
+  module _ (third : List Lexeme) (s : ℕ) (there : third ≡ rest_of (rest_of ls)) (e : s ≡ sort_from (bundle_at f c) third) where
     bound : bound_from (bundle_at f c) ls ≡ cond (eqb u s) x 0
     unfolding bound_from
     bound = rw (variable, ← sort, ← there, ← e)
 
-    pub bound-fits : u ≡ s → x ≡ bound_from (bundle_at f c) ls
-    bound-fits q = sym (bound ∙ rw (eq-eqb u s q))
+    pub bound_fits : u ≡ s → x ≡ bound_from (bundle_at f c) ls
+    bound_fits q = sym (bound ∙ rw (eq-eqb u s q))
 
-    pub bound-differs : (u ≡ s → ⊥) → 0 ≡ bound_from (bundle_at f c) ls
-    bound-differs ne = sym (bound ∙ rw (ne_eqb u s ne))
+    pub bound_differs : (u ≡ s → ⊥) → 0 ≡ bound_from (bundle_at f c) ls
+    bound_differs ne = sym (bound ∙ rw (ne_eqb u s ne))
 
 -- ---- a test of all parts
 
@@ -80,9 +80,9 @@ module _ {test : List Lexeme → Bool} {text : List ℕ} {i at : ℕ} (w : Passi
   pass_end n = sym (w.same ∙ rw (part_none test (lexemes_at text at) (ended p part n)))
 
   module _ (more : not p ≡ false) {q : Bool} (tested : q ≡ test (lexemes_at text at)) where
-    pub pass-fails : not q ≡ true → false ≡ every (parts_from test (lexemes_at text i))
+    pub pass_fails : not q ≡ true → false ≡ every (parts_from test (lexemes_at text i))
     unfolding every
-    pass-fails n = sym (w.same ∙ rw (part_some test (lexemes_at text at) (goes_on_lem p part more), ended q tested n))
+    pass_fails n = sym (w.same ∙ rw (part_some test (lexemes_at text at) (goes_on_lem p part more), ended q tested n))
 
     pub pass_on : not q ≡ false → {next : ℕ} → Reaches text at next (after_formula (lexemes_at text at)) → Passing test text i next
     unfolding every
@@ -133,7 +133,7 @@ module _ (f : List ℕ) (c : Counts) (text : List ℕ) where
 
   bound_small : (ls : List Lexeme) → bound_from (bundle_at f c) ls ≤ c.variables
   unfolding bound_from variable_in
-  bound_small ls = go (eqb (sort_of_variable (bundle_at f c) (variable_in (bundle_at f c) ls)) (sortFrom (bundle_at f c) (rest_of (rest_of ls))))
+  bound_small ls = go (eqb (sort_of_variable (bundle_at f c) (variable_in (bundle_at f c) ls)) (sort_from (bundle_at f c) (rest_of (rest_of ls))))
     where
       go : (p : Bool) → cond p (variable_in (bundle_at f c) ls) 0 ≤ c.variables
       go true = called_small (name_in (front_of (rest_of ls)))
@@ -180,16 +180,16 @@ module _ {f : List ℕ} {c : Counts} {text : List ℕ} {i : ℕ} {first : List �
     unfolding fresh_from distinct each different
     turn = w.same ∙ rw (part_some (bound_from (bundle_at f c)) (lexemes_at text at) (goes_on_lem p part more), ← is)
 
-    pub fresh-zero : x ≡ 0 → false ≡ all
-    fresh-zero z = sym (turn ∙ rw z (none (not (member seen 0 set_words 0) && unseen later)))
+    pub fresh_zero : x ≡ 0 → false ≡ all
+    fresh_zero z = sym (turn ∙ rw z (none (not (member seen 0 set_words 0) && unseen later)))
       where
         none : (p : Bool) → (p && false) ≡ false
         none true = refl
         none false = refl
 
     module _ (nz : x ≡ 0 → ⊥) {m : Bool} (found : m ≡ member seen 0 set_words x) where
-      pub fresh-seen : m ≡ true → false ≡ all
-      fresh-seen e = sym (turn ∙ rw (sym found ∙ e))
+      pub fresh_seen : m ≡ true → false ≡ all
+      fresh_seen e = sym (turn ∙ rw (sym found ∙ e))
 
       pub fresh_on : m ≡ false → Within c → set_words ≤ length first → {new : List ℕ} → new ≡ inserted seen 0 set_words x
           → {next : ℕ} → Reaches text at next (after_formula (lexemes_at text at)) → Fresh f c text i first next new

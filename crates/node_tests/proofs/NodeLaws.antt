@@ -1,6 +1,6 @@
 -- Nodes by their heads, every node, and the whole text.
 --     inside_symbol to inside_other            the answers of `nodes::bracket_fine`, by the head's number
---     AllFine, fine_over, fine-fails, fine-on   all nodes, as `nodes::all_fine` goes over them
+--     AllFine, fine_over, fine_fails, fine_on   all nodes, as `nodes::all_fine` goes over them
 --     judges_not, judges                       the answers of `nodes::text_fine`
 use Prim.Native.Nat.{ℕ, ◌≤◌}
 use native.Mathlib.Omega.{arith}
@@ -23,9 +23,9 @@ use Rattle.lexing.specs.Lexes.{part, lexemes_at, Lexes}
 use Rattle.lexing.specs.declared.lexemes.Lexed.{Lexed}
 use Rattle.lexing.proofs.LexemeLaws.{word_small}
 use Rattle.reading.specs.Called.{number_after, symbol_called}
-use Rattle.reading.specs.Local.{headSort, fine}
+use Rattle.reading.specs.Local.{head_sort, fine}
 use Rattle.bracketing.specs.Brackets.{rest_of, after_formula, parts_from}
-use Rattle.bracketing.specs.Nodes.{name_of, joins, takes, as_declared, every, bound_from, distinct, sortFrom, head_fine, inside_fine}
+use Rattle.bracketing.specs.Nodes.{name_of, joins, takes, as_declared, every, bound_from, distinct, sort_from, head_fine, inside_fine}
 use Rattle.bracketing.specs.Nodes.{fine_from}
 use Rattle.bracketing.specs.Places.{name_here}
 use Rattle.bracketing.proofs.NodesOff.{bracket_by_bracket}
@@ -101,7 +101,7 @@ joins_by_lem equality s t = go (eqb s truth_sort)
 -- ---- heads
 
 module _ (b : Bundle) (ls : List Lexeme) where
-  head_not : (w : Word) → word_code w ≡ 4 → head_fine b w ls ≡ eqb truth_sort (sortFrom b ls)
+  head_not : (w : Word) → word_code w ≡ 4 → head_fine b w ls ≡ eqb truth_sort (sort_from b ls)
   unfolding head_fine word_code
   head_not (constant v) e = absurd (omega arith)
   head_not negation e = refl
@@ -111,18 +111,18 @@ module _ (b : Bundle) (ls : List Lexeme) where
   head_not (sort s) e = absurd (omega arith)
   head_not (name w) e = absurd (omega arith)
 
-  head_connective : (w : Word) → word_code w ≡ 5 → head_fine b w ls ≡ joins_by (is_equals w) (sortFrom b ls) (sortFrom b (after_formula ls))
+  head_connective : (w : Word) → word_code w ≡ 5 → head_fine b w ls ≡ joins_by (is_equals w) (sort_from b ls) (sort_from b (after_formula ls))
   unfolding head_fine word_code
   head_connective (constant v) e = absurd (omega arith)
   head_connective negation e = absurd (omega arith)
-  head_connective (connective c) e = joins_by_lem c (sortFrom b ls) (sortFrom b (after_formula ls))
+  head_connective (connective c) e = joins_by_lem c (sort_from b ls) (sort_from b (after_formula ls))
   head_connective (quantifier q) e = absurd (omega arith)
   head_connective letting e = absurd (omega arith)
   head_connective (sort s) e = absurd (omega arith)
   head_connective (name w) e = absurd (omega arith)
 
   head_quantifier : (w : Word) → word_code w ≡ 6
-      → head_fine b w ls ≡ (every (parts_from (as_declared b) (rest_of ls)) && eqb (sortFrom b (after_formula ls)) truth_sort)
+      → head_fine b w ls ≡ (every (parts_from (as_declared b) (rest_of ls)) && eqb (sort_from b (after_formula ls)) truth_sort)
   unfolding head_fine word_code
   head_quantifier (constant v) e = absurd (omega arith)
   head_quantifier negation e = absurd (omega arith)
@@ -142,7 +142,7 @@ module _ (b : Bundle) (ls : List Lexeme) where
   head_let (sort s) e = absurd (omega arith)
   head_let (name w) e = absurd (omega arith)
 
-  head_symbol : (w : Word) → word_code w ≡ 9 → head_fine b w ls ≡ takes b (symbol_called b (name_of w)) (parts_from (sortFrom b) ls)
+  head_symbol : (w : Word) → word_code w ≡ 9 → head_fine b w ls ≡ takes b (symbol_called b (name_of w)) (parts_from (sort_from b) ls)
   unfolding head_fine word_code name_of
   head_symbol (constant v) e = absurd (omega arith)
   head_symbol negation e = absurd (omega arith)
@@ -184,27 +184,27 @@ module _ (b : Bundle) (text : List ℕ) (i : ℕ) (r : Lexed) (h : Lexes text i 
       go (other c e) = absurd (omega arith)
       go (run w is c e) = rw e (sym (f w is c))
 
-  pub inside_symbol : r.code ≡ 9 → (t : Bool) → t ≡ takes b (symbol_called b (name_here text r)) (parts_from (sortFrom b) rest)
+  pub inside_symbol : r.code ≡ 9 → (t : Bool) → t ≡ takes b (symbol_called b (name_here text r)) (parts_from (sort_from b) rest)
       → t ≡ inside_fine b (lexemes_at text i)
   inside_symbol q t e =
       inside_word (omega arith) (λ z. omega arith) t
       (λ w is c. head_symbol b rest w (sym c ∙ q)
-      ∙ (ap (λ (u : List ℕ). takes b (symbol_called b u) (parts_from (sortFrom b) rest)) (named w is c) ∙ sym e))
+      ∙ (ap (λ (u : List ℕ). takes b (symbol_called b u) (parts_from (sort_from b) rest)) (named w is c) ∙ sym e))
 
-  pub inside_not : r.code ≡ 4 → (s : ℕ) → s ≡ sortFrom b rest → eqb 0 s ≡ inside_fine b (lexemes_at text i)
+  pub inside_not : r.code ≡ 4 → (s : ℕ) → s ≡ sort_from b rest → eqb 0 s ≡ inside_fine b (lexemes_at text i)
   inside_not q s e = inside_word (omega arith) (λ z. omega arith) (eqb 0 s) (λ w is c. head_not b rest w (sym c ∙ q) ∙ ap (eqb 0) (sym e))
 
   pub inside_connective : r.code ≡ 5 → (t : Bool)
-      → t ≡ joins_by (same_list (part text r.start r.end) (bytes "=")) (sortFrom b rest) (sortFrom b (after_formula rest))
+      → t ≡ joins_by (same_list (part text r.start r.end) (bytes "=")) (sort_from b rest) (sort_from b (after_formula rest))
       → t ≡ inside_fine b (lexemes_at text i)
   inside_connective q t e =
       inside_word (omega arith) (λ z. omega arith) t
       (λ w is c. head_connective b rest w (sym c ∙ q)
-      ∙ (ap (λ (p : Bool). joins_by p (sortFrom b rest) (sortFrom b (after_formula rest)))
+      ∙ (ap (λ (p : Bool). joins_by p (sort_from b rest) (sort_from b (after_formula rest)))
       (ap is_equals is ∙ sym (equals_is (part text r.start r.end))) ∙ sym e))
 
   pub inside_quantifier : r.code ≡ 6 → (t : Bool)
-      → t ≡ (every (parts_from (as_declared b) (rest_of rest)) && eqb (sortFrom b (after_formula rest)) truth_sort) → t ≡ inside_fine b (lexemes_at text i)
+      → t ≡ (every (parts_from (as_declared b) (rest_of rest)) && eqb (sort_from b (after_formula rest)) truth_sort) → t ≡ inside_fine b (lexemes_at text i)
   inside_quantifier q t e = inside_word (omega arith) (λ z. omega arith) t (λ w is c. head_quantifier b rest w (sym c ∙ q) ∙ sym e)
 
   pub inside_let : r.code ≡ 7 → (t : Bool) → t ≡ distinct (parts_from (bound_from b) (rest_of rest)) → t ≡ inside_fine b (lexemes_at text i)
@@ -254,11 +254,11 @@ module _ {b : Bundle} {text : List ℕ} {head : Bool} {at : ℕ} (w : AllFine b 
   fine_over q = sym (w.same ∙ rw (h.over q))
 
   module _ (ne : r.code ≡ 10 → ⊥) {p : Bool} (tested : p ≡ node_here b text head r) where
-    pub fine-fails : not p ≡ true → false ≡ fine_from b false (lexemes_at text 0)
-    fine-fails n = sym (w.same ∙ (fine_turn b text at r h head ne ∙ rw (ended p tested n)))
+    pub fine_fails : not p ≡ true → false ≡ fine_from b false (lexemes_at text 0)
+    fine_fails n = sym (w.same ∙ (fine_turn b text at r h head ne ∙ rw (ended p tested n)))
 
-    pub fine-on : not p ≡ false → AllFine b text (eqb r.code 0) r.end
-    fine-on n = record { inside = h.inside; same = w.same ∙ (fine_turn b text at r h head ne ∙ rw (goes_on_lem p tested n)) }
+    pub fine_on : not p ≡ false → AllFine b text (eqb r.code 0) r.end
+    fine_on n = record { inside = h.inside; same = w.same ∙ (fine_turn b text at r h head ne ∙ rw (goes_on_lem p tested n)) }
 
 -- ---- the whole text
 
@@ -267,17 +267,17 @@ module _ (b : Bundle) (text : List ℕ) where
   unfolding lexemes spelling
   read_off φ e = e
 
-  pub judges_not : (s : ℕ) → s ≡ sortFrom b (lexemes_at text 0) → (s ≡ 0 → ⊥) → Judges b text false
+  pub judges_not : (s : ℕ) → s ≡ sort_from b (lexemes_at text 0) → (s ≡ 0 → ⊥) → Judges b text false
   judges_not s e nz φ is known =
-      let sort : s ≡ headSort b φ = e ∙ (ap (sortFrom b) (read_off φ is) ∙ (bracket_by_bracket b φ [] known).sort) in
+      let sort : s ≡ head_sort b φ = e ∙ (ap (sort_from b) (read_off φ is) ∙ (bracket_by_bracket b φ [] known).sort) in
       sym (rw (← sort, ne_eqb s 0 nz) (none (fine b φ)))
     where
       none : (p : Bool) → (p && false) ≡ false
       none true = refl
       none false = refl
 
-  pub judges : (s : ℕ) → s ≡ sortFrom b (lexemes_at text 0) → s ≡ 0 → (r : Bool) → r ≡ fine_from b false (lexemes_at text 0) → Judges b text r
+  pub judges : (s : ℕ) → s ≡ sort_from b (lexemes_at text 0) → s ≡ 0 → (r : Bool) → r ≡ fine_from b false (lexemes_at text 0) → Judges b text r
   unfolding fine_from
   judges s e z r f φ is known =
-      let sort : headSort b φ ≡ 0 = sym (bracket_by_bracket b φ [] known).sort ∙ (ap (sortFrom b) (sym (read_off φ is)) ∙ (sym e ∙ z)) in
+      let sort : head_sort b φ ≡ 0 = sym (bracket_by_bracket b φ [] known).sort ∙ (ap (sort_from b) (sym (read_off φ is)) ∙ (sym e ∙ z)) in
       f ∙ (ap (fine_from b false) (read_off φ is) ∙ ((bracket_by_bracket b φ [] known).nodes ∙ rw sort))

@@ -9,7 +9,7 @@ use Rattle.grammar.specs.Names.{names, all_known}
 use Rattle.lexing.specs.Lexes.{lexemes_at}
 use Rattle.lexing.specs.declared.lexemes.Lexed.{Lexed}
 use Rattle.reading.specs.Called.{variable_called, symbol_called, known_in}
-use Rattle.reading.specs.Local.{alone_fine, headSort, fine}
+use Rattle.reading.specs.Local.{alone_fine, head_sort, fine}
 use Rattle.bracketing.specs.Brackets.{parts_from}
 use Rattle.bracketing.specs.Nodes.{bound_from, distinct, inside_fine}
 use Rattle.bracketing.specs.Places.{name_here}
@@ -36,4 +36,4 @@ fresh_from b text seen n i =
 
 -- THE PROMISE: r says whether the text's formula, where its names are known, is well sorted and Bool
 abbrev pub Judges : Bundle → List ℕ → Bool → Type 0
-Judges b text r = (φ : Formula) → Reads text φ → all_known (known_in b) (names φ []) ≡ true → r ≡ (fine b φ && eqb (headSort b φ) truth_sort)
+Judges b text r = (φ : Formula) → Reads text φ → all_known (known_in b) (names φ []) ≡ true → r ≡ (fine b φ && eqb (head_sort b φ) truth_sort)

@@ -6,7 +6,7 @@ ghost use Rattle.bundle.specs.File.{Whole, bundle_at};
 ghost use Rattle.lexing.specs.Lexes.{lexemes_at};
 ghost use Rattle.reading.specs.Called.{symbol_called};
 ghost use Rattle.bracketing.specs.Brackets.{parts_from};
-ghost use Rattle.bracketing.specs.Nodes.{takes, sortFrom};
+ghost use Rattle.bracketing.specs.Nodes.{takes, sort_from};
 ghost use Rattle.bracketing.specs.Places.{Lies, name_here};
 ghost use Rattle.node_tests.specs.Tests.{named_fine};
 
@@ -21,7 +21,7 @@ use lexing::lexemes::Lexed;
 fn arguments_fit(file: &[u8], b: Bundle, text: &[u8], i: usize, list: usize) -> bool
     requires { Whole file.now b × (i ≤ length text.now) }
     ensures { result ≡ same_list (items (bundle_at file.now b) list)
-        (parts_from (sortFrom (bundle_at file.now b)) (lexemes_at text.now i)) }
+        (parts_from (sort_from (bundle_at file.now b)) (lexemes_at text.now i)) }
 {
     let mut k = first_link(b, list);
     let mut at = i;
@@ -46,7 +46,7 @@ fn arguments_fit(file: &[u8], b: Bundle, text: &[u8], i: usize, list: usize) -> 
 pub fn symbol_fine(file: &[u8], b: Bundle, text: &[u8], h: Lexed) -> bool
     requires { Whole file.now b × Lies text.now h }
     ensures { result ≡ takes (bundle_at file.now b) (symbol_called (bundle_at file.now b) (name_here text.now h))
-        (parts_from (sortFrom (bundle_at file.now b)) (lexemes_at text.now h.end)) }
+        (parts_from (sort_from (bundle_at file.now b)) (lexemes_at text.now h.end)) }
 {
     let end = h.end;
     let f = symbol_here(b, text, h);

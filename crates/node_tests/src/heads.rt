@@ -8,7 +8,7 @@ ghost use Rattle.logic.specs.Symbols.{truth_sort};
 ghost use Rattle.grammar.specs.Bytes.{bytes};
 ghost use Rattle.lexing.specs.Lexes.{part, lexemes_at};
 ghost use Rattle.bracketing.specs.Brackets.{rest_of, after_formula, parts_from};
-ghost use Rattle.bracketing.specs.Nodes.{as_declared, every, bound_from, distinct, sortFrom};
+ghost use Rattle.bracketing.specs.Nodes.{as_declared, every, bound_from, distinct, sort_from};
 ghost use Rattle.bracketing.specs.Places.{Lies};
 ghost use Rattle.node_tests.specs.Tests.{joins_by, fresh_from};
 
@@ -36,8 +36,8 @@ fn joined(equal: bool, s: usize, t: usize) -> bool
 pub fn connective_fine(file: &[u8], b: Bundle, text: &[u8], h: Lexed) -> bool
     requires { Whole file.now b × Lies text.now h }
     ensures { result ≡ joins_by (same_list (part text.now h.start h.end) (bytes "="))
-        (sortFrom (bundle_at file.now b) (lexemes_at text.now h.end))
-        (sortFrom (bundle_at file.now b) (after_formula (lexemes_at text.now h.end))) }
+        (sort_from (bundle_at file.now b) (lexemes_at text.now h.end))
+        (sort_from (bundle_at file.now b) (after_formula (lexemes_at text.now h.end))) }
 {
     let start = h.start;
     let end = h.end;
@@ -82,7 +82,7 @@ fn all_declared(file: &[u8], b: Bundle, text: &[u8], i: usize) -> bool
 pub fn quantifier_fine(file: &[u8], b: Bundle, text: &[u8], i: usize) -> bool
     requires { Whole file.now b × (i ≤ length text.now) }
     ensures { result ≡ (every (parts_from (as_declared (bundle_at file.now b)) (rest_of (lexemes_at text.now i)))
-        && eqb (sortFrom (bundle_at file.now b) (after_formula (lexemes_at text.now i))) truth_sort) }
+        && eqb (sort_from (bundle_at file.now b) (after_formula (lexemes_at text.now i))) truth_sort) }
 {
     let inside = after_lexeme(text, i);
     let body = after_formula(text, i);

@@ -2,9 +2,9 @@
 --     opened_variable, opened_binder, opened_rest     what is put onto the agenda
 --     closes_not, opened_none, opened_some            an application with no arguments, and others
 --     body_test, body_flag                              a kind that has a body
---     body-binder, body-let                           the body
---     bound-binder, bound-let                         the variables
---     met-binder, met-let                             what is known of them where the pair has met
+--     body_binder, body_let                           the body
+--     bound_binder, bound_let                         the variables
+--     met_binder, met_let                             what is known of them where the pair has met
 use mathlib.Core.Path.{◌≡◌, refl, sym, ap, ◌∙◌}
 use mathlib.Core.Bool.{Bool, true, false, ◌&&◌, ◌||◌, false≢true}
 use mathlib.Core.List.{List, [], ◌∷◌}
@@ -98,9 +98,9 @@ body_flag k e = body_test k ∙ ap (λ (q : Bool). q || eqb k 5) (sym e)
 
 module _ (b : Bundle) (k : ℕ) where
   module _ (e : is_binder k ≡ true) where
-    pub body-binder : (t : ℕ) → body_as b (kind_of k) t ≡ (term_of b t).b
+    pub body_binder : (t : ℕ) → body_as b (kind_of k) t ≡ (term_of b t).b
     unfolding body_as is_binder
-    body-binder t = go (kind_of k) e
+    body_binder t = go (kind_of k) e
       where
         go : (κ : Kind) → binds κ ≡ true → body_as b κ t ≡ (term_of b t).b
         go variable h = absurd (false≢true h)
@@ -109,9 +109,9 @@ module _ (b : Bundle) (k : ℕ) where
         go letting h = absurd (false≢true h)
         go other h = absurd (false≢true h)
 
-    pub bound-binder : (t : ℕ) → bound_as b (kind_of k) t ≡ (term_of b t).a ∷ []
+    pub bound_binder : (t : ℕ) → bound_as b (kind_of k) t ≡ (term_of b t).a ∷ []
     unfolding bound_as is_binder
-    bound-binder t = go (kind_of k) e
+    bound_binder t = go (kind_of k) e
       where
         go : (κ : Kind) → binds κ ≡ true → bound_as b κ t ≡ (term_of b t).a ∷ []
         go variable h = absurd (false≢true h)
@@ -120,9 +120,9 @@ module _ (b : Bundle) (k : ℕ) where
         go letting h = absurd (false≢true h)
         go other h = absurd (false≢true h)
 
-    pub met-binder : (l r : ℕ) → MetAs b (kind_of k) l r → sorts_meet b (term_of b l).a (term_of b r).a ≡ true
+    pub met_binder : (l r : ℕ) → MetAs b (kind_of k) l r → sorts_meet b (term_of b l).a (term_of b r).a ≡ true
     unfolding MetAs binder_meets is_binder
-    met-binder l r m = go (kind_of k) e m
+    met_binder l r m = go (kind_of k) e m
       where
         go : (κ : Kind) → binds κ ≡ true → MetAs b κ l r → sorts_meet b (term_of b l).a (term_of b r).a ≡ true
         go variable h m = absurd (false≢true h)
@@ -132,9 +132,9 @@ module _ (b : Bundle) (k : ℕ) where
         go other h m = absurd (false≢true h)
 
   module _ (some : has_body (kind_of k) ≡ true) (e : is_binder k ≡ false) where
-    let-is : kind_of k ≡ letting
+    let_is : kind_of k ≡ letting
     unfolding is_binder
-    let-is = go (kind_of k) some e
+    let_is = go (kind_of k) some e
       where
         go : (κ : Kind) → has_body κ ≡ true → binds κ ≡ false → κ ≡ letting
         go variable h g = absurd (false≢true h)
@@ -143,19 +143,19 @@ module _ (b : Bundle) (k : ℕ) where
         go letting h g = refl
         go other h g = absurd (false≢true h)
 
-    pub body-let : (t : ℕ) → body_as b (kind_of k) t ≡ (term_of b t).c
+    pub body_let : (t : ℕ) → body_as b (kind_of k) t ≡ (term_of b t).c
     unfolding body_as
-    body-let t = ap (λ (κ : Kind). body_as b κ t) let-is
+    body_let t = ap (λ (κ : Kind). body_as b κ t) let_is
 
-    pub bound-let : (t : ℕ) → bound_as b (kind_of k) t ≡ items b (term_of b t).a
+    pub bound_let : (t : ℕ) → bound_as b (kind_of k) t ≡ items b (term_of b t).a
     unfolding bound_as
-    bound-let t = ap (λ (κ : Kind). bound_as b κ t) let-is
+    bound_let t = ap (λ (κ : Kind). bound_as b κ t) let_is
 
-    pub met-let : (l r : ℕ) → MetAs b (kind_of k) l r → all_sorts_meet b (items b (term_of b l).a) (items b (term_of b r).a) ≡ true
+    pub met_let : (l r : ℕ) → MetAs b (kind_of k) l r → all_sorts_meet b (items b (term_of b l).a) (items b (term_of b r).a) ≡ true
     unfolding MetAs let_meets
-    met-let l r m =
+    met_let l r m =
         let xs = items b (term_of b l).a in
         let ys = items b (term_of b r).a in
-        let n : let_meets b (term_of b l) r ≡ true = rw let-is at m in
+        let n : let_meets b (term_of b l) r ≡ true = rw let_is at m in
         and_right (eqb (term_of b r).kind 5) (all_sorts_meet b xs ys)
         (and_left (eqb (term_of b r).kind 5 && all_sorts_meet b xs ys) (eqb (length (items b (term_of b l).b)) (length xs)) n)

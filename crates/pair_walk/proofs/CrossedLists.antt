@@ -1,8 +1,8 @@
 -- Variables crossed on the way into bodies: one pair, and those of two lists, link by link.
 --     entered_one                  one pair
 --     Along                        what holds on the way along two lists
---     along_start, along-here, along-on, along-end     the first links, a pair of links, the next ones, the end
---     along-uneven                 the lists end together
+--     along_start, along_here, along_on, along_end     the first links, a pair of links, the next ones, the end
+--     along_uneven                 the lists end together
 use mathlib.Core.Path.{◌≡◌, refl, sym, ap, subst, ◌∙◌}
 use mathlib.Core.Bool.{true, false, false≢true}
 use mathlib.Core.List.{List, [], ◌∷◌}
@@ -71,11 +71,11 @@ module _ (f : List ℕ) (b : Counts) (n : ℕ) (p₀ s₀ w₀ : List ℕ) (h de
       }
 
   module _ {p s w : List ℕ} {i j height deep : ℕ} (along : Along f b n p₀ s₀ w₀ h depth first second p s w i j height deep) where
-    pub along-end : i ≡ 0 → (height ≡ h + length (items (bundle_at f b) first))
+    pub along_end : i ≡ 0 → (height ≡ h + length (items (bundle_at f b) first))
         × Crossing b.variables n w p s height (depth + length (items (bundle_at f b) first))
         × (frames w height ≡ leaves (items (bundle_at f b) first) (items (bundle_at f b) second) (crossed_by (frames w₀ h)) (frames w₀ h))
     unfolding leaves
-    along-end e =
+    along_end e =
         let none : items (bundle_at f b) i ≡ [] = walk_nil f b i e in
         let zero-length : length (items (bundle_at f b) i) ≡ 0 = ap length none in
         let deep' : deep ≡ depth + length (items (bundle_at f b) first) = omega (arith, along.deep_is) in (
@@ -85,46 +85,46 @@ module _ (f : List ℕ) (b : Counts) (n : ℕ) (p₀ s₀ w₀ : List ℕ) (h de
         )
 
     module _ (ni : i ≡ 0 → ⊥) where
-      here-left : items (bundle_at f b) i ≡ (link_of (bundle_at f b) i).value ∷ items (bundle_at f b) (next_of (bundle_at f b).links i)
-      here-left = walk_some f b i ni along.left_link
+      here_left : items (bundle_at f b) i ≡ (link_of (bundle_at f b) i).value ∷ items (bundle_at f b) (next_of (bundle_at f b).links i)
+      here_left = walk_some f b i ni along.left_link
 
-      pub along-uneven {ℓ} : {A : Type ℓ} → j ≡ 0 → A
+      pub along_uneven {ℓ} : {A : Type ℓ} → j ≡ 0 → A
       unfolding all_sorts_meet
-      along-uneven e = absurd (false≢true (rw (here-left, walk_nil f b j e) at along.sorts))
+      along_uneven e = absurd (false≢true (rw (here_left, walk_nil f b j e) at along.sorts))
 
       module _ (nj : j ≡ 0 → ⊥) {x y : ℕ} (dx : x ≡ (link_of (bundle_at f b) i).value) (dy : y ≡ (link_of (bundle_at f b) j).value) where
-        left-cons : items (bundle_at f b) i ≡ x ∷ items (bundle_at f b) (next_of (bundle_at f b).links i)
-        left-cons = walk_cons f b i x (next_of (bundle_at f b).links i) ni along.left_link dx refl
+        left_cons : items (bundle_at f b) i ≡ x ∷ items (bundle_at f b) (next_of (bundle_at f b).links i)
+        left_cons = walk_cons f b i x (next_of (bundle_at f b).links i) ni along.left_link dx refl
 
-        right-cons : items (bundle_at f b) j ≡ y ∷ items (bundle_at f b) (next_of (bundle_at f b).links j)
-        right-cons = walk_cons f b j y (next_of (bundle_at f b).links j) nj along.right_link dy refl
+        right_cons : items (bundle_at f b) j ≡ y ∷ items (bundle_at f b) (next_of (bundle_at f b).links j)
+        right_cons = walk_cons f b j y (next_of (bundle_at f b).links j) nj along.right_link dy refl
 
-        both-sorts : all_sorts_meet (bundle_at f b) (x ∷ items (bundle_at f b) (next_of (bundle_at f b).links i))
+        both_sorts : all_sorts_meet (bundle_at f b) (x ∷ items (bundle_at f b) (next_of (bundle_at f b).links i))
             (y ∷ items (bundle_at f b) (next_of (bundle_at f b).links j))
             ≡ true
-        both-sorts = rw (left-cons, right-cons) at along.sorts
+        both_sorts = rw (left_cons, right_cons) at along.sorts
 
-        pub along-here : (Number b.variables x × Number b.variables y)
+        pub along_here : (Number b.variables x × Number b.variables y)
             × (height < h + length (items (bundle_at f b) first)) × (deep < depth + length (items (bundle_at f b) first))
         unfolding all_sorts_meet
-        along-here =
-            let more : length (items (bundle_at f b) i) ≡ suc (length (items (bundle_at f b) (next_of (bundle_at f b).links i))) = ap length left-cons in (
+        along_here =
+            let more : length (items (bundle_at f b) i) ≡ suc (length (items (bundle_at f b) (next_of (bundle_at f b).links i))) = ap length left_cons in (
               sorts_known (sized_at f b) x y
                   (and_left (sorts_meet (bundle_at f b) x y)
                   (all_sorts_meet (bundle_at f b) (items (bundle_at f b) (next_of (bundle_at f b).links i)) (items (bundle_at f b) (next_of (bundle_at f b).links j)))
-                  both-sorts),
+                  both_sorts),
               omega (arith, along.high),
               omega (arith, along.deep_is),
             )
 
-        pub along-on : {i' j' : ℕ} {p' s' w' : List ℕ} → i' ≡ next_of (bundle_at f b).links i → j' ≡ next_of (bundle_at f b).links j
+        pub along_on : {i' j' : ℕ} {p' s' w' : List ℕ} → i' ≡ next_of (bundle_at f b).links i → j' ≡ next_of (bundle_at f b).links j
             → length p' ≡ length p → length s' ≡ length s → length w' ≡ length w
             → Crossing b.variables n w' p' s' (suc height) (suc deep)
             → frames w' (suc height)
             ≡ leave x y (stamp (lefts (crossed_by (frames w height))) x) (stamp (rights (crossed_by (frames w height))) y) ∷ frames w height
             → Along f b n p₀ s₀ w₀ h depth first second p' s' w' i' j' (height + 1) (deep + 1)
         unfolding leaves all_sorts_meet crossed_by
-        along-on {i'} {j'} {p'} {s'} {w'} di dj lp ls lw crossing e =
+        along_on {i'} {j'} {p'} {s'} {w'} di dj lp ls lw crossing e =
             let u : items (bundle_at f b) i ≡ x ∷ items (bundle_at f b) i' = walk_cons f b i x i' ni along.left_link dx di in
             let v : items (bundle_at f b) j ≡ y ∷ items (bundle_at f b) j' = walk_cons f b j y j' nj along.right_link dy dj in
             let more : length (items (bundle_at f b) i) ≡ suc (length (items (bundle_at f b) i')) = ap length u in

@@ -2,9 +2,9 @@
 --     go_on_on                       a walk, a second and a third
 --     within_spent, under_spent      with no pair left a walk is spent
 --     differs_here                   a pair that does not meet
---     opened-is, opened-on           a pair that meets, and what is left of it
---     lists-on, lists_short          the lists of a pair go on, or one is shorter
---     closed_is, closed-off, bodies-are     both lists have ended: nothing more, or the bodies
+--     opened_is, opened_on           a pair that meets, and what is left of it
+--     lists_on, lists_short          the lists of a pair go on, or one is shorter
+--     closed_is, closed_off, bodies_are     both lists have ended: nothing more, or the bodies
 --     leaves_crossed, leaves_finish  variables crossed
 --     finish_none                    nothing is left
 use mathlib.Core.Path.{◌≡◌, refl, sym, ap, ◌∙◌, fun_ext}
@@ -100,34 +100,34 @@ module _ (free : ℕ → ℕ → Bool) (image : ℕ → Image) (b : Bundle) wher
         (under free image b l (term_of b l).c (let_crossed b (term_of b l) r (crossed_by fs)) (term_of b r).c) (finish free image b fs))
     opened_as_lem other l r fs n d e = absurd (false≢true e)
 
-    pub opened-is : (l r : ℕ) (fs : List Frame) (n : ℕ) → meets_by free image b (term_of b l) (crossed_by fs) r ≡ true
+    pub opened_is : (l r : ℕ) (fs : List Frame) (n : ℕ) → meets_by free image b (term_of b l) (crossed_by fs) r ≡ true
         → go_on (within_by free image b l (crossed_by fs) r (suc n)) (finish free image b fs)
         ≡ finish free image b (opened_as c b (kind_of (term_of b l).kind) l r fs) n
     unfolding within_of meets_by
-    opened-is l r fs n e =
+    opened_is l r fs n e =
         ap (λ (f : Crossed → ℕ → ℕ → Limited). go_on (f (crossed_by fs) r (suc n)) (finish free image b fs)) (within_below free image b l)
         ∙ opened_as_lem (kind_of (term_of b l).kind) l r fs n refl e
 
     -- ---- the lists of a pair
 
-    pub lists-on : (l r i j n : ℕ) (fs : List Frame) → (i ≡ 0 → ⊥) → i ≤ c.links → (j ≡ 0 → ⊥) → j ≤ c.links
+    pub lists_on : (l r i j n : ℕ) (fs : List Frame) → (i ≡ 0 → ⊥) → i ≤ c.links → (j ≡ 0 → ⊥) → j ≤ c.links
         → finish free image b (pending l r i j ∷ fs) n
         ≡ go_on (under free image b l (link_of b i).value (crossed_by fs) (link_of b j).value n)
         (finish free image b (pending l r (next_of b.links i) (next_of b.links j) ∷ fs))
     unfolding finish lists_within
-    lists-on l r i j n fs ni hi nj hj =
+    lists_on l r i j n fs ni hi nj hj =
         rw (walk_some z i ni hi, walk_some z j nj hj)
         (go_on_on (under free image b l (link_of b i).value (crossed_by fs) (link_of b j).value n)
         (lists_within (under free image b l) (crossed_by fs) (items b (next_of b.links i)) (items b (next_of b.links j)))
         (closing free image b (kind_of (term_of b l).kind) l r (crossed_by fs) (finish free image b fs)))
 
-    pub left-short : (l r i j n : ℕ) (fs : List Frame) → i ≡ 0 → (j ≡ 0 → ⊥) → j ≤ c.links → finish free image b (pending l r i j ∷ fs) n ≡ Different n
+    pub left_short : (l r i j n : ℕ) (fs : List Frame) → i ≡ 0 → (j ≡ 0 → ⊥) → j ≤ c.links → finish free image b (pending l r i j ∷ fs) n ≡ Different n
     unfolding finish lists_within go_on
-    left-short l r i j n fs ei nj hj = rw (walk_nil z i ei, walk_some z j nj hj)
+    left_short l r i j n fs ei nj hj = rw (walk_nil z i ei, walk_some z j nj hj)
 
-    pub right-short : (l r i j n : ℕ) (fs : List Frame) → (i ≡ 0 → ⊥) → i ≤ c.links → j ≡ 0 → finish free image b (pending l r i j ∷ fs) n ≡ Different n
+    pub right_short : (l r i j n : ℕ) (fs : List Frame) → (i ≡ 0 → ⊥) → i ≤ c.links → j ≡ 0 → finish free image b (pending l r i j ∷ fs) n ≡ Different n
     unfolding finish lists_within go_on
-    right-short l r i j n fs ni hi ej = rw (walk_some z i ni hi, walk_nil z j ej)
+    right_short l r i j n fs ni hi ej = rw (walk_some z i ni hi, walk_nil z j ej)
 
     pub closed_is : (l r i j n : ℕ) (fs : List Frame) → i ≡ 0 → j ≡ 0 → has_body (kind_of (term_of b l).kind) ≡ false
         → finish free image b (pending l r i j ∷ fs) n ≡ finish free image b fs n
@@ -135,10 +135,10 @@ module _ (free : ℕ → ℕ → Bool) (image : ℕ → Image) (b : Bundle) wher
     closed_is l r i j n fs ei ej e = rw (walk_nil z i ei, walk_nil z j ej, e)
 
     -- an application of which nothing is left
-    pub closed-off : (l r u v : ℕ) (fs : List Frame) → closes (term_of b l).kind u v ≡ true
+    pub closed_off : (l r u v : ℕ) (fs : List Frame) → closes (term_of b l).kind u v ≡ true
         → finish free image b (pending l r u v ∷ fs) ≡ finish free image b fs
     unfolding kind_of
-    closed-off l r u v fs e =
+    closed_off l r u v fs e =
         let k : ℕ = (term_of b l).kind in
         let both = and_left (eqb k 2 && eqb u 0) (eqb v 0) e in
         let two : k ≡ 2 = eqb-true k 2 (and_left (eqb k 2) (eqb u 0) both) in
@@ -146,38 +146,38 @@ module _ (free : ℕ → ℕ → Bool) (image : ℕ → Image) (b : Bundle) wher
         fun_ext (λ m. closed_is l r u v m fs (eqb-true u 0 (and_right (eqb k 2) (eqb u 0) both)) (eqb-true v 0 (and_right (eqb k 2 && eqb u 0) (eqb v 0) e))
         none)
 
-    opened-off : (l r : ℕ) (fs : List Frame) → closes (term_of b l).kind (starts_at c.links (term_of b l).b) (starts_at c.links (term_of b r).b) ≡ true
+    opened_off : (l r : ℕ) (fs : List Frame) → closes (term_of b l).kind (starts_at c.links (term_of b l).b) (starts_at c.links (term_of b r).b) ≡ true
         → finish free image b (opened_as c b (kind_of (term_of b l).kind) l r fs) ≡ finish free image b fs
     unfolding kind_of opened_as
-    opened-off l r fs e =
+    opened_off l r fs e =
         let k : ℕ = (term_of b l).kind in
         let u : ℕ = starts_at c.links (term_of b l).b in
         let v : ℕ = starts_at c.links (term_of b r).b in
         let two : k ≡ 2 = eqb-true k 2 (and_left (eqb k 2) (eqb u 0) (and_left (eqb k 2 && eqb u 0) (eqb v 0) e)) in
         let is : opened_as c b (kind_of k) l r fs ≡ pending l r u v ∷ fs = ap (λ (m : ℕ). opened_as c b (kind_of m) l r fs) two in
-        ap (finish free image b) is ∙ closed-off l r u v fs e
+        ap (finish free image b) is ∙ closed_off l r u v fs e
 
     -- a pair that meets, and what is put onto the agenda for it
-    pub opened-on : (l r : ℕ) (fs : List Frame) (n : ℕ) → meets_by free image b (term_of b l) (crossed_by fs) r ≡ true
+    pub opened_on : (l r : ℕ) (fs : List Frame) (n : ℕ) → meets_by free image b (term_of b l) (crossed_by fs) r ≡ true
         → go_on (within_by free image b l (crossed_by fs) r (suc n)) (finish free image b fs) ≡ finish free image b (opened c b l r fs) n
     unfolding opened
-    opened-on l r fs n e =
+    opened_on l r fs n e =
         go (closes (term_of b l).kind (starts_at c.links (term_of b l).b) (starts_at c.links (term_of b r).b)) refl
       where
         go : (p : Bool) → closes (term_of b l).kind (starts_at c.links (term_of b l).b) (starts_at c.links (term_of b r).b) ≡ p
             → go_on (within_by free image b l (crossed_by fs) r (suc n)) (finish free image b fs)
             ≡ finish free image b (cond p fs (opened_as c b (kind_of (term_of b l).kind) l r fs)) n
-        go true d = opened-is l r fs n e ∙ ap (λ (g : ℕ → Limited). g n) (opened-off l r fs d)
-        go false d = opened-is l r fs n e
+        go true d = opened_is l r fs n e ∙ ap (λ (g : ℕ → Limited). g n) (opened_off l r fs d)
+        go false d = opened_is l r fs n e
 
-    pub bodies-are : (l r i j n : ℕ) (fs : List Frame) → i ≡ 0 → j ≡ 0 → has_body (kind_of (term_of b l).kind) ≡ true
+    pub bodies_are : (l r i j n : ℕ) (fs : List Frame) → i ≡ 0 → j ≡ 0 → has_body (kind_of (term_of b l).kind) ≡ true
         → finish free image b (pending l r i j ∷ fs) n
         ≡ go_on (under free image b l (body_as b (kind_of (term_of b l).kind) l)
         (cross_all (bound_as b (kind_of (term_of b l).kind) l) (bound_as b (kind_of (term_of b l).kind) r) (crossed_by fs)) (body_as b (kind_of (term_of b l).kind)
         r) n)
         (finish free image b fs)
     unfolding finish lists_within go_on closing
-    bodies-are l r i j n fs ei ej e = rw (walk_nil z i ei, walk_nil z j ej, e)
+    bodies_are l r i j n fs ei ej e = rw (walk_nil z i ei, walk_nil z j ej, e)
 
   -- ---- variables crossed
 

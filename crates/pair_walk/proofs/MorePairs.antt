@@ -1,6 +1,6 @@
 -- A walk with more pairs left.
---     more_same, more-different     a walk that ended within n pairs ends the same with k more, and k more are left
---     same-few, different-few       no more pairs are left than there were
+--     more_same, more_different     a walk that ended within n pairs ends the same with k more, and k more are left
+--     same_few, different_few       no more pairs are left than there were
 use mathlib.Core.Path.{◌≡◌, sym, ap, ◌∙◌}
 use mathlib.Core.Bool.{Bool, true, false}
 use Prim.Native.Nat.{ℕ, ◌+◌, ◌-◌, ◌≤◌}
@@ -43,15 +43,15 @@ module _ (free : ℕ → ℕ → Bool) (image : ℕ → Image) (b : Bundle) (l :
   limited k = pair_walk_limited free image b l ps r k
 
   module _ (e : Same m ≡ within_by free image b l ps r n) where
-    pub same-few : m ≤ n
-    same-few = omega (arith, (same_left n m walked (sym (limited n) ∙ sym e)).2)
+    pub same_few : m ≤ n
+    same_few = omega (arith, (same_left n m walked (sym (limited n) ∙ sym e)).2)
 
     pub more_same : (k : ℕ) → Same (m + k) ≡ within_by free image b l ps r (n + k)
     more_same k = sym (limited (n + k) ∙ limit_more_same n m k walked (sym (limited n) ∙ sym e))
 
   module _ (e : Different m ≡ within_by free image b l ps r n) where
-    pub different-few : m ≤ n
-    different-few = omega (arith, (different_left n m walked (sym (limited n) ∙ sym e)).2)
+    pub different_few : m ≤ n
+    different_few = omega (arith, (different_left n m walked (sym (limited n) ∙ sym e)).2)
 
-    pub more-different : (k : ℕ) → Different (m + k) ≡ within_by free image b l ps r (n + k)
-    more-different k = sym (limited (n + k) ∙ limit_more_different n m k walked (sym (limited n) ∙ sym e))
+    pub more_different : (k : ℕ) → Different (m + k) ≡ within_by free image b l ps r (n + k)
+    more_different k = sym (limited (n + k) ∙ limit_more_different n m k walked (sym (limited n) ∙ sym e))

@@ -4,7 +4,7 @@
 --     met_known                  terms that meet, and are no variables, are terms of the file
 --     sorts_known, all_known_lem, bound_known     the variables of terms that meet are variables of the file
 --     opened_sound, leaves_sound     a pair that has met, and variables crossed
---     held-opened, held-left, held-closed, held-taken, held-bodies, held_same     the same of the arrays
+--     held_opened, held_left, held_closed, held_taken, held_bodies, held_same     the same of the arrays
 --     turn_held                  what the next pair is to a walk
 use mathlib.Core.Path.{◌≡◌, refl, sym, ap, ◌∙◌}
 use mathlib.Core.Bool.{Bool, true, false, cond, ◌&&◌, false≢true}
@@ -212,10 +212,10 @@ module _ {b : Bundle} {c : Counts} (z : Sized b c) where
   -- ---- the arrays
 
   module _ (free : ℕ → ℕ → Bool) (image : ℕ → Image) (n most : ℕ) (w p s : List ℕ) (h depth left : ℕ) (held : Held c b n most w p s h depth left) where
-    pub held-opened : (w' : List ℕ) (t l r : ℕ) → length w' ≡ length w
+    pub held_opened : (w' : List ℕ) (t l r : ℕ) → length w' ≡ length w
         → frames w' t ≡ opened_as c b (kind_of (term_of b l).kind) l r (frames w h)
         → meets_by free image b (term_of b l) (crossed_by (frames w h)) r ≡ true → h + left < most → Held c b n most w' p s t depth left
-    held-opened w' t l r len e m room =
+    held_opened w' t l r len e m room =
         let same : crossed_by (frames w' t) ≡ crossed_by (frames w h) = ap crossed_by e ∙ opened_crossed c b (kind_of (term_of b l).kind) l r (frames w h) in
         record {
           long = omega (arith, held.long, len);
@@ -224,47 +224,47 @@ module _ {b : Bundle} {c : Counts} (z : Sized b c) where
         }
 
   module _ (n most : ℕ) (w p s : List ℕ) (top depth left : ℕ) (held : Held c b n most w p s (suc top) depth left) where
-    pub left-held : (x y o q : ℕ) → frames w (suc top) ≡ leave x y o q ∷ frames w top
+    pub left_held : (x y o q : ℕ) → frames w (suc top) ≡ leave x y o q ∷ frames w top
         → LeaveHeld c.variables x y o q (crossed_by (frames w top)) × Sound c b most left (frames w top)
     unfolding Sound
-    left-held x y o q e = rw e at held.sound
+    left_held x y o q e = rw e at held.sound
 
-    pub left-placed : (x y o q : ℕ) → frames w (suc top) ≡ leave x y o q ∷ frames w top
+    pub left_placed : (x y o q : ℕ) → frames w (suc top) ≡ leave x y o q ∷ frames w top
         → Places c.variables n p s ((x, y) ∷ crossed_by (frames w top)) × (depth ≡ suc (length (crossed_by (frames w top))))
     unfolding crossed_by
-    left-placed x y o q e = (rw e at held.crossing.placed, rw e at held.crossing.deep)
+    left_placed x y o q e = (rw e at held.crossing.placed, rw e at held.crossing.deep)
 
-    pub held-left : (p' s' : List ℕ) (x y o q : ℕ) → frames w (suc top) ≡ leave x y o q ∷ frames w top
+    pub held_left : (p' s' : List ℕ) (x y o q : ℕ) → frames w (suc top) ≡ leave x y o q ∷ frames w top
         → Places c.variables n p' s' (crossed_by (frames w top)) → Held c b n most w p' s' top (depth - 1) left
-    held-left p' s' x y o q e placed =
+    held_left p' s' x y o q e placed =
         record {
           long = held.long;
-          crossing = record { placed = placed; deep = omega (arith, (left-placed x y o q e).1) };
-          sound = (left-held x y o q e).1;
+          crossing = record { placed = placed; deep = omega (arith, (left_placed x y o q e).1) };
+          sound = (left_held x y o q e).1;
         }
 
     module _ (l r i j : ℕ) (e : frames w (suc top) ≡ pending l r i j ∷ frames w top) where
-      pub pending-held : PendingHeld c b most left l r i j (frames w top) × Sound c b most left (frames w top)
+      pub pending_held : PendingHeld c b most left l r i j (frames w top) × Sound c b most left (frames w top)
       unfolding Sound
-      pending-held = rw e at held.sound
+      pending_held = rw e at held.sound
 
-      pub pending-crossing : Crossing c.variables n w p s top depth
+      pub pending_crossing : Crossing c.variables n w p s top depth
       unfolding crossed_by
-      pending-crossing = record { placed = rw e at held.crossing.placed; deep = rw e at held.crossing.deep }
+      pending_crossing = record { placed = rw e at held.crossing.placed; deep = rw e at held.crossing.deep }
 
-      pub held-closed : Held c b n most w p s top depth left
-      held-closed = record { long = held.long; crossing = pending-crossing; sound = pending-held.1 }
+      pub held_closed : Held c b n most w p s top depth left
+      held_closed = record { long = held.long; crossing = pending_crossing; sound = pending_held.1 }
 
-      pub held-taken : (w' : List ℕ) (m : ℕ) → (i ≡ 0 → ⊥) → length w' ≡ length w
+      pub held_taken : (w' : List ℕ) (m : ℕ) → (i ≡ 0 → ⊥) → length w' ≡ length w
           → frames w' (suc top) ≡ pending l r (next_of b.links i) (next_of b.links j) ∷ frames w top
           → left ≡ suc m → Held c b n most w' p s (suc top) depth m
       unfolding crossed_by Sound
-      held-taken w' m ni len e' more =
-          let was = pending-held.0 in
+      held_taken w' m ni len e' more =
+          let was = pending_held.0 in
           let fewer : length (items b i) ≡ length (items b (next_of b.links i)) + 1 = walk_length z i (next_of b.links i) ni was.left_link refl in
           record {
             long = omega (arith, held.long, len);
-            crossing = record { placed = rw e' pending-crossing.placed; deep = rw e' pending-crossing.deep };
+            crossing = record { placed = rw e' pending_crossing.placed; deep = rw e' pending_crossing.deep };
             sound = rw e' (
               record {
                 met = was.met;
@@ -273,27 +273,27 @@ module _ {b : Bundle} {c : Counts} (z : Sized b c) where
                 right_link = walk_le z j (next_of b.links j) refl;
                 room = omega (arith, was.room);
               },
-              sound_less most left m (frames w top) (omega arith) pending-held.1,
+              sound_less most left m (frames w top) (omega arith) pending_held.1,
             );
           }
 
       -- there is room for the variables once both lists have ended
-      pub bodies-room : i ≡ 0 → top + length (bound_as b (kind_of (term_of b l).kind) l) + left ≤ most
-      bodies-room z' = let none : length (items b i) ≡ 0 = ap length (walk_nil z i z') in omega (arith, pending-held.0.room, frames_length w top)
+      pub bodies_room : i ≡ 0 → top + length (bound_as b (kind_of (term_of b l).kind) l) + left ≤ most
+      bodies_room z' = let none : length (items b i) ≡ 0 = ap length (walk_nil z i z') in omega (arith, pending_held.0.room, frames_length w top)
 
-      pub held-bodies : (w' p' s' : List ℕ) (height deep m : ℕ) → length w' ≡ length w → Crossing c.variables n w' p' s' height deep
+      pub held_bodies : (w' p' s' : List ℕ) (height deep m : ℕ) → length w' ≡ length w → Crossing c.variables n w' p' s' height deep
           → frames w' height ≡ leaves (bound_as b (kind_of (term_of b l).kind) l) (bound_as b (kind_of (term_of b l).kind) r) (crossed_by (frames w top)) (frames
           w top)
           → left ≡ suc m → Held c b n most w' p' s' height deep m
-      held-bodies w' p' s' height deep m len crossing e' more =
-          let known = bound_known (kind_of (term_of b l).kind) l r pending-held.0.met in
+      held_bodies w' p' s' height deep m len crossing e' more =
+          let known = bound_known (kind_of (term_of b l).kind) l r pending_held.0.met in
           record {
             long = omega (arith, held.long, len);
             crossing = crossing;
             sound = rw e'
                 (leaves_sound most m (bound_as b (kind_of (term_of b l).kind) l) (bound_as b (kind_of (term_of b l).kind) r) (crossed_by (frames w top)) (frames w
                 top) refl
-                known.0 known.1 (sound_less most left m (frames w top) (omega arith) pending-held.1));
+                known.0 known.1 (sound_less most left m (frames w top) (omega arith) pending_held.1));
           }
 
   -- the same frames in another agenda, with fewer pairs left

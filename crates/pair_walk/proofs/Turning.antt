@@ -1,9 +1,9 @@
 -- A turn on the frame on top of the agenda, of the words that are read of it.
 --     one_none, both_none, both_zero      the code's tests of two links
---     leave-known, leave_fits, leave-before, leave-after, leave-on     variables are left
---     pending-known, take-turn, short-turn     the lists of a pair go on, or one is shorter
+--     leave_known, leave_fits, leave_before, leave_after, leave_on     variables are left
+--     pending_known, take_turn, short_turn     the lists of a pair go on, or one is shorter
 --     closed_after, closed_on             both have ended, and there are no bodies
---     bodies-known, bodies-turn           both have ended, and the bodies are next
+--     bodies_known, bodies_turn           both have ended, and the bodies are next
 use mathlib.Core.Path.{◌≡◌, refl, sym, ap, subst, ◌∙◌}
 use mathlib.Core.Bool.{Bool, true, false, not, ◌&&◌, ◌||◌, cond, false≢true}
 use mathlib.Core.Logic.{◌⊎◌, inl, inr}
@@ -29,9 +29,9 @@ use Rattle.pair_walk.specs.Agenda.{Frame, pending, leave, frame_of, frames, cros
 use Rattle.pair_walk.specs.Agenda.{PendingHeld, LeaveHeld}
 use Rattle.pair_walk.specs.Agenda.{Crossing, Held, closes, turn_to, TurnHeld}
 use Rattle.pair_walk.proofs.FrameWords.{frame_pending, frame_leave, frames_length, frames_top, crossed_few, place_fits, other_fits}
-use Rattle.pair_walk.proofs.Finishing.{lists-on, left-short, right-short, closed_is, closed-off, bodies-are, leaves_crossed, leaves_finish}
-use Rattle.pair_walk.proofs.Soundness.{left-held, left-placed, held-left, pending-held, pending-crossing, held-closed, held-taken, bodies-room}
-use Rattle.pair_walk.proofs.Soundness.{held-bodies, held_same, turn_held}
+use Rattle.pair_walk.proofs.Finishing.{lists_on, left_short, right_short, closed_is, closed_off, bodies_are, leaves_crossed, leaves_finish}
+use Rattle.pair_walk.proofs.Soundness.{left_held, left_placed, held_left, pending_held, pending_crossing, held_closed, held_taken, bodies_room}
+use Rattle.pair_walk.proofs.Soundness.{held_bodies, held_same, turn_held}
 
 -- ---- tests of two links
 
@@ -66,55 +66,55 @@ module _ (f : List ℕ) (b : Counts) (n most : ℕ) (w p s : List ℕ) (height d
   -- ---- variables are left
 
   module _ (none : l ≡ 0) {o : ℕ} (dq : o ≡ get_or w (5 * (height - 1) + 4) 0) where
-    leave-top : frames w (suc (height - 1)) ≡ leave r i j o ∷ frames w (height - 1)
-    leave-top =
+    leave_top : frames w (suc (height - 1)) ≡ leave r i j o ∷ frames w (height - 1)
+    leave_top =
         frames_top w (height - 1)
         ∙ ap (λ (t : Frame). t ∷ frames w (height - 1)) (rw (← dl, ← dr, ← di, ← dj, ← dq) (frame_leave l r i j o none))
 
-    pub leave-known : LeaveHeld b.variables r i j o (crossed_by (frames w (height - 1)))
-    leave-known = (left-held (sized_at f b) n most w p s (height - 1) deep left here r i j o leave-top).0
+    pub leave_known : LeaveHeld b.variables r i j o (crossed_by (frames w (height - 1)))
+    leave_known = (left_held (sized_at f b) n most w p s (height - 1) deep left here r i j o leave_top).0
 
-    pub leave-before : Places b.variables n p s ((r, i) ∷ crossed_by (frames w (height - 1))) × (1 ≤ deep)
-    leave-before =
-        let was = left-placed (sized_at f b) n most w p s (height - 1) deep left here r i j o leave-top in
+    pub leave_before : Places b.variables n p s ((r, i) ∷ crossed_by (frames w (height - 1))) × (1 ≤ deep)
+    leave_before =
+        let was = left_placed (sized_at f b) n most w p s (height - 1) deep left here r i j o leave_top in
         (was.0, omega (arith, was.1))
 
     pub leave_fits : (j ≤ height) × (o ≤ height)
     leave_fits =
         let few = crossed_few (frames w (height - 1)) in
         let ps = crossed_by (frames w (height - 1)) in (
-          omega (arith, few, frames_length w (height - 1), place_fits ps r leave-known.left_place refl),
-          omega (arith, few, frames_length w (height - 1), other_fits ps i leave-known.right_place refl),
+          omega (arith, few, frames_length w (height - 1), place_fits ps r leave_known.left_place refl),
+          omega (arith, few, frames_length w (height - 1), other_fits ps i leave_known.right_place refl),
         )
 
-    pub leave-after : (p' s' : List ℕ) → Places b.variables n p' s' (crossed_by (frames w (height - 1)))
+    pub leave_after : (p' s' : List ℕ) → Places b.variables n p' s' (crossed_by (frames w (height - 1)))
         → Held b (bundle_at f b) n most w p' s' (height - 1) (deep - 1) left
-    leave-after p' s' placed = held-left (sized_at f b) n most w p s (height - 1) deep left here p' s' r i j o leave-top placed
+    leave_after p' s' placed = held_left (sized_at f b) n most w p s (height - 1) deep left here p' s' r i j o leave_top placed
 
-    pub leave-on : (free : ℕ → ℕ → Bool) (image : ℕ → Image)
+    pub leave_on : (free : ℕ → ℕ → Bool) (image : ℕ → Image)
         → finish free image (bundle_at f b) (frames w (height - 1)) left ≡ finish free image (bundle_at f b) (frames w height) left
     unfolding finish
-    leave-on free image = sym (ap (λ (t : ℕ). finish free image (bundle_at f b) (frames w t) left) up ∙ ap (λ (fs : List Frame). finish free image (bundle_at f
-        b) fs left) leave-top)
+    leave_on free image = sym (ap (λ (t : ℕ). finish free image (bundle_at f b) (frames w t) left) up ∙ ap (λ (fs : List Frame). finish free image (bundle_at f
+        b) fs left) leave_top)
 
   -- ---- the lists of a pair
 
   module _ (one : l ≡ 0 → ⊥) where
-    pending-top : frames w (suc (height - 1)) ≡ pending l r i j ∷ frames w (height - 1)
-    pending-top =
+    pending_top : frames w (suc (height - 1)) ≡ pending l r i j ∷ frames w (height - 1)
+    pending_top =
         let positive : 1 ≤ l = omega arith in
         frames_top w (height - 1)
         ∙ ap (λ (t : Frame). t ∷ frames w (height - 1)) (rw (← dl, ← dr, ← di, ← dj) (frame_pending l r i j (get_or w (5 * (height - 1) + 4) 0) positive))
 
-    pub pending-known : PendingHeld b (bundle_at f b) most left l r i j (frames w (height - 1))
-    pending-known = (pending-held (sized_at f b) n most w p s (height - 1) deep left here l r i j pending-top).0
+    pub pending_known : PendingHeld b (bundle_at f b) most left l r i j (frames w (height - 1))
+    pending_known = (pending_held (sized_at f b) n most w p s (height - 1) deep left here l r i j pending_top).0
 
     whole_is : (free : ℕ → ℕ → Bool) (image : ℕ → Image)
         → finish free image (bundle_at f b) (frames w height) left ≡ finish free image (bundle_at f b) (pending l r i j ∷ frames w (height - 1)) left
     whole_is free image =
-        ap (λ (t : ℕ). finish free image (bundle_at f b) (frames w t) left) up ∙ ap (λ (fs : List Frame). finish free image (bundle_at f b) fs left) pending-top
+        ap (λ (t : ℕ). finish free image (bundle_at f b) (frames w t) left) up ∙ ap (λ (fs : List Frame). finish free image (bundle_at f b) fs left) pending_top
 
-    pub take-turn : (w' : List ℕ) (t : Turn) → (i ≡ 0 → ⊥) × (j ≡ 0 → ⊥) → length w' ≡ length w
+    pub take_turn : (w' : List ℕ) (t : Turn) → (i ≡ 0 → ⊥) × (j ≡ 0 → ⊥) → length w' ≡ length w
         → t ≡ turn_to l (link_of (bundle_at f b) i).value (link_of (bundle_at f b) j).value
         (cond (closes (term_of (bundle_at f b) l).kind (next_of (bundle_at f b).links i) (next_of (bundle_at f b).links j)) (height - 1) (suc (height - 1)))
         deep left
@@ -128,7 +128,7 @@ module _ (f : List ℕ) (b : Counts) (n most : ℕ) (w p s : List ℕ) (height d
         → (free : ℕ → ℕ → Bool) (image : ℕ → Image)
         → TurnHeld free image b (bundle_at f b) n most (finish free image (bundle_at f b) (frames w height) left) w' p s left t
     unfolding crossed_by
-    take-turn w' t (ni, nj) len dt e room free image =
+    take_turn w' t (ni, nj) len dt e room free image =
         go (closes (term_of (bundle_at f b) l).kind (next_of (bundle_at f b).links i) (next_of (bundle_at f b).links j)) refl dt e
       where
         on : finish free image (bundle_at f b) (frames w height) left
@@ -137,8 +137,8 @@ module _ (f : List ℕ) (b : Counts) (n most : ℕ) (w p s : List ℕ) (height d
             (finish free image (bundle_at f b) (pending l r (next_of (bundle_at f b).links i) (next_of (bundle_at f b).links j) ∷ frames w (height - 1)))
         on =
             whole_is free image
-            ∙ lists-on free image (bundle_at f b) (sized_at f b) l r i j left (frames w (height - 1)) ni pending-known.left_link nj
-            pending-known.right_link
+            ∙ lists_on free image (bundle_at f b) (sized_at f b) l r i j left (frames w (height - 1)) ni pending_known.left_link nj
+            pending_known.right_link
 
         go : (o : Bool) → closes (term_of (bundle_at f b) l).kind (next_of (bundle_at f b).links i) (next_of (bundle_at f b).links j) ≡ o
             → t ≡ turn_to l (link_of (bundle_at f b) i).value (link_of (bundle_at f b) j).value (cond o (height - 1) (suc (height - 1))) deep left
@@ -149,13 +149,13 @@ module _ (f : List ℕ) (b : Counts) (n most : ℕ) (w p s : List ℕ) (height d
             ∷ frames w (height - 1))
             → TurnHeld free image b (bundle_at f b) n most (finish free image (bundle_at f b) (frames w height) left) w' p s left t
         go true closed dt e =
-            let off = closed-off free image (bundle_at f b) (sized_at f b) l r (next_of (bundle_at f b).links i) (next_of (bundle_at f b).links j) (frames w
+            let off = closed_off free image (bundle_at f b) (sized_at f b) l r (next_of (bundle_at f b).links i) (next_of (bundle_at f b).links j) (frames w
             (height - 1)) closed in
             rw dt
             (turn_held free image b (bundle_at f b) n most (finish free image (bundle_at f b) (frames w height) left) w' p s l (link_of (bundle_at f b) i).value
             (link_of (bundle_at f b) j).value (height - 1) deep left (rw (e, ← off) on)
             (λ m more. held_same (sized_at f b) n most w w' p s (height - 1) (height - 1) deep left m
-            (held-closed (sized_at f b) n most w p s (height - 1) deep left here l r i j pending-top) e len (omega arith)) (omega arith))
+            (held_closed (sized_at f b) n most w p s (height - 1) deep left here l r i j pending_top) e len (omega arith)) (omega arith))
         go false some_left dt e =
             let positive : 1 ≤ l = omega arith in
             let e' : frames w' (suc (height - 1)) ≡ pending l r (next_of (bundle_at f b).links i) (next_of (bundle_at f b).links j) ∷ frames w (height - 1) =
@@ -165,20 +165,20 @@ module _ (f : List ℕ) (b : Counts) (n most : ℕ) (w p s : List ℕ) (height d
             rw dt
             (turn_held free image b (bundle_at f b) n most (finish free image (bundle_at f b) (frames w height) left) w' p s l (link_of (bundle_at f b) i).value
             (link_of (bundle_at f b) j).value (suc (height - 1)) deep left (rw e' on)
-            (λ m more. held-taken (sized_at f b) n most w p s (height - 1) deep left here l r i j pending-top w' m ni len e' more) (omega arith))
+            (λ m more. held_taken (sized_at f b) n most w p s (height - 1) deep left here l r i j pending_top w' m ni len e' more) (omega arith))
 
-    pub short-turn : ((i ≡ 0) × (j ≡ 0 → ⊥)) ⊎ ((i ≡ 0 → ⊥) × (j ≡ 0)) → (free : ℕ → ℕ → Bool) (image : ℕ → Image)
+    pub short_turn : ((i ≡ 0) × (j ≡ 0 → ⊥)) ⊎ ((i ≡ 0 → ⊥) × (j ≡ 0)) → (free : ℕ → ℕ → Bool) (image : ℕ → Image)
         → finish free image (bundle_at f b) (frames w height) left ≡ Different left
-    short-turn (inl (z, nj)) free image =
-        whole_is free image ∙ left-short free image (bundle_at f b) (sized_at f b) l r i j left (frames w (height - 1)) z nj pending-known.right_link
-    short-turn (inr (ni, z)) free image =
-        whole_is free image ∙ right-short free image (bundle_at f b) (sized_at f b) l r i j left (frames w (height - 1)) ni pending-known.left_link z
+    short_turn (inl (z, nj)) free image =
+        whole_is free image ∙ left_short free image (bundle_at f b) (sized_at f b) l r i j left (frames w (height - 1)) z nj pending_known.right_link
+    short_turn (inr (ni, z)) free image =
+        whole_is free image ∙ right_short free image (bundle_at f b) (sized_at f b) l r i j left (frames w (height - 1)) ni pending_known.left_link z
 
     -- ---- both lists have ended
 
     module _ (ended : (i ≡ 0) × (j ≡ 0)) {k : ℕ} (dk : k ≡ (term_of (bundle_at f b) l).kind) where
       pub closed_after : Held b (bundle_at f b) n most w p s (height - 1) deep left
-      closed_after = held-closed (sized_at f b) n most w p s (height - 1) deep left here l r i j pending-top
+      closed_after = held_closed (sized_at f b) n most w p s (height - 1) deep left here l r i j pending_top
 
       pub closed_on : has_body (kind_of k) ≡ false → (free : ℕ → ℕ → Bool) (image : ℕ → Image)
           → finish free image (bundle_at f b) (frames w (height - 1)) left ≡ finish free image (bundle_at f b) (frames w height) left
@@ -186,15 +186,15 @@ module _ (f : List ℕ) (b : Counts) (n most : ℕ) (w p s : List ℕ) (height d
           sym (whole_is free image
           ∙ closed_is free image (bundle_at f b) (sized_at f b) l r i j left (frames w (height - 1)) ended.0 ended.1 (rw dk at e))
 
-      pub bodies-known : Crossing b.variables n w p s (height - 1) deep × MetAs (bundle_at f b) (kind_of k) l r
+      pub bodies_known : Crossing b.variables n w p s (height - 1) deep × MetAs (bundle_at f b) (kind_of k) l r
           × (height - 1 + length (bound_as (bundle_at f b) (kind_of k) l) + left ≤ most)
-      bodies-known = (
-        pending-crossing (sized_at f b) n most w p s (height - 1) deep left here l r i j pending-top,
-        rw dk pending-known.met,
-        rw dk (bodies-room (sized_at f b) n most w p s (height - 1) deep left here l r i j pending-top ended.0),
+      bodies_known = (
+        pending_crossing (sized_at f b) n most w p s (height - 1) deep left here l r i j pending_top,
+        rw dk pending_known.met,
+        rw dk (bodies_room (sized_at f b) n most w p s (height - 1) deep left here l r i j pending_top ended.0),
       )
 
-      pub bodies-turn : (w' p' s' : List ℕ) (t : Turn) → has_body (kind_of k) ≡ true → length w' ≡ length w
+      pub bodies_turn : (w' p' s' : List ℕ) (t : Turn) → has_body (kind_of k) ≡ true → length w' ≡ length w
           → t ≡ turn_to l (body_as (bundle_at f b) (kind_of k) l) (body_as (bundle_at f b) (kind_of k) r) (height - 1 + length (bound_as (bundle_at f b) (kind_of k) l))
           (deep + length (bound_as (bundle_at f b) (kind_of k) l)) left
           → Crossing b.variables n w' p' s' (height - 1 + length (bound_as (bundle_at f b) (kind_of k) l))
@@ -203,7 +203,7 @@ module _ (f : List ℕ) (b : Counts) (n most : ℕ) (w p s : List ℕ) (height d
           ≡ leaves (bound_as (bundle_at f b) (kind_of k) l) (bound_as (bundle_at f b) (kind_of k) r) (crossed_by (frames w (height - 1))) (frames w (height - 1))
           → (free : ℕ → ℕ → Bool) (image : ℕ → Image)
           → TurnHeld free image b (bundle_at f b) n most (finish free image (bundle_at f b) (frames w height) left) w' p' s' left t
-      bodies-turn w' p' s' t body len dt crossing e free image =
+      bodies_turn w' p' s' t body len dt crossing e free image =
           let bundle = bundle_at f b in
           let h : ℕ = height - 1 + length (bound_as bundle (kind_of k) l) in
           let d : ℕ = deep + length (bound_as bundle (kind_of k) l) in
@@ -217,10 +217,10 @@ module _ (f : List ℕ) (b : Counts) (n most : ℕ) (w p s : List ℕ) (height d
           (cross_all (bound_as bundle (kind_of k) l) (bound_as bundle (kind_of k) r) (crossed_by fs)) (body_as bundle (kind_of k) r) left)
           (finish free image bundle fs) =
           whole_is free image
-          ∙ rw dk (bodies-are free image bundle (sized_at f b) l r i j left fs ended.0 ended.1 (rw dk at body)) in
+          ∙ rw dk (bodies_are free image bundle (sized_at f b) l r i j left fs ended.0 ended.1 (rw dk at body)) in
           rw dt
           (turn_held free image b bundle n most (finish free image bundle (frames w height) left) w' p' s' l (body_as bundle (kind_of k) l)
           (body_as bundle (kind_of k) r) h d left (rw (crossed, same) on)
-          (λ m more. held-bodies (sized_at f b) n most w p s (height - 1) deep left here l r i j pending-top w' p' s' h d m len crossing
+          (λ m more. held_bodies (sized_at f b) n most w p s (height - 1) deep left here l r i j pending_top w' p' s' h d m len crossing
           (e ∙ ap (λ (q : ℕ). leaves (bound_as bundle (kind_of q) l) (bound_as bundle (kind_of q) r) (crossed_by fs) fs) dk) more)
-          (omega (arith, bodies-known.2)))
+          (omega (arith, bodies_known.2)))

@@ -1,8 +1,8 @@
 -- A walk at a pair.
 --     Visiting                   the pair, counted already, and then what is left to do, is the whole
 --     visit_start                the first pair
---     visit-differs              a pair that does not meet
---     open-known, opened-held, opened-whole    a pair that meets
+--     visit_differs              a pair that does not meet
+--     open_known, opened_held, opened_whole    a pair that meets
 --     turned_end, turned_pair    what follows
 use mathlib.Core.Path.{◌≡◌, refl, sym, ap, subst, ◌∙◌}
 use mathlib.Core.Bool.{Bool, true, false, cond}
@@ -25,8 +25,8 @@ use Rattle.crossings.specs.Places.{Places}
 use Rattle.crossings.specs.Pairs.{meets_by}
 use Rattle.pair_walk.specs.declared.Turn.{Turn}
 use Rattle.pair_walk.specs.Agenda.{Frame, frames, crossed_by, opened_as, closes, opened, finish, Sound, Held, TurnHeld}
-use Rattle.pair_walk.proofs.Finishing.{differs_here, opened-on}
-use Rattle.pair_walk.proofs.Soundness.{met_known, held-opened, held_same}
+use Rattle.pair_walk.proofs.Finishing.{differs_here, opened_on}
+use Rattle.pair_walk.proofs.Soundness.{met_known, held_opened, held_same}
 
 pub record Visiting (free : ℕ → ℕ → Bool) (image : ℕ → Image) (f : List ℕ) (b : Counts) (n most : ℕ) (whole : Limited) (w p s : List ℕ) (l r h depth left :
     ℕ) : Type 0 where
@@ -55,31 +55,31 @@ module _ (free : ℕ → ℕ → Bool) (image : ℕ → Image) (f : List ℕ) (b
 
   module _ (whole : Limited) (w p s : List ℕ) (l r h depth left : ℕ) (visit : Visiting free image f b n most whole w p s l r h depth left) {m : Bool}
       (met : m ≡ meets_by free image (bundle_at f b) (term_of (bundle_at f b) l) (crossed_by (frames w h)) r) where
-    pub visit-differs : m ≡ false → Different left ≡ whole
-    visit-differs e =
+    pub visit_differs : m ≡ false → Different left ≡ whole
+    visit_differs e =
         sym (visit.is ∙ differs_here free image (bundle_at f b) l (crossed_by (frames w h)) r left (finish free image (bundle_at f b) (frames w h)) (sym met ∙ e))
 
     module _ (e : m ≡ true) where
-      pub open-known : (5 * h + 5 ≤ length w) × (((term_of (bundle_at f b) l).kind ≡ 1 → ⊥) → Number b.terms l × Number b.terms r)
-      open-known = (
+      pub open_known : (5 * h + 5 ≤ length w) × (((term_of (bundle_at f b) l).kind ≡ 1 → ⊥) → Number b.terms l × Number b.terms r)
+      open_known = (
         omega (arith, visit.held.long, visit.room),
         λ ne. met_known (sized_at f b) free image l r (crossed_by (frames w h)) (sym met ∙ e) ne,
       )
 
       module _ (w' : List ℕ) (t : ℕ) (len : length w' ≡ length w) (is : frames w' t ≡ opened b (bundle_at f b) l r (frames w h)) where
-        pub opened-held : Held b (bundle_at f b) n most w' p s t depth left
+        pub opened_held : Held b (bundle_at f b) n most w' p s t depth left
         unfolding opened
-        opened-held =
+        opened_held =
             go (closes (term_of (bundle_at f b) l).kind (starts_at b.links (term_of (bundle_at f b) l).b) (starts_at b.links (term_of (bundle_at f b) r).b)) is
           where
             go : (o : Bool) → frames w' t ≡ cond o (frames w h) (opened_as b (bundle_at f b) (kind_of (term_of (bundle_at f b) l).kind) l r (frames w h))
                 → Held b (bundle_at f b) n most w' p s t depth left
             go true d = held_same (sized_at f b) n most w w' p s h t depth left left visit.held d len (omega arith)
-            go false d = held-opened (sized_at f b) free image n most w p s h depth left visit.held w' t l r len d (sym met ∙ e) visit.room
+            go false d = held_opened (sized_at f b) free image n most w p s h depth left visit.held w' t l r len d (sym met ∙ e) visit.room
 
-        pub opened-whole : whole ≡ finish free image (bundle_at f b) (frames w' t) left
-        opened-whole =
-            visit.is ∙ opened-on free image (bundle_at f b) (sized_at f b) l r (frames w h) left (sym met ∙ e)
+        pub opened_whole : whole ≡ finish free image (bundle_at f b) (frames w' t) left
+        opened_whole =
+            visit.is ∙ opened_on free image (bundle_at f b) (sized_at f b) l r (frames w h) left (sym met ∙ e)
             ∙ ap (λ (fs : List Frame). finish free image (bundle_at f b) fs left) (sym is)
 
   pub turned_end : {whole rest : Limited} (w p s : List ℕ) (left : ℕ) {t : Turn} {a : Limited} → TurnHeld free image b (bundle_at f b) n most rest w p s left t

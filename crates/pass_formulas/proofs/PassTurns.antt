@@ -1,6 +1,6 @@
 -- Reading in one pass, turn by turn: what each return gives, from what its calls gave.
---     gives-from, bracket-gives, alone-gives    a formula
---     quantifier-gives, last_under, next_under  a quantifier
+--     gives_from, bracket_gives, alone_gives    a formula
+--     quantifier_gives, last_under, next_under  a quantifier
 --     Applying, applying_first, applying_on, applied_gives     the arguments of a symbol
 --     bound_gives                               a pair of a let
 --     Letting, letting_first, letting_on, let_gives            a let
@@ -22,7 +22,7 @@ use Rattle.bundle.specs.Lists.{same_list, has, different}
 use Rattle.bundle.specs.File.{counts_of}
 use Rattle.bundle.proofs.Fields.{symbols_length}
 use Rattle.logic.specs.Symbols.{truth_sort, signature_of, result_sort}
-use Rattle.logic.specs.Terms.{Binder, forAll, exists, binder, number_of, is_binder, Term, Terms, var, app, bind, letIn, none}
+use Rattle.logic.specs.Terms.{Binder, forAll, exists, binder, number_of, is_binder, Term, Terms, var, app, bind, let_in, none}
 use Rattle.logic.proofs.Tests.{list_same, and_left, and_right}
 use Rattle.scratch.specs.Scratch.{bundle_in}
 use Rattle.scratch.specs.Stack.{half_of, halves}
@@ -35,7 +35,7 @@ use Rattle.grammar.specs.Grammar.{Formula, Lexeme, opens, closes, word, between,
 use Rattle.grammar.specs.Names.{all_known}
 use Rattle.reading.specs.Called.{variable_called}
 use Rattle.reading.specs.Local.{accepts}
-use Rattle.reading.specs.Records.{file, fileAll}
+use Rattle.reading.specs.Records.{file, file_all}
 use Rattle.lexing.specs.Counted.{variable_among}
 use Rattle.lexing.specs.Lexes.{lexemes_at}
 use Rattle.lexing.proofs.SkipLaws.{past}
@@ -98,9 +98,9 @@ module _ (f text : List ℕ) where
 
   module _ {w st cs : List ℕ} {h : ℕ} {w' st' ix' cs' : List ℕ} {r : ℕ} where
     -- from an earlier byte, where the same stands
-    pub gives-from : {i j : ℕ} {ls ls' : List Lexeme} → i ≤ j → ls ≡ ls' → Gives f text w st cs h j ls w' st' ix' cs' r
+    pub gives_from : {i j : ℕ} {ls ls' : List Lexeme} → i ≤ j → ls ≡ ls' → Gives f text w st cs h j ls w' st' ix' cs' r
         → Gives f text w st cs h i ls' w' st' ix' cs' r
-    gives-from le e g = record {
+    gives_from le e g = record {
       further = omega (arith, le, g.further);
       inside = g.inside;
       kept = g.kept;
@@ -110,14 +110,14 @@ module _ (f text : List ℕ) where
       put = g.put;
     }
 
-    pub bracket-gives : {i : ℕ} → get_or text i 0 ≡ 40 → Gives f text w st cs h (i + 1) (opens ∷ lexemes_at text (i + 1)) w' st' ix' cs' r
+    pub bracket_gives : {i : ℕ} → get_or text i 0 ≡ 40 → Gives f text w st cs h (i + 1) (opens ∷ lexemes_at text (i + 1)) w' st' ix' cs' r
         → Gives f text w st cs h i (lexemes_at text i) w' st' ix' cs' r
-    bracket-gives {i} e g = gives-from (omega arith) (sym (opens_at text i e).1) g
+    bracket_gives {i} e g = gives_from (omega arith) (sym (opens_at text i e).1) g
 
-    pub alone-gives : {i : ℕ} {t : Token} → WordAt (counts_of f).symbols (counts_of f).variables text i t → (t.number ≡ 0 → ⊥)
+    pub alone_gives : {i : ℕ} {t : Token} → WordAt (counts_of f).symbols (counts_of f).variables text i t → (t.number ≡ 0 → ⊥)
         → AlonePut f w st cs h t.code t.number t.end w' st' ix' cs' r → Gives f text w st cs h i (lexemes_at text i) w' st' ix' cs' r
     unfolding file
-    alone-gives {i} {t} at some p = go p.coded
+    alone_gives {i} {t} at some p = go p.coded
       where
         go : (t.code ≡ 3) ⊎ (t.code ≡ 4) → Gives f text w st cs h i (lexemes_at text i) w' st' ix' cs' r
         go (inl e) =
@@ -149,10 +149,10 @@ module _ (f text : List ℕ) where
 
     -- ---- a quantifier
 
-    pub quantifier-gives : {i j : ℕ} {q : Binder} {ls : List Lexeme} → i ≤ j → lexemes_at text i ≡ word (quantifier q) ∷ opens ∷ lexemes_at text j
+    pub quantifier_gives : {i j : ℕ} {q : Binder} {ls : List Lexeme} → i ≤ j → lexemes_at text i ≡ word (quantifier q) ∷ opens ∷ lexemes_at text j
         → lexemes_at text j ≡ opens ∷ ls → GivesUnder f text w st cs h j q w' st' ix' cs' r
         → Gives f text w st cs h i (opens ∷ lexemes_at text i) w' st' ix' cs' r
-    quantifier-gives {i} {j} {q} le e starts g = record {
+    quantifier_gives {i} {j} {q} le e starts g = record {
       further = omega (arith, le, g.further);
       inside = g.inside;
       kept = g.kept;
@@ -297,7 +297,7 @@ module _ (f text : List ℕ) where
             (subst (λ (xs : List ℕ). PartsAs D false (lexemes_at text i₀) (lexemes_at text r) all.all xs v.variables) sorts all.read)
             (symbol_is m n first is small ∙ sym isg)
             (subst (λ (xs : List ℕ). accepts D g xs ≡ true) sorts p.takes);
-        put = subst (λ (b : Bundle). PairPut (place_application b g (fileAll all.all (now w₀ cs₀)).terms) (result_sort D (signature_of D g)) h₀ f w' st' ix'
+        put = subst (λ (b : Bundle). PairPut (place_application b g (file_all all.all (now w₀ cs₀)).terms) (result_sort D (signature_of D g)) h₀ f w' st' ix'
             cs')
             (sym all.bundle)
             (subst (λ (xs : List ℕ). PairPut (place_application (now w cs) g xs) (result_sort D (signature_of D g)) h₀ f w' st' ix' cs') (sym all.terms) p.put);
@@ -421,11 +421,11 @@ module _ (f text : List ℕ) where
       = parts_end D (subst (λ (l : List Lexeme). PartsSoFar D true (lexemes_at text i₀) l (now w₀ cs₀) (now w cs) (halves true st h₀ top)
       v.sorts names) (z.1 ∙ ap (λ (l : List Lexeme). closes ∷ l) skipped.same) v.so_far) in
       let kept₁ : (u : Bool) → halves u st₁ h₀ top ≡ halves u st h₀ top = λ u. below_halves g.kept u h₀ (omega (arith, v.asks.height, v.asks.places)) in
-      let τ : Term = letIn names all.all g.term in
+      let τ : Term = let_in names all.all g.term in
       let P : Bundle → List ℕ → List ℕ → ℕ → ℕ → Type 0 = λ b vs ts n s. PairPut (place_let b vs ts n) s h₀ f w' st' ix' cs' in
-      let b₁ : now w₁ cs₁ ≡ (file g.term (fileAll all.all (now w₀ cs₀)).bundle).bundle =
+      let b₁ : now w₁ cs₁ ≡ (file g.term (file_all all.all (now w₀ cs₀)).bundle).bundle =
       g.put.bundle ∙ ap (λ (b : Bundle). (file g.term b).bundle) (sym all.bundle) in
-      let n₁ : half_of true (get_or st₁ top 0) ≡ (file g.term (fileAll all.all (now w₀ cs₀)).bundle).term =
+      let n₁ : half_of true (get_or st₁ top 0) ≡ (file g.term (file_all all.all (now w₀ cs₀)).bundle).term =
       g.put.term ∙ ap (λ (b : Bundle). (file g.term b).term) (sym all.bundle) in
       record {
         further = omega (arith, v.from, skipped.after, g.further, p.further);
@@ -437,11 +437,11 @@ module _ (f text : List ℕ) where
             (subst (λ (l : List Lexeme). ReadAs D (lexemes_at text from) l g.term g.sort) p.closed g.read) v.distinct
             (list_same (map (sort_of_variable D) names) v.sorts v.sorted);
         put =
-            subst (λ (b : Bundle). P b names (fileAll all.all (now w₀ cs₀)).terms (file g.term (fileAll all.all (now w₀ cs₀)).bundle).term
+            subst (λ (b : Bundle). P b names (file_all all.all (now w₀ cs₀)).terms (file g.term (file_all all.all (now w₀ cs₀)).bundle).term
             g.sort) b₁
-            (subst (λ (xs : List ℕ). P (now w₁ cs₁) xs (fileAll all.all (now w₀ cs₀)).terms
-            (file g.term (fileAll all.all (now w₀ cs₀)).bundle).term g.sort) (kept₁ false)
-            (subst (λ (xs : List ℕ). P (now w₁ cs₁) (halves false st₁ h₀ top) xs (file g.term (fileAll all.all (now w₀ cs₀)).bundle).term g.sort)
+            (subst (λ (xs : List ℕ). P (now w₁ cs₁) xs (file_all all.all (now w₀ cs₀)).terms
+            (file g.term (file_all all.all (now w₀ cs₀)).bundle).term g.sort) (kept₁ false)
+            (subst (λ (xs : List ℕ). P (now w₁ cs₁) (halves false st₁ h₀ top) xs (file g.term (file_all all.all (now w₀ cs₀)).bundle).term g.sort)
             (kept₁ true ∙ sym all.terms)
             (subst (λ (m : ℕ). P (now w₁ cs₁) (halves false st₁ h₀ top) (halves true st₁ h₀ top) m g.sort) n₁
             (subst (λ (s : ℕ). P (now w₁ cs₁) (halves false st₁ h₀ top) (halves true st₁ h₀ top) (half_of true (get_or st₁ top 0)) s) g.put.sort p.put))));

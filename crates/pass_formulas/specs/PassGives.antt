@@ -15,7 +15,7 @@ use Rattle.grammar.specs.Grammar.{Formula, Lexeme, opens, closes, word, Reads}
 use Rattle.grammar.specs.Bytes.{name}
 use Rattle.grammar.specs.Names.{names}
 use Rattle.reading.specs.Called.{variable_called}
-use Rattle.reading.specs.Local.{headSort, plain, fine}
+use Rattle.reading.specs.Local.{head_sort, plain, fine}
 use Rattle.reading.specs.Records.{file}
 use Rattle.lexing.specs.Lexes.{lexemes_at}
 use Rattle.heads.specs.HeadSymbols.{symbol_for}
@@ -78,7 +78,7 @@ pub record TextRead (f text w cs w' cs' : List ℕ) (r : ℕ) : Type 0 where
   pub reads : Reads text formula
   pub known : Known (declared f) (names formula [])
   pub sorted : fine (declared f) formula ≡ true
-  pub truth : headSort (declared f) formula ≡ truth_sort
+  pub truth : head_sort (declared f) formula ≡ truth_sort
   pub ready : Ready w' (counts_by f cs')
   pub term : r ≡ (file (plain (declared f) formula) (bundle_in w (counts_by f cs))).term
   pub bundle : bundle_in w' (counts_by f cs') ≡ (file (plain (declared f) formula) (bundle_in w (counts_by f cs))).bundle

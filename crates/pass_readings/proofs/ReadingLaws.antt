@@ -13,20 +13,20 @@ use lib.Dec.{eqb, leb, ltb}
 use borrow.Author.Tests.{eqb-true, eq-eqb, ne_eqb, lt-ltb}
 use Rattle.bundle.specs.Bundle.{Bundle, sort_of_variable}
 use Rattle.bundle.specs.Lists.{same_list, different, numbers}
-use Rattle.logic.specs.Terms.{Binder, Term, Terms, var, app, bind, letIn, none, more}
+use Rattle.logic.specs.Terms.{Binder, Term, Terms, var, app, bind, let_in, none, more}
 use Rattle.logic.specs.Symbols.{truth_sort, signature_of, signature, kind_of_symbol, symbol_kind, argument_sorts, result_sort}
 use Rattle.logic.proofs.Tests.{and_left, and_right, and_both, or_left, or_right, same_list_lem}
 use Rattle.grammar.specs.Bytes.{SortWord, Connective, conjunction, disjunction, implication, equality, Word, constant, negation, connective, quantifier}
 use Rattle.grammar.specs.Bytes.{letting, sort, name}
 use Rattle.grammar.specs.Grammar.{SortedVariable, declares, Formula, called, truth, bracketed, denies, connects, applies, quantifies, lets}
-use Rattle.grammar.specs.Grammar.{Formulas, noFormula, andFormula, Bindings, noBinding, andBinding, Lexeme, opens, closes, word, spell, spell_variable}
-use Rattle.grammar.specs.Grammar.{spell_variables, spellFormulas, spellBindings}
-use Rattle.grammar.specs.Names.{either, symbolOnly, variableOnly, Name, names, variable_names, namesOfAll, namesBound, all_known}
+use Rattle.grammar.specs.Grammar.{Formulas, no_formula, and_formula, Bindings, no_binding, and_binding, Lexeme, opens, closes, word, spell, spell_variable}
+use Rattle.grammar.specs.Grammar.{spell_variables, spell_formulas, spell_bindings}
+use Rattle.grammar.specs.Names.{either, symbolOnly, variableOnly, Name, names, variable_names, names_of_all, names_bound, all_known}
 use Rattle.reading.specs.Called.{number_after, is_numeral, decimal, variable_called, symbol_called, known_as, known_in}
 use Rattle.reading.specs.Typing.{connective_symbol, sort_number, sorts_declared, nested}
-use Rattle.reading.specs.Local.{alone_sort, alone_term, accepts, alone_fine, headSort, head_sorts, bound_sorts, bound_names, plain, plain_all, plainBound}
-use Rattle.reading.specs.Local.{fine, fineAll, fineBound}
-use Rattle.reading.specs.Records.{file, fileAll}
+use Rattle.reading.specs.Local.{alone_sort, alone_term, accepts, alone_fine, head_sort, head_sorts, bound_sorts, bound_names, plain, plain_all, plain_bound}
+use Rattle.reading.specs.Local.{fine, fine_all, fine_bound}
+use Rattle.reading.specs.Records.{file, file_all}
 use Rattle.lexing.proofs.NumeralLaws.{counts_suffice}
 use Rattle.heads.specs.HeadSymbols.{symbol_for}
 use Rattle.heads.specs.Places.{Part, after_part, spell_part, spell_parts}
@@ -74,7 +74,7 @@ module _ (D : Bundle) where
 
   pub variable_read : (w : List ℕ) {x : ℕ} {rest : List Lexeme} → variable_called D w ≡ x → (x ≡ 0 → ⊥)
       → ReadAs D (word (name w) ∷ rest) rest (var x) (sort_of_variable D x)
-  unfolding spell names known_in known_as fine plain headSort
+  unfolding spell names known_in known_as fine plain head_sort
   variable_read w {x} {rest} e ne = record {
     spelled = record {
       formula = called w;
@@ -104,7 +104,7 @@ module _ (D : Bundle) where
 
   name_read : (w : List ℕ) {f : ℕ} {rest : List Lexeme} → symbol_called D w ≡ f → (f ≡ 0 → ⊥) → accepts D f [] ≡ true
       → ReadAs D (word (name w) ∷ rest) rest (app f none) (result_sort D (signature_of D f))
-  unfolding spell names known_in known_as fine plain headSort alone_fine alone_term alone_sort
+  unfolding spell names known_in known_as fine plain head_sort alone_fine alone_term alone_sort
   name_read w {f} {rest} e ne takes =
       let z : variable_called D w ≡ 0 = no_variable w (λ n. ne (sym e ∙ n)) in
       record {
@@ -124,7 +124,7 @@ module _ (D : Bundle) where
 
   pub symbol_read : (w : Word) {f : ℕ} {rest : List Lexeme} → symbol_for (length D.symbols) w 0 ≡ f → (f ≡ 0 → ⊥) → accepts D f [] ≡ true
       → ReadAs D (word w ∷ rest) rest (app f none) (result_sort D (signature_of D f))
-  unfolding symbol_for accepts signature_of signature kind_of_symbol symbol_kind argument_sorts same_list spell names fine plain headSort
+  unfolding symbol_for accepts signature_of signature kind_of_symbol symbol_kind argument_sorts same_list spell names fine plain head_sort
   symbol_read (constant v) {f} {rest} e ne takes = record {
     spelled = record { formula = truth v; spells = refl; known = λ ns k. k };
     sorted = refl;
@@ -168,10 +168,10 @@ module _ (D : Bundle) where
       variables = ap (λ (l : List ℕ). 0 ∷ l) p.variables;
     }
 
-    bound-part : (w : List ℕ) → (variable_called D w ≡ 0 → ⊥) → ReadAs D ls (closes ∷ here) τ s → PartsAs D true here rest ts ss vs
+    bound_part : (w : List ℕ) → (variable_called D w ≡ 0 → ⊥) → ReadAs D ls (closes ∷ here) τ s → PartsAs D true here rest ts ss vs
         → PartsAs D true (opens ∷ word (name w) ∷ ls) rest (more τ ts) (s ∷ ss) (variable_called D w ∷ vs)
     unfolding spell_parts spell_part after_part part_names parts_fine terms_of
-    bound-part w h r p =
+    bound_part w h r p =
         let φ : Formula = r.spelled.formula in
         let ps : List Part = p.spelled.parts in
         record {
@@ -195,12 +195,12 @@ module _ (D : Bundle) where
   one_on : {bound : Bool} {ls₀ rest : List Lexeme} {b₀ b : Bundle} {Ts Ss Vs : List ℕ} {τ : Term} {ts : Terms} {s v : ℕ} {ss vs : List ℕ}
       → AllParts D bound ls₀ rest b₀ b Ts Ss Vs (more τ ts) (s ∷ ss) (v ∷ vs)
       → AllParts D bound ls₀ rest b₀ (file τ b).bundle (Ts ++ ((file τ b).term ∷ [])) (Ss ++ (s ∷ [])) (Vs ++ (v ∷ [])) ts ss vs
-  unfolding fileAll
+  unfolding file_all
   one_on {bound} {ls₀} {rest} {b₀} {b} {Ts} {Ss} {Vs} {τ} {ts} {s} {v} {ss} {vs} q = record {
     all = q.all;
     read = subst (λ (l : List ℕ). PartsAs D bound ls₀ rest q.all l ((Vs ++ (v ∷ [])) ++ vs)) (sym (append_assoc Ss (s ∷ []) ss))
         (subst (λ (l : List ℕ). PartsAs D bound ls₀ rest q.all (Ss ++ (s ∷ ss)) l) (sym (append_assoc Vs (v ∷ []) vs)) q.read);
-    terms = q.terms ∙ sym (append_assoc Ts ((file τ b).term ∷ []) (fileAll ts (file τ b).bundle).terms);
+    terms = q.terms ∙ sym (append_assoc Ts ((file τ b).term ∷ []) (file_all ts (file τ b).bundle).terms);
     bundle = q.bundle;
   }
 
@@ -212,18 +212,18 @@ module _ (D : Bundle) where
   pub pair_on : (w : List ℕ) {ls₀ ls here : List Lexeme} {b₀ b : Bundle} {Ts Ss Vs : List ℕ} {τ : Term} {s : ℕ} → (variable_called D w ≡ 0 → ⊥)
       → PartsSoFar D true ls₀ (opens ∷ word (name w) ∷ ls) b₀ b Ts Ss Vs → ReadAs D ls (closes ∷ here) τ s
       → PartsSoFar D true ls₀ here b₀ (file τ b).bundle (Ts ++ ((file τ b).term ∷ [])) (Ss ++ (s ∷ [])) (Vs ++ (variable_called D w ∷ []))
-  pair_on w {τ = τ} {s = s} ne so_far r rest ts ss vs p = one_on (so_far rest (more τ ts) (s ∷ ss) (variable_called D w ∷ vs) (bound-part w ne r p))
+  pair_on w {τ = τ} {s = s} ne so_far r rest ts ss vs p = one_on (so_far rest (more τ ts) (s ∷ ss) (variable_called D w ∷ vs) (bound_part w ne r p))
 
   -- the list's end
   pub record PartsEnded (bound : Bool) (ls₀ rest : List Lexeme) (b₀ b : Bundle) (Ts Ss Vs : List ℕ) : Type 0 where
     pub all : Terms
     pub read : PartsAs D bound ls₀ rest all Ss Vs
-    pub terms : (fileAll all b₀).terms ≡ Ts
-    pub bundle : (fileAll all b₀).bundle ≡ b
+    pub terms : (file_all all b₀).terms ≡ Ts
+    pub bundle : (file_all all b₀).bundle ≡ b
 
   pub parts_end : {bound : Bool} {ls₀ rest : List Lexeme} {b₀ b : Bundle} {Ts Ss Vs : List ℕ} → PartsSoFar D bound ls₀ (closes ∷ rest) b₀ b Ts Ss Vs
       → PartsEnded bound ls₀ rest b₀ b Ts Ss Vs
-  unfolding fileAll
+  unfolding file_all
   parts_end {bound} {ls₀} {rest} {b₀} {b} {Ts} {Ss} {Vs} so_far =
       let q : AllParts D bound ls₀ rest b₀ b Ts Ss Vs none [] [] = so_far rest none [] [] (no_parts bound) in
       record {
@@ -295,13 +295,13 @@ module _ (D : Bundle) where
   }
 
   abbrev formulas_of : List Part → Formulas
-  formulas_of [] = noFormula
-  formulas_of (p ∷ ps) = andFormula p.formula (formulas_of ps)
+  formulas_of [] = no_formula
+  formulas_of (p ∷ ps) = and_formula p.formula (formulas_of ps)
 
   record FormulasOf (ps : List Part) : Type 0 where
-    spells : (rest : List Lexeme) → spell_parts false ps rest ≡ spellFormulas (formulas_of ps) rest
-    named : (ns : List Name) → part_names false ps ns ≡ namesOfAll (formulas_of ps) ns
-    sorted : fineAll D (formulas_of ps) ≡ parts_fine D ps
+    spells : (rest : List Lexeme) → spell_parts false ps rest ≡ spell_formulas (formulas_of ps) rest
+    named : (ns : List Name) → part_names false ps ns ≡ names_of_all (formulas_of ps) ns
+    sorted : fine_all D (formulas_of ps) ≡ parts_fine D ps
     terms : plain_all D (formulas_of ps) ≡ terms_of D ps
     sorts : head_sorts D (formulas_of ps) ≡ map (part_sort D) ps
 
@@ -315,18 +315,18 @@ module _ (D : Bundle) where
         named = λ ns. ap (names p.formula) (h.named ns);
         sorted = ap (λ (q : Bool). fine D p.formula && q) h.sorted;
         terms = ap (more (plain D p.formula)) h.terms;
-        sorts = ap (λ (l : List ℕ). headSort D p.formula ∷ l) h.sorts;
+        sorts = ap (λ (l : List ℕ). head_sort D p.formula ∷ l) h.sorts;
       }
 
   abbrev bindings : List Part → Bindings
-  bindings [] = noBinding
-  bindings (p ∷ ps) = andBinding p.called p.formula (bindings ps)
+  bindings [] = no_binding
+  bindings (p ∷ ps) = and_binding p.called p.formula (bindings ps)
 
   record BindingsOf (ps : List Part) : Type 0 where
-    spells : (rest : List Lexeme) → spell_parts true ps rest ≡ spellBindings (bindings ps) rest
-    named : (ns : List Name) → part_names true ps ns ≡ namesBound (bindings ps) ns
-    sorted : fineBound D (bindings ps) ≡ parts_fine D ps
-    terms : plainBound D (bindings ps) ≡ terms_of D ps
+    spells : (rest : List Lexeme) → spell_parts true ps rest ≡ spell_bindings (bindings ps) rest
+    named : (ns : List Name) → part_names true ps ns ≡ names_bound (bindings ps) ns
+    sorted : fine_bound D (bindings ps) ≡ parts_fine D ps
+    terms : plain_bound D (bindings ps) ≡ terms_of D ps
     sorts : bound_sorts D (bindings ps) ≡ map (part_sort D) ps
     variables : bound_names D (bindings ps) ≡ map (variable_of D true) ps
 
@@ -340,7 +340,7 @@ module _ (D : Bundle) where
         named = λ ns. ap (λ (l : List Name). record { place = variableOnly; spelled = p.called } ∷ names p.formula l) (h.named ns);
         sorted = ap (λ (q : Bool). fine D p.formula && q) h.sorted;
         terms = ap (more (plain D p.formula)) h.terms;
-        sorts = ap (λ (l : List ℕ). headSort D p.formula ∷ l) h.sorts;
+        sorts = ap (λ (l : List ℕ). head_sort D p.formula ∷ l) h.sorts;
         variables = ap (λ (l : List ℕ). variable_called D p.called ∷ l) h.variables;
       }
 
@@ -373,28 +373,28 @@ module _ (D : Bundle) where
     taken : (g : ℕ) (l : List ℕ) → g ≡ f → l ≡ s ∷ ss → accepts D g l ≡ true
     taken g l e h = ap₂ (accepts D) e h ∙ takes
 
-    applied-name : (w : List ℕ) → symbol_called D w ≡ f → (f ≡ 0 → ⊥) → (ps : List Part) → These ps → Whole (name w)
-    unfolding spell spell_parts spell_part after_part names part_names fine plain headSort head_sorts parts_fine terms_of
-    applied-name w e ne [] h = absurd (let z : 0 ≡ length (s ∷ ss) = ap length h.sorts in omega arith)
-    applied-name w e ne (p ∷ ps) h =
+    applied_name : (w : List ℕ) → symbol_called D w ≡ f → (f ≡ 0 → ⊥) → (ps : List Part) → These ps → Whole (name w)
+    unfolding spell spell_parts spell_part after_part names part_names fine plain head_sort head_sorts parts_fine terms_of
+    applied_name w e ne [] h = absurd (let z : 0 ≡ length (s ∷ ss) = ap length h.sorts in omega arith)
+    applied_name w e ne (p ∷ ps) h =
         let φ : Formula = p.formula in
         let φs : FormulasOf ps = formulas_as ps in
-        let os : List ℕ = headSort D φ ∷ head_sorts D (formulas_of ps) in
+        let os : List ℕ = head_sort D φ ∷ head_sorts D (formulas_of ps) in
         let test : Bool = accepts D (symbol_called D w) os in
         record {
           spelled = record {
             formula = bracketed (applies w φ (formulas_of ps));
             spells = ap (λ (l : List Lexeme). opens ∷ word (name w) ∷ l) (h.spells ∙ ap (spell φ) (φs.spells rest));
-            known = λ ns k. known_more (record { place = symbolOnly; spelled = w }) (names φ (namesOfAll (formulas_of ps) ns))
+            known = λ ns k. known_more (record { place = symbolOnly; spelled = w }) (names φ (names_of_all (formulas_of ps) ns))
                 (symbol_known w (λ z. ne (sym e ∙ z)))
                 (subst (λ (l : List Name). Known D (names φ l)) (φs.named ns) (h.known ns k));
           };
-          sorted = and_both (fine D φ) (fineAll D (formulas_of ps) && test)
+          sorted = and_both (fine D φ) (fine_all D (formulas_of ps) && test)
               (and_left (fine D φ) (parts_fine D ps) h.sorted)
-              (and_both (fineAll D (formulas_of ps)) test
+              (and_both (fine_all D (formulas_of ps)) test
               (φs.sorted ∙ and_right (fine D φ) (parts_fine D ps) h.sorted)
               (taken (symbol_called D w) os e
-              (ap (λ (l : List ℕ). headSort D φ ∷ l) φs.sorts ∙ h.sorts)));
+              (ap (λ (l : List ℕ). head_sort D φ ∷ l) φs.sorts ∙ h.sorts)));
           term = ap₂ app e (ap (more (plain D φ)) φs.terms ∙ h.terms);
           sort = ap (λ (g : ℕ). result_sort D (signature_of D g)) e;
         }
@@ -403,36 +403,36 @@ module _ (D : Bundle) where
     unfolding argument_sorts signature_of signature kind_of_symbol symbol_kind
     one e ps h = as_many ps h 3 e
 
-    applied-not : 3 ≡ f → (ps : List Part) → These ps → Whole negation
-    unfolding spell spell_parts spell_part after_part names part_names fine plain headSort parts_fine terms_of
-    applied-not e [] h = absurd (let z : 1 ≡ 0 = one e [] h in omega arith)
-    applied-not e (p ∷ []) h = record {
+    applied_not : 3 ≡ f → (ps : List Part) → These ps → Whole negation
+    unfolding spell spell_parts spell_part after_part names part_names fine plain head_sort parts_fine terms_of
+    applied_not e [] h = absurd (let z : 1 ≡ 0 = one e [] h in omega arith)
+    applied_not e (p ∷ []) h = record {
       spelled = record {
         formula = bracketed (denies p.formula);
         spells = ap (λ (l : List Lexeme). opens ∷ word negation ∷ l) h.spells;
         known = h.known;
       };
-      sorted = and_both (fine D p.formula) (accepts D 3 (headSort D p.formula ∷ [])) (and_left (fine D p.formula) true h.sorted)
-          (taken 3 (headSort D p.formula ∷ []) e h.sorts);
+      sorted = and_both (fine D p.formula) (accepts D 3 (head_sort D p.formula ∷ [])) (and_left (fine D p.formula) true h.sorted)
+          (taken 3 (head_sort D p.formula ∷ []) e h.sorts);
       term = ap₂ app e h.terms;
       sort = ap (λ (g : ℕ). result_sort D (signature_of D g)) e;
     }
-    applied-not e (p ∷ q ∷ ps) h = absurd (let z : 1 ≡ suc (suc (length (map (part_sort D) ps))) = one e (p ∷ q ∷ ps) h in omega arith)
+    applied_not e (p ∷ q ∷ ps) h = absurd (let z : 1 ≡ suc (suc (length (map (part_sort D) ps))) = one e (p ∷ q ∷ ps) h in omega arith)
 
     two : (c : Connective) → connective_symbol c s ≡ f → (ps : List Part) → These ps → 2 ≡ length (map (part_sort D) ps)
     two c e ps h = sym (connective_two c s) ∙ as_many ps h (connective_symbol c s) e
 
     applied_two : (c : Connective) → connective_symbol c s ≡ f → (ps : List Part) → These ps → Whole (connective c)
-    unfolding spell spell_parts spell_part after_part names part_names fine plain headSort parts_fine terms_of
+    unfolding spell spell_parts spell_part after_part names part_names fine plain head_sort parts_fine terms_of
     applied_two c e [] h = absurd (let z : 2 ≡ 0 = two c e [] h in omega arith)
     applied_two c e (p ∷ []) h = absurd (let z : 2 ≡ 1 = two c e (p ∷ []) h in omega arith)
     applied_two c e (p ∷ q ∷ []) h =
         let φ : Formula = p.formula in
         let ψ : Formula = q.formula in
-        let first : headSort D φ ≡ s = cc h.sorts in
-        let same : connective_symbol c (headSort D φ) ≡ f = ap (connective_symbol c) first ∙ e in
-        let os : List ℕ = headSort D φ ∷ headSort D ψ ∷ [] in
-        let test : Bool = accepts D (connective_symbol c (headSort D φ)) os in
+        let first : head_sort D φ ≡ s = cc h.sorts in
+        let same : connective_symbol c (head_sort D φ) ≡ f = ap (connective_symbol c) first ∙ e in
+        let os : List ℕ = head_sort D φ ∷ head_sort D ψ ∷ [] in
+        let test : Bool = accepts D (connective_symbol c (head_sort D φ)) os in
         let later : (fine D ψ && true) ≡ true = and_right (fine D φ) (fine D ψ && true) h.sorted in
         record {
           spelled = record {
@@ -443,7 +443,7 @@ module _ (D : Bundle) where
           sorted = and_both (fine D φ) (fine D ψ && test)
               (and_left (fine D φ) (fine D ψ && true) h.sorted)
               (and_both (fine D ψ) test (and_left (fine D ψ) true later)
-              (taken (connective_symbol c (headSort D φ)) os same h.sorts));
+              (taken (connective_symbol c (head_sort D φ)) os same h.sorts));
           term = ap₂ app same h.terms;
           sort = ap (λ (g : ℕ). result_sort D (signature_of D g)) same;
         }
@@ -462,12 +462,12 @@ module _ (D : Bundle) where
     unfolding symbol_for argument_sorts signature_of signature kind_of_symbol symbol_kind
     applied (constant true) e ps h = absurd (takes_none 1 e refl)
     applied (constant false) e ps h = absurd (takes_none 2 e refl)
-    applied negation e ps h = applied-not e ps h
+    applied negation e ps h = applied_not e ps h
     applied (connective c) e ps h = applied_two c e ps h
     applied (quantifier q) e ps h = absurd (takes_none 0 e refl)
     applied letting e ps h = absurd (takes_none 0 e refl)
     applied (sort o) e ps h = absurd (takes_none 0 e refl)
-    applied (name w) e ps h = applied-name w ((counts_suffice D w).symbol ∙ e) (λ z. takes_none 0 (sym z) refl) ps h
+    applied (name w) e ps h = applied_name w ((counts_suffice D w).symbol ∙ e) (λ z. takes_none 0 (sym z) refl) ps h
 
   -- a symbol, where its first argument has the sort s
   pub application_read : (w : Word) {f s : ℕ} {ss vs : List ℕ} {ls rest : List Lexeme} {ts : Terms} → PartsAs D false ls rest ts (s ∷ ss) vs
@@ -477,7 +477,7 @@ module _ (D : Bundle) where
 
   pub quantifier_read : (q : Binder) {ls rest inside : List Lexeme} {τ : Term} → ls ≡ opens ∷ inside → UnderAs D q ls rest τ
       → ReadAs D (opens ∷ word (quantifier q) ∷ opens ∷ ls) rest τ truth_sort
-  unfolding spell spell_variables spell_variable names variable_names fine plain headSort
+  unfolding spell spell_variables spell_variable names variable_names fine plain head_sort
   quantifier_read q {ls} {rest} {inside} {τ} starts u = go u.spelled.variables u.spelled.spells u.spelled.known u.declares u.term
     where
       go : (xs : List SortedVariable) → ls ≡ spell_variables xs (spell u.spelled.body (closes ∷ rest))
@@ -487,7 +487,7 @@ module _ (D : Bundle) where
       go [] e k d t = absurd (opens_closes (sym starts ∙ e))
       go (x ∷ xs) e k d t =
           let φ : Formula = u.spelled.body in
-          let test : Bool = eqb (headSort D φ) truth_sort in
+          let test : Bool = eqb (head_sort D φ) truth_sort in
           record {
             spelled = record {
               formula = bracketed (quantifies q x xs φ);
@@ -495,27 +495,27 @@ module _ (D : Bundle) where
               known = k;
             };
             sorted = and_both (fine D φ) (sorts_declared D (x ∷ xs) && test) u.sorted
-                (and_both (sorts_declared D (x ∷ xs)) test d (eq-eqb (headSort D φ) truth_sort u.truth));
+                (and_both (sorts_declared D (x ∷ xs)) test d (eq-eqb (head_sort D φ) truth_sort u.truth));
             term = t;
             sort = refl;
           }
 
   pub let_read : {ls here rest inside : List Lexeme} {ts : Terms} {ss vs : List ℕ} {τ : Term} {s : ℕ} → ls ≡ opens ∷ inside
       → PartsAs D true ls here ts ss vs → ReadAs D here (closes ∷ rest) τ s → different vs ≡ true → same_list (map (sort_of_variable D) vs) ss ≡ true
-      → ReadAs D (opens ∷ word letting ∷ opens ∷ ls) rest (letIn vs ts τ) s
-  unfolding spell spell_parts spell_part after_part names part_names fine plain headSort bound_sorts bound_names parts_fine terms_of
+      → ReadAs D (opens ∷ word letting ∷ opens ∷ ls) rest (let_in vs ts τ) s
+  unfolding spell spell_parts spell_part after_part names part_names fine plain head_sort bound_sorts bound_names parts_fine terms_of
   let_read {ls} {here} {rest} {inside} {ts} {ss} {vs} {τ} {s} starts p r distinct agree = go p.spelled.parts (facts p)
     where
-      go : (ps : List Part) → Facts true ls here ts ss vs ps → ReadAs D (opens ∷ word letting ∷ opens ∷ ls) rest (letIn vs ts τ) s
+      go : (ps : List Part) → Facts true ls here ts ss vs ps → ReadAs D (opens ∷ word letting ∷ opens ∷ ls) rest (let_in vs ts τ) s
       go [] h = absurd (opens_closes (sym starts ∙ h.spells))
       go (x ∷ ps) h =
           let xs : BindingsOf ps = bindings_as ps in
           let ψ : Formula = r.spelled.formula in
           let φ : Formula = x.formula in
           let ns : List ℕ = variable_called D x.called ∷ bound_names D (bindings ps) in
-          let os : List ℕ = headSort D φ ∷ bound_sorts D (bindings ps) in
+          let os : List ℕ = head_sort D φ ∷ bound_sorts D (bindings ps) in
           let named : ns ≡ vs = ap (λ (l : List ℕ). variable_called D x.called ∷ l) xs.variables ∙ h.variables in
-          let sorts : os ≡ ss = ap (λ (l : List ℕ). headSort D φ ∷ l) xs.sorts ∙ h.sorts in
+          let sorts : os ≡ ss = ap (λ (l : List ℕ). head_sort D φ ∷ l) xs.sorts ∙ h.sorts in
           let agreeing : Bool = same_list (map (sort_of_variable D) ns) os in
           record {
             spelled = record {
@@ -526,14 +526,14 @@ module _ (D : Bundle) where
               known = λ l k. subst (λ (l : List Name). Known D (record { place = variableOnly; spelled = x.called } ∷ names φ l))
                   (xs.named (names ψ l)) (h.known (names ψ l) (r.spelled.known l k));
             };
-            sorted = and_both (fine D φ) (fineBound D (bindings ps) && (fine D ψ && (different ns && agreeing)))
+            sorted = and_both (fine D φ) (fine_bound D (bindings ps) && (fine D ψ && (different ns && agreeing)))
                 (and_left (fine D φ) (parts_fine D ps) h.sorted)
-                (and_both (fineBound D (bindings ps)) (fine D ψ && (different ns && agreeing))
+                (and_both (fine_bound D (bindings ps)) (fine D ψ && (different ns && agreeing))
                 (xs.sorted ∙ and_right (fine D φ) (parts_fine D ps) h.sorted)
                 (and_both (fine D ψ) (different ns && agreeing) r.sorted
                 (and_both (different ns) agreeing (ap different named ∙ distinct)
                 (ap₂ (λ (a b : List ℕ). same_list (map (sort_of_variable D) a) b) named sorts ∙ agree))));
-            term = ap (λ (l : List ℕ). letIn l (more (plain D φ) (plainBound D (bindings ps))) (plain D ψ)) named
-                ∙ ap₂ (letIn vs) (ap (more (plain D φ)) xs.terms ∙ h.terms) r.term;
+            term = ap (λ (l : List ℕ). let_in l (more (plain D φ) (plain_bound D (bindings ps))) (plain D ψ)) named
+                ∙ ap₂ (let_in vs) (ap (more (plain D φ)) xs.terms ∙ h.terms) r.term;
             sort = r.sort;
           }

@@ -5,8 +5,8 @@ use Rattle.logic.specs.Symbols.{truth_sort}
 use Rattle.logic.specs.Terms.{Binder, Term, Terms}
 use Rattle.grammar.specs.Grammar.{Lexeme}
 use Rattle.reading.specs.Typing.{sorts_declared, nested}
-use Rattle.reading.specs.Local.{headSort, plain, fine}
-use Rattle.reading.specs.Records.{file, fileAll}
+use Rattle.reading.specs.Local.{head_sort, plain, fine}
+use Rattle.reading.specs.Records.{file, file_all}
 use Rattle.heads.specs.Places.{Part}
 use Rattle.formulas.specs.ReadGives.{terms_of, variable_of}
 use Rattle.pass_readings.specs.Spelled.{Spelled, SpelledParts, SpelledUnder}
@@ -18,14 +18,14 @@ parts_fine D [] = true
 parts_fine D (p ∷ ps) = fine D p.formula && parts_fine D ps
 
 abbrev pub part_sort : Bundle → Part → ℕ
-part_sort D p = headSort D p.formula
+part_sort D p = head_sort D p.formula
 
 -- a formula of the term τ and the sort s
 pub record ReadAs (D : Bundle) (ls rest : List Lexeme) (τ : Term) (s : ℕ) : Type 0 where
   pub spelled : Spelled D ls rest
   pub sorted : fine D spelled.formula ≡ true
   pub term : plain D spelled.formula ≡ τ
-  pub sort : headSort D spelled.formula ≡ s
+  pub sort : head_sort D spelled.formula ≡ s
 
 -- parts, up to the closing bracket of their list: their terms, sorts and variables
 pub record PartsAs (D : Bundle) (bound : Bool) (ls rest : List Lexeme) (ts : Terms) (ss vs : List ℕ) : Type 0 where
@@ -40,7 +40,7 @@ pub record UnderAs (D : Bundle) (q : Binder) (ls rest : List Lexeme) (τ : Term)
   pub spelled : SpelledUnder D ls rest
   pub sorted : fine D spelled.body ≡ true
   pub declares : sorts_declared D spelled.variables ≡ true
-  pub truth : headSort D spelled.body ≡ truth_sort
+  pub truth : head_sort D spelled.body ≡ truth_sort
   pub term : nested D q spelled.variables (plain D spelled.body) ≡ τ
 
 -- ---- parts so far: from ls₀ and the bundle b₀ on, their terms are Ts, their sorts Ss, their variables Vs; ls follow, and the bundle is b
@@ -49,8 +49,8 @@ pub record UnderAs (D : Bundle) (q : Binder) (ls rest : List Lexeme) (τ : Term)
 pub record AllParts (D : Bundle) (bound : Bool) (ls₀ rest : List Lexeme) (b₀ b : Bundle) (Ts Ss Vs : List ℕ) (ts : Terms) (ss vs : List ℕ) : Type 0 where
   pub all : Terms
   pub read : PartsAs D bound ls₀ rest all (Ss ++ ss) (Vs ++ vs)
-  pub terms : (fileAll all b₀).terms ≡ Ts ++ (fileAll ts b).terms
-  pub bundle : (fileAll all b₀).bundle ≡ (fileAll ts b).bundle
+  pub terms : (file_all all b₀).terms ≡ Ts ++ (file_all ts b).terms
+  pub bundle : (file_all all b₀).bundle ≡ (file_all ts b).bundle
 
 abbrev pub PartsSoFar : (D : Bundle) (bound : Bool) (ls₀ ls : List Lexeme) (b₀ b : Bundle) (Ts Ss Vs : List ℕ) → Type 0
 PartsSoFar D bound ls₀ ls b₀ b Ts Ss Vs =

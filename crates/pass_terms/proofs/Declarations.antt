@@ -1,8 +1,8 @@
 -- What the declarations say, by their header.
 --     symbols_word, variables_word     two of the counts
 --     by-header                        all of them, with other terms and links
---     whole-as, sort_as_lem                what is known of the counts that the code has read
---     takes-accepts, result_as         the sorts that a symbol takes, and its own
+--     whole_as, sort_as_lem                what is known of the counts that the code has read
+--     takes_accepts, result_as         the sorts that a symbol takes, and its own
 use mathlib.Core.Path.{◌≡◌, sym, ap, ◌∙◌, subst}
 use mathlib.Core.Bool.{Bool, true}
 use mathlib.Core.List.{List}
@@ -48,25 +48,25 @@ module _ (f : List ℕ) where
       steps = (e i).steps;
     }
 
-    pub whole-as : Whole f (counts_of f) → Whole f b
-    whole-as = subst (Whole f) (sym e)
+    pub whole_as : Whole f (counts_of f) → Whole f b
+    whole_as = subst (Whole f) (sym e)
 
     pub sort_as_lem : (x : ℕ) {r : ℕ} → r ≡ sort_of_variable (bundle_at f b) x → r ≡ sort_of_variable (declared f) x
     sort_as_lem x d = d ∙ ap (λ (c : Counts). sort_of_variable (bundle_at f c) x) e
 
     module _ (symbol : ℕ) {s : Signature} (is : s ≡ signature (symbol_kind b.symbols symbol)) where
-      signature-as : s ≡ signature_of (bundle_at f b) symbol
+      signature_as : s ≡ signature_of (bundle_at f b) symbol
       unfolding signature_of kind_of_symbol
-      signature-as = is ∙ ap (λ (n : ℕ). signature (symbol_kind n symbol)) (sym (symbols_length f b))
+      signature_as = is ∙ ap (λ (n : ℕ). signature (symbol_kind n symbol)) (sym (symbols_length f b))
 
-      pub takes-accepts : (ss : List ℕ) {p : Bool} → p ≡ same_list (argument_sorts (bundle_at f b) s) ss → p ≡ true → accepts (declared f) symbol ss ≡ true
+      pub takes_accepts : (ss : List ℕ) {p : Bool} → p ≡ same_list (argument_sorts (bundle_at f b) s) ss → p ≡ true → accepts (declared f) symbol ss ≡ true
       unfolding accepts
-      takes-accepts ss h t =
+      takes_accepts ss h t =
           subst (λ (c : Counts). same_list (argument_sorts (bundle_at f c) (signature_of (bundle_at f c) symbol)) ss ≡ true) e
-          (subst (λ (z : Signature). same_list (argument_sorts (bundle_at f b) z) ss ≡ true) signature-as (sym h ∙ t))
+          (subst (λ (z : Signature). same_list (argument_sorts (bundle_at f b) z) ss ≡ true) signature_as (sym h ∙ t))
 
       pub result_as : {r : ℕ} → r ≡ result_sort (bundle_at f b) s → r ≡ result_sort (declared f) (signature_of (declared f) symbol)
       result_as h =
           h
-          ∙ ap (result_sort (bundle_at f b)) signature-as
+          ∙ ap (result_sort (bundle_at f b)) signature_as
           ∙ ap (λ (c : Counts). result_sort (bundle_at f c) (signature_of (bundle_at f c) symbol)) e

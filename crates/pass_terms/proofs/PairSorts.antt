@@ -2,7 +2,7 @@
 --     short, ended     the list has ended, and the pairs have not; the pairs have
 --     differs, on      both have an item: they differ, or the walk goes on
 --     none_left        whether as many as are left are none
---     new-here, new-on, new_none     a number that is in no pair
+--     new_here, new_on, new_none     a number that is in no pair
 use mathlib.Core.Path.{◌≡◌, refl, sym, ap, ◌∙◌}
 use mathlib.Core.Bool.{Bool, true, false, not, ◌&&◌, ◌||◌}
 use mathlib.Core.List.{List, [], ◌∷◌}
@@ -51,11 +51,11 @@ module _ (s : List ℕ) (from to : ℕ) where
     unfolding has
     either = rw (halves_more false s from to h k, here)
 
-    pub new-here : x ≡ y → has x (halves false s from to) ≡ true
-    new-here d = either ∙ rw (eq-eqb x y d)
+    pub new_here : x ≡ y → has x (halves false s from to) ≡ true
+    new_here d = either ∙ rw (eq-eqb x y d)
 
-    pub new-on : (x ≡ y → ⊥) → has x (halves false s from to) ≡ has x (halves false s (from + 1) to)
-    new-on d = either ∙ rw (ne_eqb x y d)
+    pub new_on : (x ≡ y → ⊥) → has x (halves false s from to) ≡ has x (halves false s (from + 1) to)
+    new_on d = either ∙ rw (ne_eqb x y d)
 
 -- no sort is taken where there is no pair
 pub none_taken : (s : List ℕ) (from to : ℕ) → from ≤ to → to ≤ length s → same_list [] (halves false s from to) ≡ eqb from to

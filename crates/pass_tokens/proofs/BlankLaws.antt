@@ -1,5 +1,5 @@
 -- Laws of white space, comments and brackets, byte by byte.
---     line_start, line_on, line-feed, line-return, line_past   a comment up to its line's end, as `blanks::line_end` goes over it
+--     line_start, line_on, line_feed, line_return, line_past   a comment up to its line's end, as `blanks::line_end` goes over it
 --     blanks_start, on_space, on_other, comment_on              white space and comments, as `blanks::past_blanks` goes over them
 --     seen_byte, opens_at, closes_at                           a byte that stands there; brackets
 --     closed, not_closed                                       the answers of `blanks::closed_at`
@@ -61,21 +61,21 @@ module _ (text : List ℕ) (i j : ℕ) (h : Commenting text i j) where
           same = h.same ∙ step text j l comment ∙ ap (λ m. lexemes_from m (drop (suc j) text)) (in_line (get_or text j 0) (get_or text j 0) a b);
         })
 
-    line-ends : class_of (get_or text j 0) ≡ lineEnd → LineEnd text i j
+    line_ends : class_of (get_or text j 0) ≡ lineEnd → LineEnd text i j
     unfolding ends onwards bracket outside
-    line-ends e = record {
+    line_ends e = record {
       after = h.after;
       inside = h.inside;
       same = h.same ∙ step_class text j l comment lineEnd e ∙ sym (step_class text j l between lineEnd e);
     }
 
-    pub line-feed : get_or text j 0 ≡ 10 → LineEnd text i j
+    pub line_feed : get_or text j 0 ≡ 10 → LineEnd text i j
     unfolding class_of
-    line-feed e = line-ends (ap class_of e)
+    line_feed e = line_ends (ap class_of e)
 
-    pub line-return : get_or text j 0 ≡ 13 → LineEnd text i j
+    pub line_return : get_or text j 0 ≡ 13 → LineEnd text i j
     unfolding class_of
-    line-return e = line-ends (ap class_of e)
+    line_return e = line_ends (ap class_of e)
 
   pub line_past : length text ≤ j → LineEnd text i j
   unfolding last

@@ -1,6 +1,6 @@
 -- Laws of digits, one by one, as `words::numeral` reads them.
---     digits_start, digits-on     digits so far
---     digits-end, no-digits       its answers
+--     digits_start, digits_on     digits so far
+--     digits_end, no_digits       its answers
 use Prim.Native.Nat.{ℕ, suc, ◌+◌, ◌-◌, ◌*◌, ◌≤◌, ◌<◌}
 use native.Mathlib.Omega.{arith}
 use native.Mathlib.Numerals.{add-one}
@@ -59,9 +59,9 @@ module _ (text : List ℕ) (from high : ℕ) where
   digits_start l = record { after = omega arith; inside = l; most = omega arith; none = λ x. refl; value = λ x. absurd (x refl) }
 
   module _ (n j : ℕ) (h : Digiting text from high n j) where
-    pub digits-on : j < length text → (c : ℕ) → c ≡ get_or text j 0 → 48 ≤ c → c ≤ 57 → 10 * n + (c - 48) ≤ high → (10 * n + (c - 48) ≡ 0 → ⊥)
+    pub digits_on : j < length text → (c : ℕ) → c ≡ get_or text j 0 → 48 ≤ c → c ≤ 57 → 10 * n + (c - 48) ≤ high → (10 * n + (c - 48) ≡ 0 → ⊥)
         → Digiting text from high (10 * n + (c - 48)) (j + 1)
-    digits-on l c same low top most some =
+    digits_on l c same low top most some =
         rw (add-one j) (record {
           after = omega (arith, h.after);
           inside = l;
@@ -90,8 +90,8 @@ module _ (text : List ℕ) (from high : ℕ) where
               rw grown (decimal_more 0 (part text from j) c ∙ ap (λ k. 10 * k + (c - 48)) v.2),
             )
 
-    pub digits-end : DigitsAt text from high (record { value = n; end = j })
-    digits-end = record { after = h.after; inside = h.inside; most = h.most; value = h.value }
+    pub digits_end : DigitsAt text from high (record { value = n; end = j })
+    digits_end = record { after = h.after; inside = h.inside; most = h.most; value = h.value }
 
-    pub no-digits : DigitsAt text from high (record { value = 0; end = j })
-    no-digits = record { after = h.after; inside = h.inside; most = omega arith; value = λ x. absurd (x refl) }
+    pub no_digits : DigitsAt text from high (record { value = 0; end = j })
+    no_digits = record { after = h.after; inside = h.inside; most = omega arith; value = λ x. absurd (x refl) }

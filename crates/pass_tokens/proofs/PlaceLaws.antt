@@ -1,5 +1,5 @@
 -- The answers of `places`.
---     no_head, head_symbol, head-list     the head of a formula
+--     no_head, head_symbol, head_list     the head of a formula
 --     not_sorted, sorted                  a variable of a quantifier's list
 --     not_bound, bound                    a variable of a let's list
 --     open_inside                         the byte after an opening bracket is in the text, or its end
@@ -45,9 +45,9 @@ module _ (symbols variables : ℕ) (text : List ℕ) (i : ℕ) where
     }
 
     -- a list opens at o, and its first variable at p
-    pub head-list : (o p : ℕ) → Blanks text r.end o → get_or text o 0 ≡ 40 → Blanks text (o + 1) p → get_or text p 0 ≡ 40 → (r.code ≡ 4 → ⊥)
+    pub head_list : (o p : ℕ) → Blanks text r.end o → get_or text o 0 ≡ 40 → Blanks text (o + 1) p → get_or text p 0 ≡ 40 → (r.code ≡ 4 → ⊥)
         → HeadAt symbols text i (token r.code r.number p)
-    head-list o p k a m d other =
+    head_list o p k a m d other =
         let rest = k.same ∙ (opens_at text o a).1 ∙ ap (λ xs. opens ∷ xs) m.same in
         let before : r.end < p = omega (arith, k.after, m.after) in
         record {

@@ -1,9 +1,9 @@
 -- Laws of runs of symbol characters.
 --     goes-high, .., goes_low         which bytes go on a run, by ranges, as `words::goes_on_lem` tests them
---     stops_past, stops-byte, ..      where a run ends
+--     stops_past, stops_byte, ..      where a run ends
 --     run_stands                      a run that stands in a text, and ends there
 --     part_cons                       a part of a text, by its first byte
---     match_start, match-on, matched  a part of a text that is a word, as `words::word_stands` compares them
+--     match_start, match_on, matched  a part of a text that is a word, as `words::word_stands` compares them
 use Prim.Native.Nat.{ℕ, suc, ◌+◌, ◌-◌, ◌≤◌, ◌<◌}
 use native.Mathlib.Omega.{arith}
 use mathlib.Core.Path.{◌≡◌, refl, sym, ap, ◌∙◌}
@@ -87,19 +87,19 @@ module _ (text : List ℕ) (j : ℕ) where
   stops_past l w h = past text j l (within w) ∙ ap (λ xs. word (word_of w) ∷ xs) (sym (past text j l between))
 
   module _ (l : j < length text) where
-    pub stops-byte : goes_on (get_or text j 0) ≡ false → RunStops text j
-    stops-byte e w h =
+    pub stops_byte : goes_on (get_or text j 0) ≡ false → RunStops text j
+    stops_byte e w h =
         let k = class_of (get_or text j 0) in
         step text j l (within w) ∙ stops w (get_or text j 0) k (drop (suc j) text) (ends_run (class_code k) (class_small k) e)
         ∙ ap (λ xs. word (word_of w) ∷ xs) (sym (step text j l between))
 
-    pub stops-closing : get_or text j 0 ≡ 41 → RunStops text j
+    pub stops_closing : get_or text j 0 ≡ 41 → RunStops text j
     unfolding class_code class_of
-    stops-closing e = stops-byte (rw e)
+    stops_closing e = stops_byte (rw e)
 
-    pub stops-space : get_or text j 0 ≡ 32 → RunStops text j
+    pub stops_space : get_or text j 0 ≡ 32 → RunStops text j
     unfolding class_code class_of
-    stops-space e = stops-byte (rw e)
+    stops_space e = stops_byte (rw e)
 
 -- ---- a run that stands in a text
 
@@ -177,8 +177,8 @@ module _ (text : List ℕ) (s : ℕ) (w : List ℕ) where
           ap (λ j. get_or text j 0) q ∙ e ∙ ap (λ j. get_or w j 0) (sym z)
 
   module _ (k : ℕ) (h : Matching text s w k) where
-    pub match-on : k < length w → get_or text (s + k) 0 ≡ get_or w k 0 → Matching text s w (k + 1)
-    match-on l e = record { fits = h.fits; inside = omega arith; same = below_more (λ m. get_or text (s + m) 0 ≡ get_or w m 0) k h.same e }
+    pub match_on : k < length w → get_or text (s + k) 0 ≡ get_or w k 0 → Matching text s w (k + 1)
+    match_on l e = record { fits = h.fits; inside = omega arith; same = below_more (λ m. get_or text (s + m) 0 ≡ get_or w m 0) k h.same e }
 
     pub matched : length w ≤ k → RunStops text (s + length w) → WordStands text s w
     matched l stop =

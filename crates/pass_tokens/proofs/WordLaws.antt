@@ -51,9 +51,9 @@ module _ (symbols variables : ℕ) (text : List ℕ) (s : ℕ) where
       })
 
   module _ (n e : ℕ) (l : s < e) (i : e ≤ length text) (small : n ≤ 4294967295) where
-    is-variable : (w : List ℕ) → lexemes_at text s ≡ word (name w) ∷ lexemes_at text e → variable_among variables w ≡ n → (n ≡ 0 → ⊥)
+    is_variable_lem : (w : List ℕ) → lexemes_at text s ≡ word (name w) ∷ lexemes_at text e → variable_among variables w ≡ n → (n ≡ 0 → ⊥)
         → WordAt symbols variables text s (token 3 n e)
-    is-variable w h m some = record {
+    is_variable_lem w h m some = record {
       after = omega arith;
       inside = i;
       small = small;
@@ -64,9 +64,9 @@ module _ (symbols variables : ℕ) (text : List ℕ) (s : ℕ) where
       sort = λ x. absurd (omega arith);
     }
 
-    is-symbol : (w : Word) → lexemes_at text s ≡ word w ∷ lexemes_at text e → ((t : ℕ) → t ≤ 1 → symbol_for symbols w t ≡ equal_on n t)
+    is_symbol_lem : (w : Word) → lexemes_at text s ≡ word w ∷ lexemes_at text e → ((t : ℕ) → t ≤ 1 → symbol_for symbols w t ≡ equal_on n t)
         → WordAt symbols variables text s (token 4 n e)
-    is-symbol w h m = record {
+    is_symbol_lem w h m = record {
       after = omega arith;
       inside = i;
       small = small;
@@ -77,9 +77,9 @@ module _ (symbols variables : ℕ) (text : List ℕ) (s : ℕ) where
       sort = λ x. absurd (omega arith);
     }
 
-    is-binder : (q : Binder) → lexemes_at text s ≡ word (quantifier q) ∷ lexemes_at text e → n ≡ number_of (binder q)
+    is_binder_lem : (q : Binder) → lexemes_at text s ≡ word (quantifier q) ∷ lexemes_at text e → n ≡ number_of (binder q)
         → WordAt symbols variables text s (token 5 n e)
-    is-binder q h m = record {
+    is_binder_lem q h m = record {
       after = omega arith;
       inside = i;
       small = small;
@@ -102,8 +102,8 @@ module _ (symbols variables : ℕ) (text : List ℕ) (s : ℕ) where
       sort = λ x. absurd (omega arith);
     }
 
-    is-sort : (o : SortWord) → lexemes_at text s ≡ word (sort o) ∷ lexemes_at text e → n ≡ sort_number o → WordAt symbols variables text s (token 7 n e)
-    is-sort o h m = record {
+    is_sort_lem : (o : SortWord) → lexemes_at text s ≡ word (sort o) ∷ lexemes_at text e → n ≡ sort_number o → WordAt symbols variables text s (token 7 n e)
+    is_sort_lem o h m = record {
       after = omega arith;
       inside = i;
       small = small;
@@ -121,27 +121,27 @@ module _ (symbols variables : ℕ) (text : List ℕ) (s : ℕ) where
 
   pub word_true : WordStands text s (bytes "true") → {r : Token} → r ≡ token 4 1 (s + 4) → WordAt symbols variables text s r
   unfolding bytes each class_code class_of word_of same_list symbol_for
-  word_true h e = rw e (is-symbol 1 (s + 4) (omega arith) h.inside (omega arith) (constant true) (line (bytes "true") h refl) (λ t o. refl))
+  word_true h e = rw e (is_symbol_lem 1 (s + 4) (omega arith) h.inside (omega arith) (constant true) (line (bytes "true") h refl) (λ t o. refl))
 
   pub word_false : WordStands text s (bytes "false") → {r : Token} → r ≡ token 4 2 (s + 5) → WordAt symbols variables text s r
   unfolding bytes each class_code class_of word_of same_list symbol_for
-  word_false h e = rw e (is-symbol 2 (s + 5) (omega arith) h.inside (omega arith) (constant false) (line (bytes "false") h refl) (λ t o. refl))
+  word_false h e = rw e (is_symbol_lem 2 (s + 5) (omega arith) h.inside (omega arith) (constant false) (line (bytes "false") h refl) (λ t o. refl))
 
   pub word_not : WordStands text s (bytes "not") → {r : Token} → r ≡ token 4 3 (s + 3) → WordAt symbols variables text s r
   unfolding bytes each class_code class_of word_of same_list symbol_for
-  word_not h e = rw e (is-symbol 3 (s + 3) (omega arith) h.inside (omega arith) negation (line (bytes "not") h refl) (λ t o. refl))
+  word_not h e = rw e (is_symbol_lem 3 (s + 3) (omega arith) h.inside (omega arith) negation (line (bytes "not") h refl) (λ t o. refl))
 
   pub word_and : WordStands text s (bytes "and") → {r : Token} → r ≡ token 4 4 (s + 3) → WordAt symbols variables text s r
   unfolding bytes each class_code class_of word_of same_list symbol_for
-  word_and h e = rw e (is-symbol 4 (s + 3) (omega arith) h.inside (omega arith) (connective conjunction) (line (bytes "and") h refl) (λ t o. refl))
+  word_and h e = rw e (is_symbol_lem 4 (s + 3) (omega arith) h.inside (omega arith) (connective conjunction) (line (bytes "and") h refl) (λ t o. refl))
 
   pub word_or : WordStands text s (bytes "or") → {r : Token} → r ≡ token 4 5 (s + 2) → WordAt symbols variables text s r
   unfolding bytes each class_code class_of word_of same_list symbol_for
-  word_or h e = rw e (is-symbol 5 (s + 2) (omega arith) h.inside (omega arith) (connective disjunction) (line (bytes "or") h refl) (λ t o. refl))
+  word_or h e = rw e (is_symbol_lem 5 (s + 2) (omega arith) h.inside (omega arith) (connective disjunction) (line (bytes "or") h refl) (λ t o. refl))
 
   pub word_implies : WordStands text s (bytes "=>") → {r : Token} → r ≡ token 4 6 (s + 2) → WordAt symbols variables text s r
   unfolding bytes each class_code class_of word_of same_list symbol_for
-  word_implies h e = rw e (is-symbol 6 (s + 2) (omega arith) h.inside (omega arith) (connective implication) (line (bytes "=>") h refl) (λ t o. refl))
+  word_implies h e = rw e (is_symbol_lem 6 (s + 2) (omega arith) h.inside (omega arith) (connective implication) (line (bytes "=>") h refl) (λ t o. refl))
 
   equal : (t : ℕ) → t ≤ 1 → symbol_for symbols (connective equality) t ≡ equal_on 7 t
   unfolding symbol_for
@@ -151,15 +151,15 @@ module _ (symbols variables : ℕ) (text : List ℕ) (s : ℕ) where
 
   pub word_equals : WordStands text s (bytes "=") → {r : Token} → r ≡ token 4 7 (s + 1) → WordAt symbols variables text s r
   unfolding bytes each class_code class_of word_of same_list
-  word_equals h e = rw e (is-symbol 7 (s + 1) (omega arith) h.inside (omega arith) (connective equality) (line (bytes "=") h refl) equal)
+  word_equals h e = rw e (is_symbol_lem 7 (s + 1) (omega arith) h.inside (omega arith) (connective equality) (line (bytes "=") h refl) equal)
 
   pub word_forall : WordStands text s (bytes "forall") → {r : Token} → r ≡ token 5 3 (s + 6) → WordAt symbols variables text s r
   unfolding bytes each class_code class_of word_of same_list
-  word_forall h e = rw e (is-binder 3 (s + 6) (omega arith) h.inside (omega arith) forAll (line (bytes "forall") h refl) refl)
+  word_forall h e = rw e (is_binder_lem 3 (s + 6) (omega arith) h.inside (omega arith) forAll (line (bytes "forall") h refl) refl)
 
   pub word_exists : WordStands text s (bytes "exists") → {r : Token} → r ≡ token 5 4 (s + 6) → WordAt symbols variables text s r
   unfolding bytes each class_code class_of word_of same_list
-  word_exists h e = rw e (is-binder 4 (s + 6) (omega arith) h.inside (omega arith) exists (line (bytes "exists") h refl) refl)
+  word_exists h e = rw e (is_binder_lem 4 (s + 6) (omega arith) h.inside (omega arith) exists (line (bytes "exists") h refl) refl)
 
   pub word_let : WordStands text s (bytes "let") → {r : Token} → r ≡ token 6 0 (s + 3) → WordAt symbols variables text s r
   unfolding bytes each class_code class_of word_of same_list
@@ -167,11 +167,11 @@ module _ (symbols variables : ℕ) (text : List ℕ) (s : ℕ) where
 
   pub word_bool : WordStands text s (bytes "Bool") → {r : Token} → r ≡ token 7 0 (s + 4) → WordAt symbols variables text s r
   unfolding bytes each class_code class_of word_of same_list sort_number
-  word_bool h e = rw e (is-sort 0 (s + 4) (omega arith) h.inside (omega arith) bool (line (bytes "Bool") h refl) refl)
+  word_bool h e = rw e (is_sort_lem 0 (s + 4) (omega arith) h.inside (omega arith) bool (line (bytes "Bool") h refl) refl)
 
   pub word_item : WordStands text s (bytes "Item") → {r : Token} → r ≡ token 7 1 (s + 4) → WordAt symbols variables text s r
   unfolding bytes each class_code class_of word_of same_list sort_number
-  word_item h e = rw e (is-sort 1 (s + 4) (omega arith) h.inside (omega arith) item (line (bytes "Item") h refl) refl)
+  word_item h e = rw e (is_sort_lem 1 (s + 4) (omega arith) h.inside (omega arith) item (line (bytes "Item") h refl) refl)
 
 -- ---- a letter and a numeral
 
@@ -235,7 +235,7 @@ module _ (symbols variables : ℕ) (text : List ℕ) (s : ℕ) (n : Digits) (i :
   unfolding class_code class_of
   word_variable c h l some e =
       let v = h.value some in
-      rw e (is-variable symbols variables text s n.value n.end (omega (arith, h.after)) h.inside (omega (arith, h.most))
+      rw e (is_variable_lem symbols variables text s n.value n.end (omega (arith, h.after)) h.inside (omega (arith, h.most))
       (118 ∷ part text (s + 1) n.end) (named text s variables n h i some stop 118 c refl)
       (within_is 118 1 variables (part text (s + 1) n.end) n.value refl v.1 v.2 (omega arith) h.most) some)
 
@@ -245,7 +245,7 @@ module _ (symbols variables : ℕ) (text : List ℕ) (s : ℕ) (n : Digits) (i :
   word_name c h l low e =
       let some : n.value ≡ 0 → ⊥ = λ x. omega arith in
       let v = h.value some in
-      rw e (is-symbol symbols variables text s n.value n.end (omega (arith, h.after)) h.inside (omega (arith, h.most))
+      rw e (is_symbol_lem symbols variables text s n.value n.end (omega (arith, h.after)) h.inside (omega (arith, h.most))
       (name (102 ∷ part text (s + 1) n.end)) (named text s (32 + symbols) n h i some stop 102 c refl)
       (λ t o. within_is 102 33 (32 + symbols) (part text (s + 1) n.end) n.value refl v.1 v.2 low h.most ∙ other t))
     where

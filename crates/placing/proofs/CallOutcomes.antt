@@ -1,16 +1,16 @@
 -- The outcome of each opener and closer, by the outcomes of its calls. In each law w and c are what the call before left.
---     add_asks, fixed-asks, variable_asks, application_asks, binder_asks, let_asks, fresh_asks     where a call was done: ready for more, and
+--     add_asks, fixed_asks, variable_asks, application_asks, binder_asks, let_asks, fresh_asks     where a call was done: ready for more, and
 --                                                its number is a word
 --     no_list                                    the list of no value
---     step-on, context-on, term_on               a step, a context, a term after its list
+--     step_on, context_on, term_on               a step, a context, a term after its list
 --     step_full, context_full, term_full         the same where the list was full
 --     found_is, new_is, plain_is                 a term that the lookup found; one that it did not find, and one of those with no list
 --     let_on, let_full                           a let after its list of variables; the same where that was full
 --     concluded_on, concluded_full               a step after a term; the same where the term was full
 --     leaf_own, leaf_gives                       the visit to a variable, by its image
 --     fresh_on, variable_full                    the term of a new variable; where there was no room for the variable
---     fixed_full, listed-full, opened-on         the contexts of a quantifier, by its calls
---     binder_full, binder-over, binder-on        what a quantifier opens: no room for its term, none for its contexts, room
+--     fixed_full, listed_full, opened_on         the contexts of a quantifier, by its calls
+--     binder_full, binder_over, binder_on        what a quantifier opens: no room for its term, none for its contexts, room
 --     binder_of                                  the binder of a kind
 use mathlib.Core.Path.{◌≡◌, refl, sym, ap, subst, ◌∙◌}
 use mathlib.Core.Bool.{Bool, true}
@@ -67,15 +67,15 @@ module _ {b : Bundle} {vs w : List ℕ} {a : Recorded} {c : Counts} {s : ℕ} (o
   add_asks = let k = add_done o e in (k.0.ready, omega (arith, k.1, start_word w c b vs k.0))
 
   module _ {w' : List ℕ} where
-    pub step-on : {r : Visited} (u x l t : ℕ) → VisitOutcome (stepped (bundle_in w c) u x l t s) w' r → VisitOutcome (concluded b u x l t vs) w' r
-    step-on {r} u x l t h =
+    pub step_on : {r : Visited} (u x l t : ℕ) → VisitOutcome (stepped (bundle_in w c) u x l t s) w' r → VisitOutcome (concluded b u x l t vs) w' r
+    step_on {r} u x l t h =
         let k = add_done o e in
         subst (λ (n : ℕ). VisitOutcome (stepped (add_list b vs) u x l t n) w' r) k.1
         (subst (λ (B : Bundle). VisitOutcome (stepped B u x l t s) w' r) k.0.bundle h)
 
-    pub context-on : {r : Recorded} (x p : ℕ) → OpenOutcome (opened (bundle_in w c) (record { kind = 2; a = x; b = s; parent = p })) w' r
+    pub context_on : {r : Recorded} (x p : ℕ) → OpenOutcome (opened (bundle_in w c) (record { kind = 2; a = x; b = s; parent = p })) w' r
         → OpenOutcome (replacing b x p vs) w' r
-    context-on {r} x p h =
+    context_on {r} x p h =
         let k = add_done o e in
         subst (λ (n : ℕ). OpenOutcome (opened (add_list b vs) (record { kind = 2; a = x; b = n; parent = p })) w' r) k.1
         (subst (λ (B : Bundle). OpenOutcome (opened B (record { kind = 2; a = x; b = s; parent = p })) w' r) k.0.bundle h)
@@ -183,8 +183,8 @@ module _ (b : Bundle) (y v : ℕ) {w : List ℕ} {a : Recorded} (o : OpenOutcome
   fixed_full e x t = OpenOutcome.full (longer_over (fixed_longer b x y t v) (open_full o e)) refl
 
   module _ {c : Counts} {i : ℕ} (e : a ≡ Recorded.Done c i) where
-    pub fixed-asks : Ready w c × (i ≤ 4294967295)
-    fixed-asks =
+    pub fixed_asks : Ready w c × (i ≤ 4294967295)
+    fixed_asks =
         let k = open_done o e in (
           k.0.ready,
           omega (
@@ -199,15 +199,15 @@ module _ (b : Bundle) (y v : ℕ) {w : List ℕ} {a : Recorded} (o : OpenOutcome
 
     -- w₂, d and s are what the list of x left
     module _ (x t : ℕ) {w₂ : List ℕ} {g : Recorded} (h : AddOutcome (bundle_in w c) (x ∷ []) w₂ g) {w' : List ℕ} where
-      pub listed-full : g ≡ Recorded.Full → OpenOutcome (renaming b x y t v) w' Recorded.Full
-      listed-full z =
+      pub listed_full : g ≡ Recorded.Full → OpenOutcome (renaming b x y t v) w' Recorded.Full
+      listed_full z =
           OpenOutcome.full
           (longer_over (listed_longer b x y t v) (subst (λ (B : Bundle). TooMuch (add_list B (x ∷ []))) (open_done o e).0.bundle (add_full h z)))
           refl
 
-      pub opened-on : {d : Counts} {s : ℕ} → g ≡ Recorded.Done d s → {r : Recorded} → OpenOutcome (replacing (bundle_in w₂ d) s i (t ∷ [])) w' r
+      pub opened_on : {d : Counts} {s : ℕ} → g ≡ Recorded.Done d s → {r : Recorded} → OpenOutcome (replacing (bundle_in w₂ d) s i (t ∷ [])) w' r
           → OpenOutcome (renaming b x y t v) w' r
-      opened-on {d} {s} z {r} q =
+      opened_on {d} {s} z {r} q =
           let k = open_done o e in
           let l = add_done h z in
           let f : unlimited.OpenedContext = fixing b y v in
@@ -230,11 +230,11 @@ module _ (b : Bundle) (x v : ℕ) {w : List ℕ} {a : Recorded} (o : PlaceOutcom
           let k = place_done o e in
           subst (λ (r : unlimited.OpenedContext). OpenOutcome r w' g) (λ i. renaming (k.0.bundle i) x (new i) (k.1 i) v) q
 
-      pub binder-over : g ≡ Recorded.Full → BinderOutcome (open_binder b x v) w' Opened.Full
-      binder-over z = BinderOutcome.full (open_full renamed z) refl
+      pub binder_over : g ≡ Recorded.Full → BinderOutcome (open_binder b x v) w' Opened.Full
+      binder_over z = BinderOutcome.full (open_full renamed z) refl
 
-      pub binder-on : {d : Counts} {n : ℕ} → g ≡ Recorded.Done d n → BinderOutcome (open_binder b x v) w' (Opened.Done d n y)
-      binder-on z = go renamed z
+      pub binder_on : {d : Counts} {n : ℕ} → g ≡ Recorded.Done d n → BinderOutcome (open_binder b x v) w' (Opened.Done d n y)
+      binder_on z = go renamed z
         where
           go : {d : Counts} {n : ℕ} → OpenOutcome (renaming (fresh b x).bundle x (new_variable b) (fresh b x).term v) w' g → g ≡ Recorded.Done d n
               → BinderOutcome (open_binder b x v) w' (Opened.Done d n y)

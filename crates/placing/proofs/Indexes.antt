@@ -1,7 +1,7 @@
 -- The index after each opener and closer: where it was done, the index holds all terms again.
 --     place_holds, list_holds                    nothing was appended
 --     full_visit, full_record, full_binder, full_list     the call was full: nothing is said
---     list-indexed, variable_indexed, step-indexed, leaf-indexed, let-indexed, renaming-indexed     no term was appended
+--     list_indexed, variable_indexed, step_indexed, leaf_indexed, let_indexed, renaming_indexed     no term was appended
 --     plain_filed, application_filed, list_filed, let_filed, term_indexed     a term was: its digest stays, and it was filed
 use mathlib.Core.Path.{◌≡◌, refl, sym, ap, ap₂, ◌∙◌, subst}
 use mathlib.Core.List.{List, [], ◌∷◌}
@@ -13,7 +13,7 @@ use Rattle.bundle.specs.Bundle.{Bundle, TermRecord, term_of}
 use Rattle.bundle.specs.Limits.{limits}
 use Rattle.bundle.specs.Filed.{digests}
 use Rattle.logic.specs.Longer.{Longer, with_variables, with_terms, add_list, list_start}
-use Rattle.logic.proofs.Longer.{longer_trans, list_longer, variables_longer, terms_longer, term-added}
+use Rattle.logic.proofs.Longer.{longer_trans, list_longer, variables_longer, terms_longer, term_added}
 use Rattle.scratch.specs.Scratch.{bundle_in}
 use Rattle.filing.specs.Filing.{mix_all, root_digest, let_digest, lookup_digest, Digested, Indexed}
 use Rattle.filing.proofs.Filed.{plain_digested, application_digested, let_digested, filed_on, filed_longer, indexed_on}
@@ -24,7 +24,7 @@ use Rattle.placing.specs.declared.Opened.{Opened}
 use Rattle.expansion.specs.Nodes.{leaf}
 use Rattle.expansion.specs.Visit.{concluded, replacing, renaming, visit}
 use Rattle.placing.specs.Outcomes.{VisitOutcome, OpenOutcome, AddOutcome, VisitIndexed, RecordIndexed, BinderIndexed, ListIndexed}
-use Rattle.expansion.proofs.Grown.{concluded_longer, replacing_longer, renaming_longer, visit-longer}
+use Rattle.expansion.proofs.Grown.{concluded_longer, replacing_longer, renaming_longer, visit_longer}
 use Rattle.placing.proofs.ScratchOutcomes.{add_done}
 use Rattle.placing.proofs.OutcomeFacts.{visit_done, open_done}
 
@@ -64,22 +64,22 @@ module _ {b : Bundle} {ix : List ℕ} (indexed : Indexed b ix) where
   variable_indexed w c s e = still w c (variables_longer b (s ∷ [])) refl e
 
   module _ {w : List ℕ} where
-    pub list-indexed : {vs : List ℕ} {a : Recorded} {c : Counts} {s : ℕ} → AddOutcome b vs w a → a ≡ Recorded.Done c s → Indexed (bundle_in w c) ix
-    list-indexed {vs} {a} {c} o e = still w c (list_longer b vs) refl (add_done o e).0.bundle
+    pub list_indexed : {vs : List ℕ} {a : Recorded} {c : Counts} {s : ℕ} → AddOutcome b vs w a → a ≡ Recorded.Done c s → Indexed (bundle_in w c) ix
+    list_indexed {vs} {a} {c} o e = still w c (list_longer b vs) refl (add_done o e).0.bundle
 
-    pub step-indexed : {r : Visited} (u x l t : ℕ) (vs : List ℕ) → VisitOutcome (concluded b u x l t vs) w r → VisitIndexed w ix r
-    step-indexed u x l t vs o = record { held = λ c n s e. still w c (concluded_longer b u x l t vs) refl (visit_done o e).now.bundle }
+    pub step_indexed : {r : Visited} (u x l t : ℕ) (vs : List ℕ) → VisitOutcome (concluded b u x l t vs) w r → VisitIndexed w ix r
+    step_indexed u x l t vs o = record { held = λ c n s e. still w c (concluded_longer b u x l t vs) refl (visit_done o e).now.bundle }
 
-    pub leaf-indexed : {r : Visited} (t y x : ℕ) → VisitOutcome (visit (leaf t y) x b) w r → VisitIndexed w ix r
+    pub leaf_indexed : {r : Visited} (t y x : ℕ) → VisitOutcome (visit (leaf t y) x b) w r → VisitIndexed w ix r
     unfolding visit
-    leaf-indexed t y x o = record { held = λ c n s e. still w c (visit-longer (leaf t y) x b) refl (visit_done o e).now.bundle }
+    leaf_indexed t y x o = record { held = λ c n s e. still w c (visit_longer (leaf t y) x b) refl (visit_done o e).now.bundle }
 
-    pub let-indexed : {r : Recorded} (x p : ℕ) (vs : List ℕ) → OpenOutcome (replacing b x p vs) w r → RecordIndexed w ix r
-    let-indexed x p vs o = record { held = λ c n e. still w c (replacing_longer b x p vs) refl (open_done o e).now.bundle }
+    pub let_indexed : {r : Recorded} (x p : ℕ) (vs : List ℕ) → OpenOutcome (replacing b x p vs) w r → RecordIndexed w ix r
+    let_indexed x p vs o = record { held = λ c n e. still w c (replacing_longer b x p vs) refl (open_done o e).now.bundle }
 
-    pub renaming-indexed : {g : Recorded} {d : Counts} {m : ℕ} (x y t v : ℕ) → OpenOutcome (renaming b x y t v) w g → g ≡ Recorded.Done d m
+    pub renaming_indexed : {g : Recorded} {d : Counts} {m : ℕ} (x y t v : ℕ) → OpenOutcome (renaming b x y t v) w g → g ≡ Recorded.Done d m
         → BinderIndexed w ix (Opened.Done d m y)
-    renaming-indexed {d = d} x y t v o k = record {
+    renaming_indexed {d = d} x y t v o k = record {
       held = λ c n z e. same_counts w (cc) (still w d (renaming_longer b x y t v) refl (open_done o k).now.bundle);
     }
 
@@ -116,7 +116,7 @@ term_indexed {b} {ix} indexed r d digested small room {t} next w c e {ix'} f =
     let b' : Bundle = with_terms b (r ∷ []) in
     let longer : Longer b b' = terms_longer b (r ∷ []) in
     let own : (B : Bundle) → Longer b' B → lookup_digest B (term_of B t) ≡ d =
-    λ B more. ap (λ (n : ℕ). lookup_digest B (term_of B n)) next ∙ ap (lookup_digest B) (term-added b r more) ∙ digested B (longer_trans longer more) in
+    λ B more. ap (λ (n : ℕ). lookup_digest B (term_of B n)) next ∙ ap (lookup_digest B) (term_added b r more) ∙ digested B (longer_trans longer more) in
     let all : length b'.terms ≡ t = omega (arith, length-append b.terms (r ∷ [])) in
     let filed = filed_on b' ix (length b.terms) d (filed_longer longer indexed) t (length b'.terms) next all own small (omega arith) in
     subst (λ (B : Bundle). Indexed B ix') (sym e) (subst (Indexed b') (sym f) filed)

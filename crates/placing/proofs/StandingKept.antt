@@ -1,5 +1,5 @@
 -- What the code of the visits goes by: numbers that stand for nodes, and what each visit adds.
---     stands_on, stand-all-on     numbers that stand for nodes do so in longer bundles
+--     stands_on, stand_all_on     numbers that stand for nodes do so in longer bundles
 --     ended_by_lem                    every visit ends with a step, appended to a longer bundle
 --     visit_ends                  so it adds a step, the last one, whose right side is the result
 --     visit_all_steps              a visit to a list adds at least as many steps as it has results
@@ -20,9 +20,9 @@ use Rattle.logic.specs.Contexts.{image}
 use Rattle.logic.specs.Longer.{Longer, add_list, list_start}
 use Rattle.logic.proofs.Longer.{prefix_at, longer_refl, longer_trans, sizes}
 use Rattle.expansion.specs.Nodes.{Node, Nodes, leaf, node, scope, block, nil, cons}
-use Rattle.expansion.specs.Visit.{Visit, Visits, visit, visitAll, concluded, OpenedContext, open_binder, replacing, fixing, fresh, new_variable, image_term}
+use Rattle.expansion.specs.Visit.{Visit, Visits, visit, visit_all, concluded, OpenedContext, open_binder, replacing, fixing, fresh, new_variable, image_term}
 use Rattle.placing.specs.Outcomes.{Stands, StandAll}
-use Rattle.expansion.proofs.Grown.{application_longer, binder_longer, concluded_longer, replacing_longer, open_longer, visit-longer, visitAll-longer}
+use Rattle.expansion.proofs.Grown.{application_longer, binder_longer, concluded_longer, replacing_longer, open_longer, visit_longer, visit_all_longer}
 
 -- ---- numbers that stand for nodes
 
@@ -47,7 +47,7 @@ module _ {b b' : Bundle} (longer : Longer b b') where
         (h.0, term_on t h.1, k.0, k.1)
     stands_on (node n f ns) t h =
         let k = subst (λ (r : TermRecord). (r.kind ≡ 2) × (r.a ≡ f) × StandAll b' t r.b ns) (term_same t h.1)
-        (h.2, h.3, stand-all-on ns t (term_of b t).b h.4) in
+        (h.2, h.3, stand_all_on ns t (term_of b t).b h.4) in
         (h.0, term_on t h.1, k.0, k.1, k.2)
     stands_on (scope n q x u) t h =
         let k = subst (λ (r : TermRecord). (r.kind ≡ number_of (binder q)) × (r.a ≡ x) × (r.b < t) × Stands b' r.b u) (term_same t h.1)
@@ -55,16 +55,16 @@ module _ {b b' : Bundle} (longer : Longer b b') where
         (h.0, term_on t h.1, k.0, k.1, k.2, k.3)
     stands_on (block n s vs ns u) t h =
         let k = subst (λ (r : TermRecord). (r.kind ≡ 5) × (r.a ≡ s) × StandAll b' t r.b ns × (r.c < t) × Stands b' r.c u) (term_same t h.1)
-        (h.2, h.3, stand-all-on ns t (term_of b t).b h.4, h.5, stands_on u (term_of b t).c h.6) in
+        (h.2, h.3, stand_all_on ns t (term_of b t).b h.4, h.5, stands_on u (term_of b t).c h.6) in
         (h.0, term_on t h.1, k.0, k.1, k.2, k.3, k.4)
 
-    pub stand-all-on : (ns : Nodes) (o l : ℕ) → StandAll b o l ns → StandAll b' o l ns
-    stand-all-on nil o l h = h
-    stand-all-on (cons τ ns) o l h =
+    pub stand_all_on : (ns : Nodes) (o l : ℕ) → StandAll b o l ns → StandAll b' o l ns
+    stand_all_on nil o l h = h
+    stand_all_on (cons τ ns) o l h =
         let k = subst
         (λ (r : Link). (r.value < o) × ((r.next ≡ 0) ⊎ ((l < r.next) × (r.next ≤ length b'.links))) × Stands b' r.value τ
         × StandAll b' o r.next ns)
-        (link_same l h.0) (h.1, order_on h.2, stands_on τ (link_of b l).value h.3, stand-all-on ns o (link_of b l).next h.4) in
+        (link_same l h.0) (h.1, order_on h.2, stands_on τ (link_of b l).value h.3, stand_all_on ns o (link_of b l).next h.4) in
         ((h.0.0, omega (arith, h.0.1, (sizes longer).links)), k.0, k.1, k.2, k.3)
 
 -- ---- every visit ends with a step
@@ -74,21 +74,21 @@ module _ (b : Bundle) (P : Visit → Type 0) (end : (base : Bundle) (k c l r : �
   unfolding visit
   ended_by_lem (leaf t x) c = end b 1 c t (image_term (image b c x) t) [] (longer_refl b)
   ended_by_lem (node t f ns) c =
-      let v : Visits = visitAll ns c b in
-      end _ 2 c t _ v.steps (longer_trans (visitAll-longer ns c b) (application_longer v.bundle f v.results))
+      let v : Visits = visit_all ns c b in
+      end _ 2 c t _ v.steps (longer_trans (visit_all_longer ns c b) (application_longer v.bundle f v.results))
   ended_by_lem (scope t q x u) c =
       let o = open_binder b x c in
       let v : Visit = visit u o.context o.bundle in
       end _ 4 c t _ (v.step ∷ [])
       (longer_trans (open_longer b x c)
-      (longer_trans (visit-longer u o.context o.bundle) (binder_longer v.bundle q o.variable v.result)))
+      (longer_trans (visit_longer u o.context o.bundle) (binder_longer v.bundle q o.variable v.result)))
   ended_by_lem (block t s vs ns u) c =
-      let v : Visits = visitAll ns c b in
+      let v : Visits = visit_all ns c b in
       let o = replacing v.bundle s c v.results in
       let w : Visit = visit u o.context o.bundle in
       end w.bundle 5 c t w.result (v.steps ++ (w.step ∷ []))
-      (longer_trans (visitAll-longer ns c b)
-      (longer_trans (replacing_longer v.bundle s c v.results) (visit-longer u o.context o.bundle)))
+      (longer_trans (visit_all_longer ns c b)
+      (longer_trans (replacing_longer v.bundle s c v.results) (visit_longer u o.context o.bundle)))
 
 pub record Ends (b : Bundle) (v : Visit) : Type 0 where
   pub more : length b.steps < length v.bundle.steps
@@ -107,7 +107,7 @@ visit_ends τ c b = ended_by_lem b (Ends b) end τ c
           right = ap (λ (s : Step). s.right) (get_or-append_seam base.steps _ [] no_step);
         }
 
-pub visit_all_steps : (ns : Nodes) (c : ℕ) (b : Bundle) → length b.steps + length (visitAll ns c b).results ≤ length (visitAll ns c b).bundle.steps
+pub visit_all_steps : (ns : Nodes) (c : ℕ) (b : Bundle) → length b.steps + length (visit_all ns c b).results ≤ length (visit_all ns c b).bundle.steps
 unfolding visit
 visit_all_steps nil c b = omega arith
 visit_all_steps (cons τ ns) c b = omega (arith, (visit_ends τ c b).more, visit_all_steps ns c (visit τ c b).bundle)
@@ -129,10 +129,10 @@ open_context b x c =
 
 -- the context that a let opens, once its bound terms are visited
 abbrev pub opening : Bundle → (s c : ℕ) → Nodes → OpenedContext
-opening b s c ns = replacing (visitAll ns c b).bundle s c (visitAll ns c b).results
+opening b s c ns = replacing (visit_all ns c b).bundle s c (visit_all ns c b).results
 
-pub opening_longer : (b : Bundle) (s c : ℕ) (ns : Nodes) → Longer (visitAll ns c b).bundle (opening b s c ns).bundle
-opening_longer b s c ns = replacing_longer (visitAll ns c b).bundle s c (visitAll ns c b).results
+pub opening_longer : (b : Bundle) (s c : ℕ) (ns : Nodes) → Longer (visit_all ns c b).bundle (opening b s c ns).bundle
+opening_longer b s c ns = replacing_longer (visit_all ns c b).bundle s c (visit_all ns c b).results
 
 module _ (t c : ℕ) (b : Bundle) where
   pub scope_longer : (q : Binder) (x : ℕ) (u : Node)
@@ -143,21 +143,21 @@ module _ (t c : ℕ) (b : Bundle) where
       let v : Visit = visit u o.context o.bundle in
       longer_trans (binder_longer v.bundle q o.variable v.result) (concluded_longer _ 4 c t _ (v.step ∷ []))
 
-  pub node_longer : (f : ℕ) (ns : Nodes) → Longer (visitAll ns c b).bundle (visit (node t f ns) c b).bundle
+  pub node_longer : (f : ℕ) (ns : Nodes) → Longer (visit_all ns c b).bundle (visit (node t f ns) c b).bundle
   unfolding visit
   node_longer f ns =
-      let v : Visits = visitAll ns c b in
+      let v : Visits = visit_all ns c b in
       longer_trans (application_longer v.bundle f v.results) (concluded_longer _ 2 c t _ v.steps)
 
   pub body_longer : (s : ℕ) (vs : List ℕ) (ns : Nodes) (u : Node)
       → Longer (visit u (opening b s c ns).context (opening b s c ns).bundle).bundle (visit (block t s vs ns u) c b).bundle
   unfolding visit
   body_longer s vs ns u =
-      let v : Visits = visitAll ns c b in
+      let v : Visits = visit_all ns c b in
       let o = replacing v.bundle s c v.results in
       let w : Visit = visit u o.context o.bundle in
       concluded_longer w.bundle 5 c t w.result (v.steps ++ (w.step ∷ []))
 
   pub block_longer : (s : ℕ) (vs : List ℕ) (ns : Nodes) (u : Node)
       → Longer (opening b s c ns).bundle (visit (block t s vs ns u) c b).bundle
-  block_longer s vs ns u = longer_trans (visit-longer u (opening b s c ns).context (opening b s c ns).bundle) (body_longer s vs ns u)
+  block_longer s vs ns u = longer_trans (visit_longer u (opening b s c ns).context (opening b s c ns).bundle) (body_longer s vs ns u)

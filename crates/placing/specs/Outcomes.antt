@@ -15,7 +15,7 @@ use Rattle.placing.specs.declared.Listed.{Listed}
 use Rattle.placing.specs.declared.Recorded.{Recorded}
 use Rattle.placing.specs.declared.Opened.{Opened}
 use Rattle.expansion.specs.Nodes.{Node, Nodes, leaf, node, scope, block, nil, cons}
-use Rattle.expansion.specs.Visit.{Visit, Visits, visit, visitAll}
+use Rattle.expansion.specs.Visit.{Visit, Visits, visit, visit_all}
 use Rattle.expansion.specs.Placed.{PlacedTerm}
 use Rattle.expansion.specs.Visit as unlimited
 use Rattle.expansion.specs.File.{counts_in}
@@ -131,4 +131,4 @@ pub record ListAsks (w s : List ℕ) (c : Counts) (Γ h o l : ℕ) : Type 0 wher
 pub record ListGives (w s : List ℕ) (c : Counts) (Γ h o l : ℕ) (w' s' : List ℕ) (r : Listed) : Type 0 where
   pub long : length w' ≡ length w
   pub kept : StackKept s s' h
-  pub outcome : (ns : Nodes) → StandAll (bundle_in w c) o l ns → ListOutcome (visitAll ns Γ (bundle_in w c)) h w' s' r
+  pub outcome : (ns : Nodes) → StandAll (bundle_in w c) o l ns → ListOutcome (visit_all ns Γ (bundle_in w c)) h w' s' r

@@ -1,6 +1,6 @@
 -- Earlier steps, of the file or of the bed.
 --     taken_step                            a step of the file
---     taken_file, taken-bed, taken_none     a field of a step of the file, of the bed, of neither
+--     taken_file, taken_bed, taken_none     a field of a step of the file, of the bed, of neither
 use mathlib.Core.Path.{◌≡◌, refl, ap, ◌∙◌}
 use mathlib.Core.List.{List}
 use Prim.Native.Nat.{ℕ, suc, ◌+◌, ◌*◌, ◌-◌, ◌/◌, ◌≤◌, ◌<◌}
@@ -31,8 +31,8 @@ module _ (f : List ℕ) (c : Counts) (bed : List ℕ) (p k : ℕ) where
         let e : p ≡ suc (length (bundle_at f c).steps + (p - c.steps - 1)) = omega (arith, steps_length f c) in
         ap (step_in (bundle_at f c) bed) e ∙ get_or-append-add (bundle_at f c).steps (bed_steps bed) (p - c.steps - 1) no_step
 
-    pub taken-bed : p - c.steps - 1 < length bed / 5 → step_field (step_in (bundle_at f c) bed p) k ≡ get_or bed (5 * (p - c.steps - 1) + k) 0
-    taken-bed l =
+    pub taken_bed : p - c.steps - 1 < length bed / 5 → step_field (step_in (bundle_at f c) bed p) k ≡ get_or bed (5 * (p - c.steps - 1) + k) 0
+    taken_bed l =
         let j : ℕ = p - c.steps - 1 in
         ap (λ (s : Step). step_field s k) (past ∙ tab_at _ (length bed / 5) j no_step l)
         ∙ step_word (record_by (λ n. get_or bed n 0) 0 5 j) k few ∙ ap (λ (n : ℕ). get_or bed (n + k) 0) (zero-add (5 * j))

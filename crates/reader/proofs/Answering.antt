@@ -1,8 +1,8 @@
 -- The answer to a text, as the code comes to it.
 --     refused_declared                        a check of the declarations fails
 --     formed, areas_long, declared_whole      none does: what is known then, of the file, the areas and the counts that the code has read
---     copied-formed, copied-ready             the declarations copied into the scratch are ready for more records
---     refused-text                            19, 20 or 8
+--     copied_formed, copied_ready             the declarations copied into the scratch are ready for more records
+--     refused_text                            19, 20 or 8
 --     Settled, settled, read_as               none of them: the text is read as φ
 --     refused_records                         16
 --     Held, held_done, held_ready             the records are in the scratch
@@ -45,7 +45,7 @@ use Rattle.grammar.specs.Names.{names, Resolved, resolved, unread_at, unknown_at
 use Rattle.grammar.proofs.NamesExact.{resolved_exactly}
 use Rattle.reading.specs.Called.{known_in}
 use Rattle.reading.specs.Typing.{Typed, only}
-use Rattle.reading.specs.Local.{headSort, fine, plain, typed}
+use Rattle.reading.specs.Local.{head_sort, fine, plain, typed}
 use Rattle.reading.specs.WellSorted.{WellSorted}
 use Rattle.reading.specs.Records.{file}
 use Rattle.reading.specs.Reader.{Answer, job, refused, job_of, fitting_job, sorted_job, answer_of, read_text}
@@ -54,7 +54,7 @@ use Rattle.reading.specs.Reading.{declarations_fault, answer_after, leaves, read
 use Rattle.reading.specs.Demands.{DeclarationsFormed}
 use Rattle.reader.specs.Texts.{is_bool, text_fault}
 use Rattle.reader.specs.Storing.{Declared}
-use Rattle.reading.proofs.LocalSorts.{sorts-local}
+use Rattle.reading.proofs.LocalSorts.{sorts_local}
 use Rattle.reading.proofs.TypingExactly.{typing_exactly}
 use Rattle.reading.proofs.Answers.{names_exactly, answers_exactly}
 use Rattle.reading.proofs.ReadOrder.{declarations_exactly}
@@ -64,9 +64,9 @@ use Rattle.reading.proofs.Jobs.{declared_checked, job_filed}
 
 well_sorted : (b : Bundle) (φ : Formula) → is_bool b φ ≡ true → WellSorted b φ truth_sort
 well_sorted b φ e =
-    let tests : fine b φ ≡ true = and_left (fine b φ) (eqb (headSort b φ) truth_sort) e in
-    let bool : headSort b φ ≡ truth_sort = eqb-true (headSort b φ) truth_sort (and_right (fine b φ) (eqb (headSort b φ) truth_sort) e) in
-    subst (WellSorted b φ) bool ((typing_exactly b φ (typed b φ)).0 (sorts-local b φ ∙ ap (λ (p : Bool). only p (typed b φ)) tests)).0
+    let tests : fine b φ ≡ true = and_left (fine b φ) (eqb (head_sort b φ) truth_sort) e in
+    let bool : head_sort b φ ≡ truth_sort = eqb-true (head_sort b φ) truth_sort (and_right (fine b φ) (eqb (head_sort b φ) truth_sort) e) in
+    subst (WellSorted b φ) bool ((typing_exactly b φ (typed b φ)).0 (sorts_local b φ ∙ ap (λ (p : Bool). only p (typed b φ)) tests)).0
 
 module _ (b : Bundle) where
   sorted_by : (p : Bool) (t : Typed) → sorted_job b (only p t) ≡ cond (p && eqb t.sort truth_sort) (fitting_job (file t.term b)) (refused 8 0)
@@ -76,7 +76,7 @@ module _ (b : Bundle) where
 
   by_fault : (r : Resolved) → ((text_fault b r).number ≡ 0 → ⊥) → answer_of b r ≡ refused (text_fault b r).number (text_fault b r).«record»
   unfolding answer_of text_fault
-  by_fault (resolved φ) ne = ap (sorted_job b) (sorts-local b φ) ∙ sorted_by (fine b φ) (typed b φ) ∙ go (is_bool b φ) ne
+  by_fault (resolved φ) ne = ap (sorted_job b) (sorts_local b φ) ∙ sorted_by (fine b φ) (typed b φ) ∙ go (is_bool b φ) ne
     where
       go : (p : Bool) → ((cond p (fault 0 0) (fault 8 0)).number ≡ 0 → ⊥)
           → cond p (fitting_job (filed_for b φ)) (refused 8 0) ≡ refused (cond p (fault 0 0) (fault 8 0)).number (cond p (fault 0 0) (fault 8 0)).«record»
@@ -125,19 +125,19 @@ module _ {f : List ℕ} {out words sets : ℕ} {c : Counts} (declared : Declared
     pub copied_is : bundle_in w c ≡ bundle_of f
     copied_is = copied ∙ bundle_is f declared.counted
 
-    pub copied-formed : TablesFormed (bundle_in w c)
-    copied-formed = rw copied_is (declared_checked f formed).formed.tables
+    pub copied_formed : TablesFormed (bundle_in w c)
+    copied_formed = rw copied_is (declared_checked f formed).formed.tables
 
-    pub copied-ready : length w ≡ words → Ready w c
-    copied-ready long = record {
+    pub copied_ready : length w ≡ words → Ready w c
+    copied_ready long = record {
       room = record { within = declared_whole.within; long = omega (arith, areas_long.scratch, long) };
       version = ap (λ (k : Counts). k.version) declared.counted ∙ formed.header.version;
     }
 
   module _ (text : List ℕ) where
-    reading-is : reading f text out words sets ≡ leaves (read_text (bundle_of f) text) out words sets
+    reading_is : reading f text out words sets ≡ leaves (read_text (bundle_of f) text) out words sets
     unfolding reading answer_after
-    reading-is = go (declarations_fault f out words sets).number declared.none
+    reading_is = go (declarations_fault f out words sets).number declared.none
       where
         go : (m : ℕ) → m ≡ 0
             → leaves (answer_after m (declarations_fault f out words sets).«record» (read_text (bundle_of f) text)) out words sets
@@ -145,22 +145,22 @@ module _ {f : List ℕ} {out words sets : ℕ} {c : Counts} (declared : Declared
         go zero e = refl
         go (suc m) e = absurd (omega arith)
 
-    pub answer-is : {a : Answer} → read_text (bundle_of f) text ≡ a → reading f text out words sets ≡ leaves a out words sets
-    answer-is e = reading-is ∙ ap (λ (a : Answer). leaves a out words sets) e
+    pub answer_is : {a : Answer} → read_text (bundle_of f) text ≡ a → reading f text out words sets ≡ leaves a out words sets
+    answer_is e = reading_is ∙ ap (λ (a : Answer). leaves a out words sets) e
 
-    refused-by : {m i : ℕ} → read_text (bundle_of f) text ≡ refused m i → Refused m i ≡ (reading f text out words sets).answer
+    refused_by : {m i : ℕ} → read_text (bundle_of f) text ≡ refused m i → Refused m i ≡ (reading f text out words sets).answer
     unfolding leaves
-    refused-by e = sym (ap (λ (o : Outcome). o.answer) (answer-is e))
+    refused_by e = sym (ap (λ (o : Outcome). o.answer) (answer_is e))
 
     -- r is what the code has found
     module _ (r : Fault) (found : r ≡ text_fault (bundle_at f c) (resolve (known_in (bundle_at f c)) text)) where
       found_is : r ≡ text_fault (bundle_of f) (resolve (known_in (bundle_of f)) text)
       found_is = found ∙ ap (λ (b : Bundle). text_fault b (resolve (known_in b) text)) (bundle_is f declared.counted)
 
-      pub refused-text : (r.number ≡ 0 → ⊥) → Refused r.number r.«record» ≡ (reading f text out words sets).answer
+      pub refused_text : (r.number ≡ 0 → ⊥) → Refused r.number r.«record» ≡ (reading f text out words sets).answer
       unfolding read_text
-      refused-text ne =
-          refused-by (by_fault (bundle_of f) (resolve (known_in (bundle_of f)) text) (λ z. ne (ap (λ (x : Fault). x.number) found_is ∙ z))
+      refused_text ne =
+          refused_by (by_fault (bundle_of f) (resolve (known_in (bundle_of f)) text) (λ z. ne (ap (λ (x : Fault). x.number) found_is ∙ z))
           ∙ sym (ap (λ (x : Fault). refused x.number x.«record») found_is))
 
 -- and nothing refuses the text before its records are placed; it is read as φ
@@ -186,11 +186,11 @@ module _ {f : List ℕ} {out words sets : ℕ} {c : Counts} {text : List ℕ} {�
       }
 
   refused_full : (FitsLimits (bundle_of f) φ → ⊥) → Refused 16 0 ≡ (reading f text out words sets).answer
-  refused_full not = refused-by s.declared text ((answers_exactly (bundle_of f) text (refused 16 0)).1 (full φ read_as not))
+  refused_full not = refused_by s.declared text ((answers_exactly (bundle_of f) text (refused 16 0)).1 (full φ read_as not))
 
   written : FitsLimits (bundle_of f) φ → reading f text out words sets ≡ writes (job_of (filed_for (bundle_of f) φ)) out words sets
   unfolding leaves
-  written fit = answer-is s.declared text ((answers_exactly (bundle_of f) text (job (job_of (filed_for (bundle_of f) φ)))).1 (read φ read_as fit))
+  written fit = answer_is s.declared text ((answers_exactly (bundle_of f) text (job (job_of (filed_for (bundle_of f) φ)))).1 (read φ read_as fit))
 
 -- ---- the job
 

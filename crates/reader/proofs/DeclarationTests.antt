@@ -1,6 +1,6 @@
 -- The checks of the declarations, as the code makes them.
 --     bare_is                                          18, by the counts and words that the code has read
---     header_here, section-here, not-bare, all_hold    1 to 4, 5 and 6, 18 and none
+--     header_here, section_here, not_bare, all_hold    1 to 4, 5 and 6, 18 and none
 use Prim.Native.Nat.{ℕ}
 use mathlib.Core.Path.{◌≡◌, refl, sym, ap, ◌∙◌}
 use mathlib.Core.Bool.{Bool, true, false, cond, ◌&&◌}
@@ -17,7 +17,7 @@ use Rattle.logic.specs.Checks.{header_fault}
 use Rattle.logic.proofs.Firsts.{or_else_on, or_else_here}
 use Rattle.logic.proofs.Headers.{bundle_is}
 use Rattle.declarations.specs.Sections.{declared_fault}
-use Rattle.declarations.proofs.Sections.{sections-here, sections-on}
+use Rattle.declarations.proofs.Sections.{sections_here, sections_on}
 use Rattle.expansion.specs.Expansion.{long_enough}
 use Rattle.reading.specs.Reading.{is_declarations, last_tests, declarations_fault}
 
@@ -49,23 +49,23 @@ module _ (f : List ℕ) (out words sets : ℕ) where
     found_is : r ≡ declared_fault (bundle_of f)
     found_is = found ∙ ap declared_fault (bundle_is f counted)
 
-    pub section-here : (r.number ≡ 0 → ⊥) → r ≡ declarations_fault f out words sets
+    pub section_here : (r.number ≡ 0 → ⊥) → r ≡ declarations_fault f out words sets
     unfolding declarations_fault last_fault
-    section-here ne = sections-here (bundle_of f) (last_fault (bundle_of f)) r found_is ne ∙ sym (or_else_on _ 0 _ none)
+    section_here ne = sections_here (bundle_of f) (last_fault (bundle_of f)) r found_is ne ∙ sym (or_else_on _ 0 _ none)
 
-    last-left : r.number ≡ 0 → last_fault (bundle_of f) ≡ declarations_fault f out words sets
+    last_left : r.number ≡ 0 → last_fault (bundle_of f) ≡ declarations_fault f out words sets
     unfolding declarations_fault last_fault
-    last-left z = sections-on (bundle_of f) (last_fault (bundle_of f)) r found_is z ∙ sym (or_else_on _ 0 _ none)
+    last_left z = sections_on (bundle_of f) (last_fault (bundle_of f)) r found_is z ∙ sym (or_else_on _ 0 _ none)
 
     -- p is what the code answers for 18
     module _ (z : r.number ≡ 0) (p : Bool) (said : p ≡ is_declarations (bundle_at f c)) where
-      by-test : cond p (fault 0 0) (fault 18 0) ≡ declarations_fault f out words sets
-      by-test =
+      by_test : cond p (fault 0 0) (fault 18 0) ≡ declarations_fault f out words sets
+      by_test =
           ap (λ (q : Bool). cond q (fault 0 0) (fault 18 0)) (said ∙ ap (λ (b : Bundle). is_declarations b) (bundle_is f counted))
-          ∙ sym (last_is (bundle_of f)) ∙ last-left z
+          ∙ sym (last_is (bundle_of f)) ∙ last_left z
 
-      pub not-bare : p ≡ false → fault 18 0 ≡ declarations_fault f out words sets
-      not-bare e = ap (λ (q : Bool). cond q (fault 0 0) (fault 18 0)) (sym e) ∙ by-test
+      pub not_bare : p ≡ false → fault 18 0 ≡ declarations_fault f out words sets
+      not_bare e = ap (λ (q : Bool). cond q (fault 0 0) (fault 18 0)) (sym e) ∙ by_test
 
       pub all_hold : p ≡ true → fault 0 0 ≡ declarations_fault f out words sets
-      all_hold e = ap (λ (q : Bool). cond q (fault 0 0) (fault 18 0)) (sym e) ∙ by-test
+      all_hold e = ap (λ (q : Bool). cond q (fault 0 0) (fault 18 0)) (sym e) ∙ by_test

@@ -24,7 +24,7 @@ use Rattle.placing.proofs.ScratchOutcomes.{counts_are, holds}
 use Rattle.grammar.specs.Names.{names, all_known}
 use Rattle.grammar.proofs.NamesExact.{resolved_exactly}
 use Rattle.reading.specs.Called.{known_in}
-use Rattle.reading.specs.Local.{headSort, fine, plain}
+use Rattle.reading.specs.Local.{head_sort, fine, plain}
 use Rattle.reading.specs.Records.{file}
 use Rattle.reading.specs.Answers.{filed_for}
 use Rattle.reading.specs.Reading.{reading}
@@ -55,7 +55,7 @@ module _ {f : List ℕ} {out words sets : ℕ} {c : Counts} {text w₀ cs w cs' 
   passed_settled =
       let D-is : declared f ≡ bundle_of f = bundle_is f refl in
       let φ = read.formula in
-      let s : ℕ = headSort (declared f) φ in
+      let s : ℕ = head_sort (declared f) φ in
       record {
         declared = d;
         resolves = (resolved_exactly (known_in (bundle_of f)) text φ).1

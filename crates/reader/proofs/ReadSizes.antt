@@ -34,7 +34,7 @@ use Rattle.reading.proofs.Answers.{answers_exactly}
 use Rattle.reading.proofs.ReadOrder.{declarations_find, declarations_exactly}
 use Rattle.reading.proofs.Demands.{read_exactly, refused_exactly}
 use Rattle.reader.specs.Storing.{Declared}
-use Rattle.reader.proofs.Answering.{answer-is}
+use Rattle.reader.proofs.Answering.{answer_is}
 
 -- ---- the declarations
 
@@ -119,7 +119,7 @@ job_short f text out words sets n e =
     let b : Bundle = bundle_of f in
     let J : Bundle = job_of (filed_for b φ) in
     let d : Declared f out words sets (counts_of f) = record { none = (declarations_exactly f out words sets).1 (formed, long); counted = refl } in
-    let is : reading f text out words sets ≡ leaves (job J) out words sets = answer-is d text ((answers_exactly b text (job J)).1 (read φ r fit)) in
+    let is : reading f text out words sets ≡ leaves (job J) out words sets = answer_is d text ((answers_exactly b text (job J)).1 (read φ r fit)) in
     let told : (reading f text out words sets).answer ≡ Written (length (file_of J)) = ap (λ (o : Outcome). o.answer) is in
     let same : n ≡ length (file_of J) = cc in
     omega (arith, file_length J, within_words (counts_in (filed_for b φ).bundle) fit)

@@ -1,6 +1,6 @@
 -- What refuses a text, as the code finds it.
---     scan-refuses     19 or 20
---     scan-passes      neither, and what is said of the sorts
+--     scan_refuses     19 or 20
+--     scan_passes      neither, and what is said of the sorts
 use Prim.Native.Nat.{ℕ}
 use native.Mathlib.Omega.{arith}
 use mathlib.Core.Path.{◌≡◌, refl, sym, ap, ◌∙◌}
@@ -45,8 +45,8 @@ module _ (f : List ℕ) (c : Counts) where
     refuses (unread_at n) ne = refl
     refuses (unknown_at n) ne = refl
 
-    pub scan-refuses : (v.number ≡ 0 → ⊥) → fault v.number v.byte ≡ text_fault D (resolve (known_in D) text)
-    scan-refuses ne =
+    pub scan_refuses : (v.number ≡ 0 → ⊥) → fault v.number v.byte ≡ text_fault D (resolve (known_in D) text)
+    scan_refuses ne =
         ap (λ (x : Verdict). fault x.number x.byte) told_is
         ∙ refuses (resolve (known_in D) text) (λ z. ne (ap (λ (x : Verdict). x.number) told_is ∙ z))
 
@@ -60,5 +60,5 @@ module _ (f : List ℕ) (c : Counts) where
       passes (unread_at n) e z = absurd (omega arith)
       passes (unknown_at n) e z = absurd (omega arith)
 
-      pub scan-passes : v.number ≡ 0 → cond p (fault 0 0) (fault 8 0) ≡ text_fault D (resolve (known_in D) text)
-      scan-passes z = passes (resolve (known_in D) text) refl (sym (ap (λ (x : Verdict). x.number) told_is) ∙ z)
+      pub scan_passes : v.number ≡ 0 → cond p (fault 0 0) (fault 8 0) ≡ text_fault D (resolve (known_in D) text)
+      scan_passes z = passes (resolve (known_in D) text) refl (sym (ap (λ (x : Verdict). x.number) told_is) ∙ z)

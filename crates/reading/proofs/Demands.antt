@@ -39,7 +39,7 @@ use Rattle.reading.specs.ReadOrder.{declaration_checks}
 use Rattle.reading.specs.Demands.{DeclarationsFormed, ReadExactly, OneReading, RefusedExactly, ReadWell, ReadFormed, AreasLeft, ReadExpanded}
 use Rattle.reading.proofs.Answers.{answers_exactly}
 use Rattle.reading.proofs.ReadOrder.{declarations_find, declarations_exactly}
-use Rattle.reading.proofs.Jobs.{job-well}
+use Rattle.reading.proofs.Jobs.{job_well}
 
 -- ---- answers and what they leave
 
@@ -196,7 +196,7 @@ read_formed f text out words sets n bytes e =
     let s : ReadSo f text out words sets n = written_so f text out words sets n e in (
       s.formula,
       s.reads,
-      subst (ReadWell f s.formula) (sym (out_is f text out words sets n s)) (job-well f text s.formula s.formed s.reads bytes s.fits),
+      subst (ReadWell f s.formula) (sym (out_is f text out words sets n s)) (job_well f text s.formula s.formed s.reads bytes s.fits),
     )
 
 -- ---- what is left

@@ -2,7 +2,7 @@
 --     declared_checked     declarations are well formed tables with nothing to be checked
 --     job_filed            the formula's records: the bundle stays well formed, the number stands for the formula's term
 --     deep_never_fits      THE THEOREM: what is nested too deep does not fit
---     job-well             THE THEOREM: the file of a job within the limits is a well-formed job whose left stands for the formula's term
+--     job_well             THE THEOREM: the file of a job within the limits is a well-formed job whose left stands for the formula's term
 use Prim.Native.Nat.{ℕ, ◌≤◌}
 use native.Mathlib.Omega.{arith}
 use mathlib.Core.Path.{◌≡◌, refl, sym, ap, ◌∙◌, subst}
@@ -25,7 +25,7 @@ use Rattle.expansion.specs.Demands.{Bytes}
 use Rattle.expansion.proofs.Grown.{claiming_longer}
 use Rattle.expansion.proofs.AppendedChecked.{Checked, claiming_checked}
 use Rattle.expansion.proofs.SmallNumbers.{SmallBundle}
-use Rattle.expansion.proofs.Files.{file_length, file-counts, file-bundle, file-whole}
+use Rattle.expansion.proofs.Files.{file_length, file_counts, file_bundle, file_whole}
 use Rattle.expansion.proofs.SmallWords.{SmallPlaced, file_small}
 use Rattle.grammar.specs.Grammar.{Formula}
 use Rattle.grammar.specs.Names.{names}
@@ -35,9 +35,9 @@ use Rattle.reading.specs.Reader.{job_of}
 use Rattle.reading.specs.Answers.{ReadAs, filed_for, FitsLimits}
 use Rattle.reading.specs.Demands.{DeclarationsFormed, ReadWell, DeepNeverFits}
 use Rattle.reading.proofs.TermSorts.{TermSorted, formula_sorted}
-use Rattle.reading.proofs.Records.{SameDeclared, file-declares, FiledAs, filed, depth_below}
+use Rattle.reading.proofs.Records.{SameDeclared, file_declares, FiledAs, filed, depth_below}
 use Rattle.reading.proofs.SmallRecords.{term_small}
-use Rattle.reading.proofs.Nesting.{nesting-depth}
+use Rattle.reading.proofs.Nesting.{nesting_depth}
 use Rattle.reading.proofs.Answers.{names_exactly}
 
 -- ---- declarations
@@ -87,8 +87,8 @@ module _ (f text : List ℕ) (φ : Formula) (d : DeclarationsFormed f) (r : Read
   -- ---- the job's file
 
   module _ (bytes : Bytes f) (fit : FitsLimits (bundle_of f) φ) where
-    job-longer : Longer (filed_for (bundle_of f) φ).bundle (job_of (filed_for (bundle_of f) φ))
-    job-longer = claiming_longer (filed_for (bundle_of f) φ).bundle (filed_for (bundle_of f) φ).term 0
+    job_longer : Longer (filed_for (bundle_of f) φ).bundle (job_of (filed_for (bundle_of f) φ))
+    job_longer = claiming_longer (filed_for (bundle_of f) φ).bundle (filed_for (bundle_of f) φ).term 0
 
     placed_small : SmallPlaced (filed_for (bundle_of f) φ)
     placed_small =
@@ -109,14 +109,14 @@ module _ (f text : List ℕ) (φ : Formula) (d : DeclarationsFormed f) (r : Read
       right = omega arith;
     }
 
-    job-header : HeaderFormed (file_of (job_of (filed_for (bundle_of f) φ)))
+    job_header : HeaderFormed (file_of (job_of (filed_for (bundle_of f) φ)))
     unfolding header_words
-    job-header =
+    job_header =
         let j : Bundle = job_of (filed_for (bundle_of f) φ) in
         record {
           long = omega (arith, file_length j);
-          version = rw (file-counts j fit job_small) (job_filed.longer.version ∙ declared_version f d);
-          whole = file-whole j fit job_small;
+          version = rw (file_counts j fit job_small) (job_filed.longer.version ∙ declared_version f d);
+          whole = file_whole j fit job_small;
         }
 
     -- what is to hold of the bundle that the file stands for
@@ -131,10 +131,10 @@ module _ (f text : List ℕ) (φ : Formula) (d : DeclarationsFormed f) (r : Read
       variables : j.variables ≡ (bundle_of f).variables
       longer : Longer (bundle_of f) j
 
-    job-bundle : JobWell (job_of (filed_for (bundle_of f) φ))
-    job-bundle =
+    job_bundle : JobWell (job_of (filed_for (bundle_of f) φ))
+    job_bundle =
         let q : PlacedTerm = filed_for (bundle_of f) φ in
-        let same : SameDeclared (bundle_of f) q.bundle = file-declares (plain (bundle_of f) φ) (bundle_of f) in
+        let same : SameDeclared (bundle_of f) q.bundle = file_declares (plain (bundle_of f) φ) (bundle_of f) in
         let all : Checked (claiming q.bundle q.term 0) = claiming_checked q.bundle q.term 0 job_filed.placed.checked in
         record {
           tables = all.formed.tables;
@@ -143,19 +143,19 @@ module _ (f text : List ℕ) (φ : Formula) (d : DeclarationsFormed f) (r : Read
           right = refl;
           left = job_filed.placed.is_term;
           stands =
-              tree_kept job-longer job_filed.placed.checked.formed.tables q.term job_filed.placed.is_term.1 ∙ job_filed.placed.stands;
+              tree_kept job_longer job_filed.placed.checked.formed.tables q.term job_filed.placed.is_term.1 ∙ job_filed.placed.stands;
           symbols = same.symbols;
           variables = same.variables;
-          longer = longer_trans job_filed.longer job-longer;
+          longer = longer_trans job_filed.longer job_longer;
         }
 
-    pub job-well : ReadWell f φ (file_of (job_of (filed_for (bundle_of f) φ)))
-    job-well =
+    pub job_well : ReadWell f φ (file_of (job_of (filed_for (bundle_of f) φ)))
+    job_well =
         let j : Bundle = job_of (filed_for (bundle_of f) φ) in
-        let here : JobWell (bundle_of (file_of j)) = subst JobWell (sym (file-bundle j fit job_small)) job-bundle in
+        let here : JobWell (bundle_of (file_of j)) = subst JobWell (sym (file_bundle j fit job_small)) job_bundle in
         record {
           formed = record {
-            header = job-header;
+            header = job_header;
             tables = here.tables;
             contexts = here.contexts;
             steps = here.steps;
@@ -169,4 +169,4 @@ module _ (f text : List ℕ) (φ : Formula) (d : DeclarationsFormed f) (r : Read
         }
 
 pub deep_never_fits : DeepNeverFits
-deep_never_fits f text φ d r deep fit = omega (arith, deep, nesting-depth (bundle_of f) φ, not_deep f text φ d r fit)
+deep_never_fits f text φ d r deep fit = omega (arith, deep, nesting_depth (bundle_of f) φ, not_deep f text φ d r fit)

@@ -1,18 +1,18 @@
 -- THE THEOREM: sorts can be judged node by node, in any order, with no stack.
---     sorts-local
+--     sorts_local
 use Prim.Native.Nat.{ℕ, zero, suc}
 use mathlib.Core.Path.{◌≡◌, refl}
 use mathlib.Core.Bool.{Bool, true, false, ◌&&◌}
 use mathlib.Core.Option.{Option, some}
 use Rattle.bundle.specs.Bundle.{Bundle}
-use Rattle.grammar.specs.Grammar.{called, truth, bracketed, Bracketed, denies, connects, applies, quantifies, lets, Formulas, noFormula}
-use Rattle.grammar.specs.Grammar.{andFormula, Bindings, noBinding, andBinding}
+use Rattle.grammar.specs.Grammar.{called, truth, bracketed, Bracketed, denies, connects, applies, quantifies, lets, Formulas, no_formula}
+use Rattle.grammar.specs.Grammar.{and_formula, Bindings, no_binding, and_binding}
 use Rattle.grammar.specs.Parser.{and_then}
 use Rattle.reading.specs.Called.{variable_called, symbol_called}
 use Rattle.reading.specs.Typing.{TypedList, TypedBindings, only, applied, alone, quantified, letting, sorts}
-use Rattle.reading.specs.Typing.{sortsInside, sortsAll, sortsBound}
-use Rattle.reading.specs.Local.{alone_sort, alone_term, alone_fine, accepts, headSort, insideSort, head_sorts, bound_sorts, bound_names, plain}
-use Rattle.reading.specs.Local.{plainInside, plain_all, plainBound, fine, fineInside, fineAll, fineBound, typed, SortsLocal}
+use Rattle.reading.specs.Typing.{sorts_inside, sorts_all, sorts_bound}
+use Rattle.reading.specs.Local.{alone_sort, alone_term, alone_fine, accepts, head_sort, inside_sort, head_sorts, bound_sorts, bound_names, plain}
+use Rattle.reading.specs.Local.{plain_inside, plain_all, plain_bound, fine, fine_inside, fine_all, fine_bound, typed, SortsLocal}
 
 -- one test after another
 both : {A B : Type 0} (o : Option A) (p : Bool) (a : A) (f : A → Option B) (q : Bool) (c : B) → o ≡ only p a → f a ≡ only q c → and_then o f ≡ only (p && q) c
@@ -34,38 +34,38 @@ abbrev listed : Bundle → Formulas → TypedList
 listed b φs = record { terms = plain_all b φs; sorts = head_sorts b φs }
 
 abbrev bindings : Bundle → Bindings → TypedBindings
-bindings b xs = record { variables = bound_names b xs; terms = plainBound b xs; sorts = bound_sorts b xs }
+bindings b xs = record { variables = bound_names b xs; terms = plain_bound b xs; sorts = bound_sorts b xs }
 
 mutual
-  unfolding sorts headSort plain fine head_sorts bound_sorts bound_names applied accepts quantified letting and_then
+  unfolding sorts head_sort plain fine head_sorts bound_sorts bound_names applied accepts quantified letting and_then
 
-  pub sorts-local : SortsLocal
-  sorts-local b (called w) = alone_local b (variable_called b w) (symbol_called b w)
-  sorts-local b (truth v) = refl
-  sorts-local b (bracketed φ) = inside-local b φ
+  pub sorts_local : SortsLocal
+  sorts_local b (called w) = alone_local b (variable_called b w) (symbol_called b w)
+  sorts_local b (truth v) = refl
+  sorts_local b (bracketed φ) = inside_local b φ
 
-  inside-local : (b : Bundle) (φ : Bracketed) → sortsInside b φ ≡ only (fineInside b φ) (record { term = plainInside b φ; sort = insideSort b φ })
-  inside-local b (denies φ) = both (sorts b φ) (fine b φ) (typed b φ) _ _ _ (sorts-local b φ) refl
-  inside-local b (connects c φ ψ) =
-      both (sorts b φ) (fine b φ) (typed b φ) _ _ _ (sorts-local b φ)
-      (both (sorts b ψ) (fine b ψ) (typed b ψ) _ _ _ (sorts-local b ψ) refl)
-  inside-local b (applies f φ φs) =
-      both (sorts b φ) (fine b φ) (typed b φ) _ _ _ (sorts-local b φ)
-      (both (sortsAll b φs) (fineAll b φs) (listed b φs) _ _ _ (all_local b φs) refl)
-  inside-local b (quantifies q x xs φ) = both (sorts b φ) (fine b φ) (typed b φ) _ _ _ (sorts-local b φ) refl
-  inside-local b (lets x φ xs ψ) =
-      both (sorts b φ) (fine b φ) (typed b φ) _ _ _ (sorts-local b φ)
-      (both (sortsBound b xs) (fineBound b xs) (bindings b xs) _ _ _ (bound-local b xs)
-      (both (sorts b ψ) (fine b ψ) (typed b ψ) _ _ _ (sorts-local b ψ) refl))
+  inside_local : (b : Bundle) (φ : Bracketed) → sorts_inside b φ ≡ only (fine_inside b φ) (record { term = plain_inside b φ; sort = inside_sort b φ })
+  inside_local b (denies φ) = both (sorts b φ) (fine b φ) (typed b φ) _ _ _ (sorts_local b φ) refl
+  inside_local b (connects c φ ψ) =
+      both (sorts b φ) (fine b φ) (typed b φ) _ _ _ (sorts_local b φ)
+      (both (sorts b ψ) (fine b ψ) (typed b ψ) _ _ _ (sorts_local b ψ) refl)
+  inside_local b (applies f φ φs) =
+      both (sorts b φ) (fine b φ) (typed b φ) _ _ _ (sorts_local b φ)
+      (both (sorts_all b φs) (fine_all b φs) (listed b φs) _ _ _ (all_local b φs) refl)
+  inside_local b (quantifies q x xs φ) = both (sorts b φ) (fine b φ) (typed b φ) _ _ _ (sorts_local b φ) refl
+  inside_local b (lets x φ xs ψ) =
+      both (sorts b φ) (fine b φ) (typed b φ) _ _ _ (sorts_local b φ)
+      (both (sorts_bound b xs) (fine_bound b xs) (bindings b xs) _ _ _ (bound_local b xs)
+      (both (sorts b ψ) (fine b ψ) (typed b ψ) _ _ _ (sorts_local b ψ) refl))
 
-  all_local : (b : Bundle) (φs : Formulas) → sortsAll b φs ≡ only (fineAll b φs) (listed b φs)
-  all_local b noFormula = refl
-  all_local b (andFormula φ φs) =
-      both (sorts b φ) (fine b φ) (typed b φ) _ _ _ (sorts-local b φ)
-      (after (sortsAll b φs) (fineAll b φs) (listed b φs) _ (all_local b φs))
+  all_local : (b : Bundle) (φs : Formulas) → sorts_all b φs ≡ only (fine_all b φs) (listed b φs)
+  all_local b no_formula = refl
+  all_local b (and_formula φ φs) =
+      both (sorts b φ) (fine b φ) (typed b φ) _ _ _ (sorts_local b φ)
+      (after (sorts_all b φs) (fine_all b φs) (listed b φs) _ (all_local b φs))
 
-  bound-local : (b : Bundle) (xs : Bindings) → sortsBound b xs ≡ only (fineBound b xs) (bindings b xs)
-  bound-local b noBinding = refl
-  bound-local b (andBinding x φ xs) =
-      both (sorts b φ) (fine b φ) (typed b φ) _ _ _ (sorts-local b φ)
-      (after (sortsBound b xs) (fineBound b xs) (bindings b xs) _ (bound-local b xs))
+  bound_local : (b : Bundle) (xs : Bindings) → sorts_bound b xs ≡ only (fine_bound b xs) (bindings b xs)
+  bound_local b no_binding = refl
+  bound_local b (and_binding x φ xs) =
+      both (sorts b φ) (fine b φ) (typed b φ) _ _ _ (sorts_local b φ)
+      (after (sorts_bound b xs) (fine_bound b xs) (bindings b xs) _ (bound_local b xs))

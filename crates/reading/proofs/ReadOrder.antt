@@ -106,12 +106,12 @@ module _ (f : List ℕ) (out words sets : ℕ) where
       after_links : Fault
       after_links = or_next (symbols_fault b) after_symbols
 
-      afterHeader : Fault
-      afterHeader = or_next (links_fault b) after_links
+      after_header : Fault
+      after_header = or_next (links_fault b) after_links
 
       there : (declarations_fault f out words sets).number ≡ 0 → DeclarationsFormed f × LongEnough out words sets
       there e =
-          let (e₀, r₀) = next_both (fault (header_fault f m 3) 0) afterHeader e in
+          let (e₀, r₀) = next_both (fault (header_fault f m 3) 0) after_header e in
           let (e₁, r₁) = next_both (links_fault b) after_links r₀ in
           let (e₂, r₂) = next_both (symbols_fault b) after_symbols r₁ in
           let (e₃, r₃) = next_both (variables_fault b) after_variables r₂ in
@@ -134,7 +134,7 @@ module _ (f : List ℕ) (out words sets : ℕ) where
 
       back : DeclarationsFormed f × LongEnough out words sets → (declarations_fault f out words sets).number ≡ 0
       back (formed, long) =
-          both_next (fault (header_fault f m 3) 0) afterHeader ((header_exactly f m 3).1 (formed.header, (long_exactly out words sets).1 long))
+          both_next (fault (header_fault f m 3) 0) after_header ((header_exactly f m 3).1 (formed.header, (long_exactly out words sets).1 long))
           (both_next (links_fault b) after_links
           (ap (λ (x : Fault). x.number)
           (none_bad_first (link_fault b) (length b.links) (λ i lo hi. (link_exactly b i).1 (formed.links i (lo, hi)))))

@@ -13,7 +13,7 @@ use Rattle.bundle.specs.Limits.{Within}
 use Rattle.logic.specs.declared.Signature.TheVariants.{Unknown}
 use Rattle.logic.specs.Lists.{All, Number}
 use Rattle.logic.specs.Symbols.{symbol_kind, kind_of_symbol, signature, signature_of}
-use Rattle.logic.specs.Terms.{Binder, Term, Terms, var, app, bind, letIn, none, more}
+use Rattle.logic.specs.Terms.{Binder, Term, Terms, var, app, bind, let_in, none, more}
 use Rattle.logic.specs.WellFormed.{TablesFormed}
 use Rattle.logic.specs.Longer.{Longer, add_list}
 use Rattle.logic.specs.Lookup.{seek, same_variable, same_application, same_binder, same_let}
@@ -24,9 +24,9 @@ use Rattle.expansion.proofs.Grown.{variable_longer, application_longer, binder_l
 use Rattle.expansion.proofs.AppendedChecked.{Checked}
 use Rattle.expansion.proofs.SmallNumbers.{Word, SmallBundle}
 use Rattle.expansion.proofs.SmallWords.{SmallPlaced, binder_word, seek_le, list_small, start_small, placed_small}
-use Rattle.reading.specs.Records.{PlacedTerms, file, fileAll}
+use Rattle.reading.specs.Records.{PlacedTerms, file, file_all}
 use Rattle.reading.proofs.TermSorts.{TermSorted, TermsSorted}
-use Rattle.reading.proofs.Records.{FiledAs, AllFiled, filed, all-filed}
+use Rattle.reading.proofs.Records.{FiledAs, AllFiled, filed, all_filed}
 
 -- a symbol that there is is built in or declared
 pub known_small : (b : Bundle) (f : ℕ) → (signature_of b f ≡ Unknown → ⊥) → f ≤ 32 + length b.symbols
@@ -108,8 +108,8 @@ module _ (b₀ : Bundle) (formed : TablesFormed b₀) {end : Bundle} (fit : With
     term_small (var x) b l old h small e =
         variable_small b x small (variable_word l (longer_trans (variable_longer b x) e) x h) e
     term_small (app f ts) b l old h small e =
-        let p : PlacedTerms = fileAll ts b in
-        let a : AllFiled b ts p = all-filed b₀ formed ts b l old h.2 in
+        let p : PlacedTerms = file_all ts b in
+        let a : AllFiled b ts p = all_filed b₀ formed ts b l old h.2 in
         let e₁ : Longer p.bundle end = longer_trans (application_longer p.bundle f p.terms) e in
         let s : SmallTerms p = all_small ts b l old h.2 small e₁ in
         let symbols = (sizes (longer_trans l (longer_trans a.longer e₁))).symbols in
@@ -120,9 +120,9 @@ module _ (b₀ : Bundle) (formed : TablesFormed b₀) {end : Bundle} (fit : With
         let e₁ : Longer p.bundle end = longer_trans (binder_longer p.bundle q x p.term) e in
         let s : SmallPlaced p = term_small t b l old h.2 small e₁ in
         quantifier_small p.bundle q x p.term s.bundle (variable_word (longer_trans l a.longer) e₁ x h.0) s.term e
-    term_small (letIn vs ts t) b l old h small e =
-        let p : PlacedTerms = fileAll ts b in
-        let a : AllFiled b ts p = all-filed b₀ formed ts b l old h.4 in
+    term_small (let_in vs ts t) b l old h small e =
+        let p : PlacedTerms = file_all ts b in
+        let a : AllFiled b ts p = all_filed b₀ formed ts b l old h.4 in
         let l₁ : Longer b₀ p.bundle = longer_trans l a.longer in
         let r : PlacedTerm = file t p.bundle in
         let c : FiledAs p.bundle t r = filed b₀ formed t p.bundle l₁ a.checked h.5 in
@@ -131,14 +131,14 @@ module _ (b₀ : Bundle) (formed : TablesFormed b₀) {end : Bundle} (fit : With
         let u : SmallPlaced r = term_small t p.bundle l₁ a.checked h.5 s.bundle e₂ in
         let_small r.bundle vs p.terms r.term u.bundle (variables_word (longer_trans l₁ c.longer) e₂ vs h.0) s.terms u.term e
 
-    all_small : (ts : Terms) (b : Bundle) → Longer b₀ b → Checked b → TermsSorted b₀ ts → SmallBundle b → Longer (fileAll ts b).bundle end
-        → SmallTerms (fileAll ts b)
+    all_small : (ts : Terms) (b : Bundle) → Longer b₀ b → Checked b → TermsSorted b₀ ts → SmallBundle b → Longer (file_all ts b).bundle end
+        → SmallTerms (file_all ts b)
     all_small none b l old h small e = record { bundle = small; terms = tt }
     all_small (more t ts) b l old h small e =
         let p : PlacedTerm = file t b in
         let a : FiledAs b t p = filed b₀ formed t b l old h.0 in
         let l₁ : Longer b₀ p.bundle = longer_trans l a.longer in
-        let c : AllFiled p.bundle ts (fileAll ts p.bundle) = all-filed b₀ formed ts p.bundle l₁ a.placed.checked h.1 in
+        let c : AllFiled p.bundle ts (file_all ts p.bundle) = all_filed b₀ formed ts p.bundle l₁ a.placed.checked h.1 in
         let s : SmallPlaced p = term_small t b l old h.0 small (longer_trans c.longer e) in
-        let u : SmallTerms (fileAll ts p.bundle) = all_small ts p.bundle l₁ a.placed.checked h.1 s.bundle e in
+        let u : SmallTerms (file_all ts p.bundle) = all_small ts p.bundle l₁ a.placed.checked h.1 s.bundle e in
         record { bundle = u.bundle; terms = (s.term, u.terms) }

@@ -1,7 +1,7 @@
 -- Terms that are well sorted beside a bundle's declarations.
 --     TermSorted, TermsSorted     what is to hold of a term and of its parts
 --     formula_sorted              THE LAW: the term of a well_sorted formula with declared names is well sorted, of the formula's sort
---     sort-in, sorts-in           its sort is the same in a longer bundle
+--     sort_in_lem, sorts_in           its sort is the same in a longer bundle
 use Prim.Native.Nat.{ℕ, zero, suc}
 use native.Mathlib.Omega.{arith}
 use mathlib.Core.Path.{◌≡◌, refl, sym, ap, ap₂, ◌∙◌, subst}
@@ -14,7 +14,7 @@ use Rattle.bundle.specs.Bundle.{Bundle, sort_of_variable}
 use Rattle.logic.specs.declared.Signature.TheVariants.{Unknown}
 use Rattle.logic.specs.Lists.{All, Different, Number}
 use Rattle.logic.specs.Symbols.{truth_sort, symbol_kind, kind_of_symbol, signature, signature_of, argument_sorts, result_sort}
-use Rattle.logic.specs.Terms.{Binder, forAll, exists, Term, Terms, var, app, bind, letIn, none, more}
+use Rattle.logic.specs.Terms.{Binder, forAll, exists, Term, Terms, var, app, bind, let_in, none, more}
 use Rattle.logic.specs.Sorts.{binder_sort, sort}
 use Rattle.logic.specs.Longer.{Longer}
 use Rattle.logic.proofs.Tests.{and_left, and_right}
@@ -22,14 +22,14 @@ use Rattle.logic.proofs.Images.{sorts_of}
 use Rattle.logic.proofs.Kept.{variable_kept, result_kept}
 use Rattle.grammar.specs.Bytes.{Connective, conjunction, disjunction, implication, equality}
 use Rattle.grammar.specs.Grammar.{SortedVariable, declares, Formula, called, truth, bracketed, Bracketed, denies, connects, applies, quantifies, lets}
-use Rattle.grammar.specs.Grammar.{Formulas, noFormula, andFormula, Bindings, noBinding, andBinding}
-use Rattle.grammar.specs.Names.{either, symbolOnly, variableOnly, Name, variable_names, names, namesInside, namesOfAll, namesBound, all_known}
+use Rattle.grammar.specs.Grammar.{Formulas, no_formula, and_formula, Bindings, no_binding, and_binding}
+use Rattle.grammar.specs.Names.{either, symbolOnly, variableOnly, Name, variable_names, names, names_inside, names_of_all, names_bound, all_known}
 use Rattle.reading.specs.Called.{variable_called, symbol_called, known_as, known_in}
 use Rattle.reading.specs.Typing.{connective_symbol, nested}
-use Rattle.reading.specs.Local.{alone_term, headSort, bound_names, plain, plainInside, plain_all, plainBound}
+use Rattle.reading.specs.Local.{alone_term, head_sort, bound_names, plain, plain_inside, plain_all, plain_bound}
 use Rattle.reading.specs.WellSorted.{AloneSorted, Joins, WellSorted, InsideSorted, AllSorted, BoundSorted}
 use Rattle.reading.proofs.KnownNames.{variable_number, symbol_signature}
-use Rattle.reading.proofs.TypingExactly.{sorted-fine, join_sorts, join_result}
+use Rattle.reading.proofs.TypingExactly.{sorted_fine, join_sorts, join_result}
 
 -- ---- well_sorted terms
 
@@ -38,7 +38,7 @@ abbrev mutual
   TermSorted b (var x) = Number (length b.variables) x
   TermSorted b (app f ts) = (signature_of b f ≡ Unknown → ⊥) × (argument_sorts b (signature_of b f) ≡ sorts_of b ts) × TermsSorted b ts
   TermSorted b (bind q x t) = Number (length b.variables) x × (sort b t ≡ truth_sort) × TermSorted b t
-  TermSorted b (letIn vs ts t) =
+  TermSorted b (let_in vs ts t) =
       All (Number (length b.variables)) vs
       × (vs ≡ [] → ⊥)
       × Different vs
@@ -60,15 +60,15 @@ module _ {b b' : Bundle} (longer : Longer b b') where
   mutual
     unfolding sort sorts_of
 
-    pub sort-in : (t : Term) → TermSorted b t → sort b' t ≡ sort b t
-    sort-in (var x) h = variable_kept longer x h.1
-    sort-in (app f ts) h = result_kept longer f h.0
-    sort-in (bind q x t) h = binder_truth q _ ∙ sym (binder_truth q _)
-    sort-in (letIn vs ts t) h = sort-in t h.5
+    pub sort_in_lem : (t : Term) → TermSorted b t → sort b' t ≡ sort b t
+    sort_in_lem (var x) h = variable_kept longer x h.1
+    sort_in_lem (app f ts) h = result_kept longer f h.0
+    sort_in_lem (bind q x t) h = binder_truth q _ ∙ sym (binder_truth q _)
+    sort_in_lem (let_in vs ts t) h = sort_in_lem t h.5
 
-    pub sorts-in : (ts : Terms) → TermsSorted b ts → sorts_of b' ts ≡ sorts_of b ts
-    sorts-in none h = refl
-    sorts-in (more t ts) h = ap₂ (λ (s : ℕ) (ss : List ℕ). s ∷ ss) (sort-in t h.0) (sorts-in ts h.1)
+    pub sorts_in : (ts : Terms) → TermsSorted b ts → sorts_of b' ts ≡ sorts_of b ts
+    sorts_in none h = refl
+    sorts_in (more t ts) h = ap₂ (λ (s : ℕ) (ss : List ℕ). s ∷ ss) (sort_in_lem t h.0) (sorts_in ts h.1)
 
 -- ---- the terms of formulas
 
@@ -160,32 +160,32 @@ module _ (b : Bundle) where
       ((vs.0, inner.1, inner.0), binder_truth q _)
 
   mutual
-    unfolding plain names namesInside sort sorts_of bound_names
+    unfolding plain names names_inside sort sorts_of bound_names
 
-    formula-of : (φ : Formula) (s : ℕ) (rest : List Name) → Known (names φ rest) → WellSorted b φ s → Of (plain b φ) s × Known rest
-    formula-of (called w) s rest e h = (name_alone w s (known_first _ rest e) h, known_rest _ rest e)
-    formula-of (truth v) s rest e h = (((constant_of v).0, (constant_of v).1 ∙ sym h), e)
-    formula-of (bracketed φ) s rest e h = inside_of φ s rest e h
+    formula_of : (φ : Formula) (s : ℕ) (rest : List Name) → Known (names φ rest) → WellSorted b φ s → Of (plain b φ) s × Known rest
+    formula_of (called w) s rest e h = (name_alone w s (known_first _ rest e) h, known_rest _ rest e)
+    formula_of (truth v) s rest e h = (((constant_of v).0, (constant_of v).1 ∙ sym h), e)
+    formula_of (bracketed φ) s rest e h = inside_of φ s rest e h
 
-    inside_of : (φ : Bracketed) (s : ℕ) (rest : List Name) → Known (namesInside φ rest) → InsideSorted b φ s → Of (plainInside b φ) s × Known rest
+    inside_of : (φ : Bracketed) (s : ℕ) (rest : List Name) → Known (names_inside φ rest) → InsideSorted b φ s → Of (plain_inside b φ) s × Known rest
     inside_of (denies φ) s rest e h =
-        let (t, k) = formula-of φ truth_sort rest e h.0 in
+        let (t, k) = formula_of φ truth_sort rest e h.0 in
         let n = negated (plain b φ) t in
         ((n.0, n.1 ∙ sym h.1), k)
     inside_of (connects c φ ψ) s rest e h =
-        let (t, k) = formula-of φ h.0 (names ψ rest) e h.2 in
-        let (u, l) = formula-of ψ h.0 rest k h.3 in
-        let is : h.0 ≡ headSort b φ = (sorted-fine b φ h.0 h.2).1 in
+        let (t, k) = formula_of φ h.0 (names ψ rest) e h.2 in
+        let (u, l) = formula_of ψ h.0 rest k h.3 in
+        let is : h.0 ≡ head_sort b φ = (sorted_fine b φ h.0 h.2).1 in
         let parts : Terms = more (plain b φ) (more (plain b ψ) none) in
         let j = subst (λ (v : ℕ). Of (app (connective_symbol c v) parts) truth_sort) is (joined c h.0 (plain b φ) (plain b ψ) h.1 t u) in
         ((j.0, j.1 ∙ sym h.4), l)
     inside_of (applies f φ φs) s rest e h =
-        let k₀ = known_rest _ (names φ (namesOfAll φs rest)) e in
-        let (t, k) = formula-of φ h.0 (namesOfAll φs rest) k₀ h.3 in
+        let k₀ = known_rest _ (names φ (names_of_all φs rest)) e in
+        let (t, k) = formula_of φ h.0 (names_of_all φs rest) k₀ h.3 in
         let (ts, l) = all_of φs h.1 rest k h.4 in (
           (
             (
-              symbol_due f (known_first _ (names φ (namesOfAll φs rest)) e),
+              symbol_due f (known_first _ (names φ (names_of_all φs rest)) e),
               h.2.arguments ∙ ap₂ (λ (u : ℕ) (us : List ℕ). u ∷ us) (sym t.1) (sym ts.1),
               (t.0, ts.0),
             ),
@@ -195,14 +195,14 @@ module _ (b : Bundle) where
         )
     inside_of (quantifies q x xs φ) s rest e h =
         let (vs, k) = variables_known (x ∷ xs) (names φ rest) e in
-        let (t, l) = formula-of φ truth_sort rest k h.1 in
+        let (t, l) = formula_of φ truth_sort rest k h.1 in
         let n = quantified q (x ∷ xs) (plain b φ) vs t in
         ((n.0, n.1 ∙ sym h.2), l)
     inside_of (lets x φ xs ψ) s rest e h =
-        let later = names φ (namesBound xs (names ψ rest)) in
-        let (t, k) = formula-of φ (sort_of_variable b (variable_called b x)) (namesBound xs (names ψ rest)) (known_rest _ later e) h.1 in
+        let later = names φ (names_bound xs (names ψ rest)) in
+        let (t, k) = formula_of φ (sort_of_variable b (variable_called b x)) (names_bound xs (names ψ rest)) (known_rest _ later e) h.1 in
         let (vs, ts, sorts, l) = bound_of xs (names ψ rest) k h.2 in
-        let (u, m) = formula-of ψ s rest l h.3 in (
+        let (u, m) = formula_of ψ s rest l h.3 in (
           (
             (
               (variable_due x (known_first _ later e), vs),
@@ -217,24 +217,24 @@ module _ (b : Bundle) where
           m,
         )
 
-    all_of : (φs : Formulas) (ss : List ℕ) (rest : List Name) → Known (namesOfAll φs rest) → AllSorted b φs ss → AllOf (plain_all b φs) ss × Known rest
-    all_of noFormula [] rest e h = ((tt, refl), e)
-    all_of noFormula (s ∷ ss) rest e h = absurd h
-    all_of (andFormula φ φs) [] rest e h = absurd h
-    all_of (andFormula φ φs) (s ∷ ss) rest e h =
-        let (t, k) = formula-of φ s (namesOfAll φs rest) e h.0 in
+    all_of : (φs : Formulas) (ss : List ℕ) (rest : List Name) → Known (names_of_all φs rest) → AllSorted b φs ss → AllOf (plain_all b φs) ss × Known rest
+    all_of no_formula [] rest e h = ((tt, refl), e)
+    all_of no_formula (s ∷ ss) rest e h = absurd h
+    all_of (and_formula φ φs) [] rest e h = absurd h
+    all_of (and_formula φ φs) (s ∷ ss) rest e h =
+        let (t, k) = formula_of φ s (names_of_all φs rest) e h.0 in
         let (ts, l) = all_of φs ss rest k h.1 in
         (((t.0, ts.0), ap₂ (λ (u : ℕ) (us : List ℕ). u ∷ us) t.1 ts.1), l)
 
-    bound_of : (xs : Bindings) (rest : List Name) → Known (namesBound xs rest) → BoundSorted b xs
+    bound_of : (xs : Bindings) (rest : List Name) → Known (names_bound xs rest) → BoundSorted b xs
         → All (Number (length b.variables)) (bound_names b xs)
-        × TermsSorted b (plainBound b xs)
-        × (map (sort_of_variable b) (bound_names b xs) ≡ sorts_of b (plainBound b xs))
+        × TermsSorted b (plain_bound b xs)
+        × (map (sort_of_variable b) (bound_names b xs) ≡ sorts_of b (plain_bound b xs))
         × Known rest
-    bound_of noBinding rest e h = (tt, tt, refl, e)
-    bound_of (andBinding x φ xs) rest e h =
-        let later = names φ (namesBound xs rest) in
-        let (t, k) = formula-of φ (sort_of_variable b (variable_called b x)) (namesBound xs rest) (known_rest _ later e) h.0 in
+    bound_of no_binding rest e h = (tt, tt, refl, e)
+    bound_of (and_binding x φ xs) rest e h =
+        let later = names φ (names_bound xs rest) in
+        let (t, k) = formula_of φ (sort_of_variable b (variable_called b x)) (names_bound xs rest) (known_rest _ later e) h.0 in
         let (vs, ts, sorts, l) = bound_of xs rest k h.1 in (
           (variable_due x (known_first _ later e), vs),
           (t.0, ts),
@@ -245,4 +245,4 @@ module _ (b : Bundle) where
   -- THE LAW
   pub formula_sorted : (φ : Formula) (s : ℕ) → all_known (known_in b) (names φ []) ≡ true → WellSorted b φ s
       → TermSorted b (plain b φ) × (sort b (plain b φ) ≡ s)
-  formula_sorted φ s e h = (formula-of φ s [] e h).0
+  formula_sorted φ s e h = (formula_of φ s [] e h).0

@@ -1,5 +1,5 @@
 -- The tests of sorts, node by node, and the proposition.
---     fine-sorted, sorted-fine     where every node's test passes, and where a formula is well sorted
+--     fine_sorted, sorted_fine     where every node's test passes, and where a formula is well sorted
 --     typing_exactly               THE THEOREM: a formula has a term exactly where it is well sorted
 use Prim.Native.Nat.{ℕ, zero, suc}
 use mathlib.Core.Path.{◌≡◌, refl, sym, ap, ap₂, ◌∙◌, subst}
@@ -16,13 +16,13 @@ use Rattle.logic.proofs.Tests.{and_left, and_right, and_both, same_list_lem, lis
 use Rattle.logic.proofs.Exactly.{different_exactly}
 use Rattle.grammar.specs.Bytes.{Connective, conjunction, disjunction, implication, equality}
 use Rattle.grammar.specs.Grammar.{SortedVariable, declares, Formula, called, truth, bracketed, Bracketed, denies, connects, applies, quantifies, lets}
-use Rattle.grammar.specs.Grammar.{Formulas, noFormula, andFormula, Bindings, noBinding, andBinding}
+use Rattle.grammar.specs.Grammar.{Formulas, no_formula, and_formula, Bindings, no_binding, and_binding}
 use Rattle.reading.specs.Called.{variable_called, symbol_called}
 use Rattle.reading.specs.Typing.{Typed, only, connective_symbol, sort_number, sorts_declared, sorts}
-use Rattle.reading.specs.Local.{alone_sort, accepts, alone_fine, headSort, insideSort, head_sorts, bound_sorts, bound_names, plain, fine, fineInside, fineAll}
-use Rattle.reading.specs.Local.{fineBound, typed}
+use Rattle.reading.specs.Local.{alone_sort, accepts, alone_fine, head_sort, inside_sort, head_sorts, bound_sorts, bound_names, plain, fine, fine_inside, fine_all}
+use Rattle.reading.specs.Local.{fine_bound, typed}
 use Rattle.reading.specs.WellSorted.{AloneSorted, Joins, WithDeclaredSorts, WellSorted, InsideSorted, AllSorted, BoundSorted, TypingExactly}
-use Rattle.reading.proofs.LocalSorts.{sorts-local}
+use Rattle.reading.proofs.LocalSorts.{sorts_local}
 
 first_same : {x y : ℕ} {xs ys : List ℕ} → (x ∷ xs) ≡ (y ∷ ys) → x ≡ y
 first_same e = cc
@@ -111,141 +111,141 @@ module _ (b : Bundle) where
   three_result = refl
 
   mutual
-    unfolding fine headSort head_sorts bound_sorts bound_names
+    unfolding fine head_sort head_sorts bound_sorts bound_names
 
-    pub fine-sorted : (φ : Formula) → fine b φ ≡ true → WellSorted b φ (headSort b φ)
-    fine-sorted (called w) e = alone_sorted (variable_called b w) (symbol_called b w) e
-    fine-sorted (truth v) e = refl
-    fine-sorted (bracketed φ) e = inside-sorted φ e
+    pub fine_sorted : (φ : Formula) → fine b φ ≡ true → WellSorted b φ (head_sort b φ)
+    fine_sorted (called w) e = alone_sorted (variable_called b w) (symbol_called b w) e
+    fine_sorted (truth v) e = refl
+    fine_sorted (bracketed φ) e = inside_sorted φ e
 
-    inside-sorted : (φ : Bracketed) → fineInside b φ ≡ true → InsideSorted b φ (insideSort b φ)
-    inside-sorted (denies φ) e =
-        let p = accepts b 3 (headSort b φ ∷ []) in
-        (subst (WellSorted b φ) (denies_takes (headSort b φ) (and_right (fine b φ) p e)) (fine-sorted φ (and_left (fine b φ) p e)), three_result)
-    inside-sorted (connects c φ ψ) e =
-        let s = headSort b φ in
-        let v = headSort b ψ in
+    inside_sorted : (φ : Bracketed) → fine_inside b φ ≡ true → InsideSorted b φ (inside_sort b φ)
+    inside_sorted (denies φ) e =
+        let p = accepts b 3 (head_sort b φ ∷ []) in
+        (subst (WellSorted b φ) (denies_takes (head_sort b φ) (and_right (fine b φ) p e)) (fine_sorted φ (and_left (fine b φ) p e)), three_result)
+    inside_sorted (connects c φ ψ) e =
+        let s = head_sort b φ in
+        let v = head_sort b ψ in
         let p = accepts b (connective_symbol c s) (s ∷ v ∷ []) in
         let rest = and_right (fine b φ) (fine b ψ && p) e in
         let (joins, same) = joins_of c s v (and_right (fine b ψ) p rest) in (
           s,
           joins,
-          fine-sorted φ (and_left (fine b φ) (fine b ψ && p) e),
-          subst (WellSorted b ψ) same (fine-sorted ψ (and_left (fine b ψ) p rest)),
+          fine_sorted φ (and_left (fine b φ) (fine b ψ && p) e),
+          subst (WellSorted b ψ) same (fine_sorted ψ (and_left (fine b ψ) p rest)),
           join_result c s,
         )
-    inside-sorted (applies f φ φs) e =
-        let p = accepts b (symbol_called b f) (headSort b φ ∷ head_sorts b φs) in
-        let rest = and_right (fine b φ) (fineAll b φs && p) e in (
-          headSort b φ,
+    inside_sorted (applies f φ φs) e =
+        let p = accepts b (symbol_called b f) (head_sort b φ ∷ head_sorts b φs) in
+        let rest = and_right (fine b φ) (fine_all b φs && p) e in (
+          head_sort b φ,
           head_sorts b φs,
-          record { arguments = takes (symbol_called b f) _ (and_right (fineAll b φs) p rest); result = refl },
-          fine-sorted φ (and_left (fine b φ) (fineAll b φs && p) e),
-          all-sorted φs (and_left (fineAll b φs) p rest),
+          record { arguments = takes (symbol_called b f) _ (and_right (fine_all b φs) p rest); result = refl },
+          fine_sorted φ (and_left (fine b φ) (fine_all b φs && p) e),
+          all_sorted φs (and_left (fine_all b φs) p rest),
         )
-    inside-sorted (quantifies q x xs φ) e =
-        let p = eqb (headSort b φ) truth_sort in
+    inside_sorted (quantifies q x xs φ) e =
+        let p = eqb (head_sort b φ) truth_sort in
         let rest = and_right (fine b φ) (sorts_declared b (x ∷ xs) && p) e in (
           declared_sorts (x ∷ xs) (and_left (sorts_declared b (x ∷ xs)) p rest),
-          subst (WellSorted b φ) (eqb-true (headSort b φ) truth_sort (and_right (sorts_declared b (x ∷ xs)) p rest))
-              (fine-sorted φ (and_left (fine b φ) (sorts_declared b (x ∷ xs) && p) e)),
+          subst (WellSorted b φ) (eqb-true (head_sort b φ) truth_sort (and_right (sorts_declared b (x ∷ xs)) p rest))
+              (fine_sorted φ (and_left (fine b φ) (sorts_declared b (x ∷ xs) && p) e)),
           refl,
         )
-    inside-sorted (lets x φ xs ψ) e =
+    inside_sorted (lets x φ xs ψ) e =
         let vs = variable_called b x ∷ bound_names b xs in
         let d = different vs in
-        let p = same_list (map (sort_of_variable b) vs) (headSort b φ ∷ bound_sorts b xs) in
-        let e₁ = and_right (fine b φ) (fineBound b xs && (fine b ψ && (d && p))) e in
-        let e₂ = and_right (fineBound b xs) (fine b ψ && (d && p)) e₁ in
+        let p = same_list (map (sort_of_variable b) vs) (head_sort b φ ∷ bound_sorts b xs) in
+        let e₁ = and_right (fine b φ) (fine_bound b xs && (fine b ψ && (d && p))) e in
+        let e₂ = and_right (fine_bound b xs) (fine b ψ && (d && p)) e₁ in
         let e₃ = and_right (fine b ψ) (d && p) e₂ in
-        let same = same_list_lem (map (sort_of_variable b) vs) (headSort b φ ∷ bound_sorts b xs) (and_right d p e₃) in (
+        let same = same_list_lem (map (sort_of_variable b) vs) (head_sort b φ ∷ bound_sorts b xs) (and_right d p e₃) in (
           (different_exactly vs).0 (and_left d p e₃),
-          subst (WellSorted b φ) (sym (first_same same)) (fine-sorted φ (and_left (fine b φ) (fineBound b xs && (fine b ψ && (d && p))) e)),
-          bound-sorted xs (and_left (fineBound b xs) (fine b ψ && (d && p)) e₁) (rest_same same),
-          fine-sorted ψ (and_left (fine b ψ) (d && p) e₂),
+          subst (WellSorted b φ) (sym (first_same same)) (fine_sorted φ (and_left (fine b φ) (fine_bound b xs && (fine b ψ && (d && p))) e)),
+          bound_sorted xs (and_left (fine_bound b xs) (fine b ψ && (d && p)) e₁) (rest_same same),
+          fine_sorted ψ (and_left (fine b ψ) (d && p) e₂),
         )
 
-    all-sorted : (φs : Formulas) → fineAll b φs ≡ true → AllSorted b φs (head_sorts b φs)
-    all-sorted noFormula e = tt
-    all-sorted (andFormula φ φs) e = (fine-sorted φ (and_left (fine b φ) (fineAll b φs) e), all-sorted φs (and_right (fine b φ) (fineAll b φs) e))
+    all_sorted : (φs : Formulas) → fine_all b φs ≡ true → AllSorted b φs (head_sorts b φs)
+    all_sorted no_formula e = tt
+    all_sorted (and_formula φ φs) e = (fine_sorted φ (and_left (fine b φ) (fine_all b φs) e), all_sorted φs (and_right (fine b φ) (fine_all b φs) e))
 
-    bound-sorted : (xs : Bindings) → fineBound b xs ≡ true → map (sort_of_variable b) (bound_names b xs) ≡ bound_sorts b xs → BoundSorted b xs
-    bound-sorted noBinding e same = tt
-    bound-sorted (andBinding x φ xs) e same = (
-      subst (WellSorted b φ) (sym (first_same same)) (fine-sorted φ (and_left (fine b φ) (fineBound b xs) e)),
-      bound-sorted xs (and_right (fine b φ) (fineBound b xs) e) (rest_same same),
+    bound_sorted : (xs : Bindings) → fine_bound b xs ≡ true → map (sort_of_variable b) (bound_names b xs) ≡ bound_sorts b xs → BoundSorted b xs
+    bound_sorted no_binding e same = tt
+    bound_sorted (and_binding x φ xs) e same = (
+      subst (WellSorted b φ) (sym (first_same same)) (fine_sorted φ (and_left (fine b φ) (fine_bound b xs) e)),
+      bound_sorted xs (and_right (fine b φ) (fine_bound b xs) e) (rest_same same),
     )
 
   mutual
-    unfolding fine headSort head_sorts bound_sorts bound_names
+    unfolding fine head_sort head_sorts bound_sorts bound_names
 
-    pub sorted-fine : (φ : Formula) (s : ℕ) → WellSorted b φ s → (fine b φ ≡ true) × (s ≡ headSort b φ)
-    sorted-fine (called w) s h = sorted_alone (variable_called b w) (symbol_called b w) s h
-    sorted-fine (truth v) s h = (refl, h)
-    sorted-fine (bracketed φ) s h = sorted-inside φ s h
+    pub sorted_fine : (φ : Formula) (s : ℕ) → WellSorted b φ s → (fine b φ ≡ true) × (s ≡ head_sort b φ)
+    sorted_fine (called w) s h = sorted_alone (variable_called b w) (symbol_called b w) s h
+    sorted_fine (truth v) s h = (refl, h)
+    sorted_fine (bracketed φ) s h = sorted_inside φ s h
 
-    sorted-inside : (φ : Bracketed) (s : ℕ) → InsideSorted b φ s → (fineInside b φ ≡ true) × (s ≡ insideSort b φ)
-    sorted-inside (denies φ) s h =
-        let (f, e) = sorted-fine φ truth_sort h.0 in
-        (and_both (fine b φ) _ f (truth_denied (headSort b φ) e), h.1 ∙ sym three_result)
-    sorted-inside (connects c φ ψ) s h =
-        let (f, e) = sorted-fine φ h.0 h.2 in
-        let (g, d) = sorted-fine ψ h.0 h.3 in
-        let joins : Joins c (headSort b φ) = subst (Joins c) e h.1 in
-        let same : headSort b ψ ≡ headSort b φ = sym d ∙ e in (
-          and_both (fine b φ) _ f (and_both (fine b ψ) _ g (taken (connective_symbol c (headSort b φ)) _
-              ((join_sorts c (headSort b φ) joins).0 ∙ ap (λ (u : ℕ). headSort b φ ∷ u ∷ []) (sym same)))),
-          h.4 ∙ sym (join_result c (headSort b φ)),
+    sorted_inside : (φ : Bracketed) (s : ℕ) → InsideSorted b φ s → (fine_inside b φ ≡ true) × (s ≡ inside_sort b φ)
+    sorted_inside (denies φ) s h =
+        let (f, e) = sorted_fine φ truth_sort h.0 in
+        (and_both (fine b φ) _ f (truth_denied (head_sort b φ) e), h.1 ∙ sym three_result)
+    sorted_inside (connects c φ ψ) s h =
+        let (f, e) = sorted_fine φ h.0 h.2 in
+        let (g, d) = sorted_fine ψ h.0 h.3 in
+        let joins : Joins c (head_sort b φ) = subst (Joins c) e h.1 in
+        let same : head_sort b ψ ≡ head_sort b φ = sym d ∙ e in (
+          and_both (fine b φ) _ f (and_both (fine b ψ) _ g (taken (connective_symbol c (head_sort b φ)) _
+              ((join_sorts c (head_sort b φ) joins).0 ∙ ap (λ (u : ℕ). head_sort b φ ∷ u ∷ []) (sym same)))),
+          h.4 ∙ sym (join_result c (head_sort b φ)),
         )
-    sorted-inside (applies g φ φs) s h =
-        let (f, e) = sorted-fine φ h.0 h.3 in
+    sorted_inside (applies g φ φs) s h =
+        let (f, e) = sorted_fine φ h.0 h.3 in
         let (fs, es) = sorted_all φs h.1 h.4 in (
-          and_both (fine b φ) _ f (and_both (fineAll b φs) _ fs
+          and_both (fine b φ) _ f (and_both (fine_all b φs) _ fs
               (taken (symbol_called b g) _ (h.2.arguments ∙ ap₂ (λ (u : ℕ) (us : List ℕ). u ∷ us) e es))),
           h.2.result,
         )
-    sorted-inside (quantifies q x xs φ) s h =
-        let (f, e) = sorted-fine φ truth_sort h.1 in (
-          and_both (fine b φ) _ f (and_both (sorts_declared b (x ∷ xs)) _ (sorts_declared_lem (x ∷ xs) h.0) (eq-eqb (headSort b φ) truth_sort (sym e))),
+    sorted_inside (quantifies q x xs φ) s h =
+        let (f, e) = sorted_fine φ truth_sort h.1 in (
+          and_both (fine b φ) _ f (and_both (sorts_declared b (x ∷ xs)) _ (sorts_declared_lem (x ∷ xs) h.0) (eq-eqb (head_sort b φ) truth_sort (sym e))),
           h.2,
         )
-    sorted-inside (lets x φ xs ψ) s h =
+    sorted_inside (lets x φ xs ψ) s h =
         let vs = variable_called b x ∷ bound_names b xs in
-        let (f, e) = sorted-fine φ (sort_of_variable b (variable_called b x)) h.1 in
-        let (fs, es) = sorted-bound xs h.2 in
-        let (g, d) = sorted-fine ψ s h.3 in (
-          and_both (fine b φ) _ f (and_both (fineBound b xs) _ fs (and_both (fine b ψ) _ g (and_both (different vs) _ ((different_exactly vs).1 h.0)
+        let (f, e) = sorted_fine φ (sort_of_variable b (variable_called b x)) h.1 in
+        let (fs, es) = sorted_bound xs h.2 in
+        let (g, d) = sorted_fine ψ s h.3 in (
+          and_both (fine b φ) _ f (and_both (fine_bound b xs) _ fs (and_both (fine b ψ) _ g (and_both (different vs) _ ((different_exactly vs).1 h.0)
               (list_same (map (sort_of_variable b) vs) _ (ap₂ (λ (u : ℕ) (us : List ℕ). u ∷ us) e es))))),
           d,
         )
 
-    sorted_all : (φs : Formulas) (ss : List ℕ) → AllSorted b φs ss → (fineAll b φs ≡ true) × (ss ≡ head_sorts b φs)
-    sorted_all noFormula [] h = (refl, refl)
-    sorted_all noFormula (s ∷ ss) h = absurd h
-    sorted_all (andFormula φ φs) [] h = absurd h
-    sorted_all (andFormula φ φs) (s ∷ ss) h =
-        let (f, e) = sorted-fine φ s h.0 in
+    sorted_all : (φs : Formulas) (ss : List ℕ) → AllSorted b φs ss → (fine_all b φs ≡ true) × (ss ≡ head_sorts b φs)
+    sorted_all no_formula [] h = (refl, refl)
+    sorted_all no_formula (s ∷ ss) h = absurd h
+    sorted_all (and_formula φ φs) [] h = absurd h
+    sorted_all (and_formula φ φs) (s ∷ ss) h =
+        let (f, e) = sorted_fine φ s h.0 in
         let (fs, es) = sorted_all φs ss h.1 in
-        (and_both (fine b φ) (fineAll b φs) f fs, ap₂ (λ (u : ℕ) (us : List ℕ). u ∷ us) e es)
+        (and_both (fine b φ) (fine_all b φs) f fs, ap₂ (λ (u : ℕ) (us : List ℕ). u ∷ us) e es)
 
-    sorted-bound : (xs : Bindings) → BoundSorted b xs → (fineBound b xs ≡ true) × (map (sort_of_variable b) (bound_names b xs) ≡ bound_sorts b xs)
-    sorted-bound noBinding h = (refl, refl)
-    sorted-bound (andBinding x φ xs) h =
-        let (f, e) = sorted-fine φ (sort_of_variable b (variable_called b x)) h.0 in
-        let (fs, es) = sorted-bound xs h.1 in
-        (and_both (fine b φ) (fineBound b xs) f fs, ap₂ (λ (u : ℕ) (us : List ℕ). u ∷ us) e es)
+    sorted_bound : (xs : Bindings) → BoundSorted b xs → (fine_bound b xs ≡ true) × (map (sort_of_variable b) (bound_names b xs) ≡ bound_sorts b xs)
+    sorted_bound no_binding h = (refl, refl)
+    sorted_bound (and_binding x φ xs) h =
+        let (f, e) = sorted_fine φ (sort_of_variable b (variable_called b x)) h.0 in
+        let (fs, es) = sorted_bound xs h.1 in
+        (and_both (fine b φ) (fine_bound b xs) f fs, ap₂ (λ (u : ℕ) (us : List ℕ). u ∷ us) e es)
 
 -- THE THEOREM
 pub typing_exactly : TypingExactly
-typing_exactly b φ t = (λ e. there (fine b φ) refl (sym (sorts-local b φ) ∙ e), back)
+typing_exactly b φ t = (λ e. there (fine b φ) refl (sym (sorts_local b φ) ∙ e), back)
   where
     there : (p : Bool) → fine b φ ≡ p → only p (typed b φ) ≡ some t → WellSorted b φ t.sort × (t.term ≡ plain b φ)
     there true q e =
         let same : typed b φ ≡ t = some-injective (typed b φ) t e in
-        (subst (WellSorted b φ) (ap (λ (u : Typed). u.sort) same) (fine-sorted b φ q), sym (ap (λ (u : Typed). u.term) same))
+        (subst (WellSorted b φ) (ap (λ (u : Typed). u.sort) same) (fine_sorted b φ q), sym (ap (λ (u : Typed). u.term) same))
     there false q e = absurd (none-ne-some t e)
 
     back : WellSorted b φ t.sort × (t.term ≡ plain b φ) → sorts b φ ≡ some t
     back (h, e) =
-        let (f, s) = sorted-fine b φ t.sort h in
-        sorts-local b φ ∙ ap (λ (p : Bool). only p (typed b φ)) f ∙ ap some (λ i. record { term = sym e i; sort = sym s i })
+        let (f, s) = sorted_fine b φ t.sort h in
+        sorts_local b φ ∙ ap (λ (p : Bool). only p (typed b φ)) f ∙ ap some (λ i. record { term = sym e i; sort = sym s i })

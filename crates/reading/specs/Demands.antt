@@ -6,7 +6,7 @@ use Rattle.bundle.specs.File.{counts_of, bundle_of}
 use Rattle.logic.specs.Lists.{Number}
 use Rattle.logic.specs.Terms.{tree}
 use Rattle.logic.specs.Free.{Closed}
-use Rattle.logic.specs.Lets.{holdsLet}
+use Rattle.logic.specs.Lets.{holds_let}
 use Rattle.logic.specs.Values.{EqualValues}
 use Rattle.logic.specs.WellFormed.{HeaderFormed, LinkFormed, SymbolFormed, VariableFormed}
 use Rattle.logic.specs.Longer.{Longer}
@@ -89,7 +89,7 @@ pub record RuleExpanded (f : List ℕ) (φ : Formula) (h : List ℕ) : Type 0 wh
   pub accepted : (m : ℕ) → set_words * (counts_of h).terms ≤ m → judge h m ≡ Accepted (acceptance (bundle_of h))
   -- its left is the formula's term, its right holds no let, and both have equal value in every world.
   pub left : tree (bundle_of h) (bundle_of h).left ≡ plain (bundle_of f) φ
-  pub right : holdsLet (tree (bundle_of h) (bundle_of h).right) ≡ false
+  pub right : holds_let (tree (bundle_of h) (bundle_of h).right) ≡ false
   pub equal : EqualValues (bundle_of h) (bundle_of h).left (bundle_of h).right
 
 -- The three calls in a row: where a text is read, its formula is closed and the derivation of its job fits, the job is expanded, with long enough

@@ -2,10 +2,10 @@
 use Rattle.std.specs.Prelude.{ℕ, zero, suc, ◌≡◌, Bool, true, cond, ◌&&◌, List, [], ◌∷◌, map, eqb}
 use Rattle.bundle.specs.Bundle.{Bundle, sort_of_variable}
 use Rattle.bundle.specs.Lists.{same_list, different}
-use Rattle.logic.specs.Terms.{Term, Terms, var, app, letIn}
+use Rattle.logic.specs.Terms.{Term, Terms, var, app, let_in}
 use Rattle.logic.specs.Symbols.{truth_sort, signature_of, argument_sorts, result_sort}
-use Rattle.grammar.specs.Grammar.{Formula, called, truth, bracketed, Bracketed, denies, connects, applies, quantifies, lets, Formulas, noFormula}
-use Rattle.grammar.specs.Grammar.{andFormula, Bindings, noBinding, andBinding}
+use Rattle.grammar.specs.Grammar.{Formula, called, truth, bracketed, Bracketed, denies, connects, applies, quantifies, lets, Formulas, no_formula}
+use Rattle.grammar.specs.Grammar.{and_formula, Bindings, no_binding, and_binding}
 use Rattle.reading.specs.Called.{variable_called, symbol_called}
 use Rattle.reading.specs.Typing.{Typed, only, connective_symbol, sorts_declared, nested, sorts}
 
@@ -34,88 +34,88 @@ alone_fine b (suc x) f = true
 unfoldable mutual
   unfolding alone_sort signature_of result_sort variable_called symbol_called connective_symbol
 
-  pub headSort : Bundle → Formula → ℕ
-  headSort b (called w) = alone_sort b (variable_called b w) (symbol_called b w)
-  headSort b (truth v) = truth_sort
-  headSort b (bracketed φ) = insideSort b φ
+  pub head_sort : Bundle → Formula → ℕ
+  head_sort b (called w) = alone_sort b (variable_called b w) (symbol_called b w)
+  head_sort b (truth v) = truth_sort
+  head_sort b (bracketed φ) = inside_sort b φ
 
-  pub insideSort : Bundle → Bracketed → ℕ
-  insideSort b (denies φ) = result_sort b (signature_of b 3)
-  insideSort b (connects c φ ψ) = result_sort b (signature_of b (connective_symbol c (headSort b φ)))
-  insideSort b (applies f φ φs) = result_sort b (signature_of b (symbol_called b f))
-  insideSort b (quantifies q x xs φ) = truth_sort
-  insideSort b (lets x φ xs ψ) = headSort b ψ
+  pub inside_sort : Bundle → Bracketed → ℕ
+  inside_sort b (denies φ) = result_sort b (signature_of b 3)
+  inside_sort b (connects c φ ψ) = result_sort b (signature_of b (connective_symbol c (head_sort b φ)))
+  inside_sort b (applies f φ φs) = result_sort b (signature_of b (symbol_called b f))
+  inside_sort b (quantifies q x xs φ) = truth_sort
+  inside_sort b (lets x φ xs ψ) = head_sort b ψ
 
 unfoldable pub head_sorts : Bundle → Formulas → List ℕ
-unfolding headSort
-head_sorts b noFormula = []
-head_sorts b (andFormula φ φs) = headSort b φ ∷ head_sorts b φs
+unfolding head_sort
+head_sorts b no_formula = []
+head_sorts b (and_formula φ φs) = head_sort b φ ∷ head_sorts b φs
 
 unfoldable pub bound_sorts : Bundle → Bindings → List ℕ
-unfolding headSort
-bound_sorts b noBinding = []
-bound_sorts b (andBinding x φ xs) = headSort b φ ∷ bound_sorts b xs
+unfolding head_sort
+bound_sorts b no_binding = []
+bound_sorts b (and_binding x φ xs) = head_sort b φ ∷ bound_sorts b xs
 
 unfoldable pub bound_names : Bundle → Bindings → List ℕ
 unfolding variable_called
-bound_names b noBinding = []
-bound_names b (andBinding x φ xs) = variable_called b x ∷ bound_names b xs
+bound_names b no_binding = []
+bound_names b (and_binding x φ xs) = variable_called b x ∷ bound_names b xs
 
 -- ---- the term, whatever the sorts
 
 unfoldable mutual
-  unfolding alone_term variable_called symbol_called connective_symbol headSort nested bound_names
+  unfolding alone_term variable_called symbol_called connective_symbol head_sort nested bound_names
 
   pub plain : Bundle → Formula → Term
   plain b (called w) = alone_term (variable_called b w) (symbol_called b w)
   plain b (truth v) = app (cond v 1 2) Terms.none
-  plain b (bracketed φ) = plainInside b φ
+  plain b (bracketed φ) = plain_inside b φ
 
-  pub plainInside : Bundle → Bracketed → Term
-  plainInside b (denies φ) = app 3 (Terms.more (plain b φ) Terms.none)
-  plainInside b (connects c φ ψ) = app (connective_symbol c (headSort b φ)) (Terms.more (plain b φ) (Terms.more (plain b ψ) Terms.none))
-  plainInside b (applies f φ φs) = app (symbol_called b f) (Terms.more (plain b φ) (plain_all b φs))
-  plainInside b (quantifies q x xs φ) = nested b q (x ∷ xs) (plain b φ)
-  plainInside b (lets x φ xs ψ) = letIn (variable_called b x ∷ bound_names b xs) (Terms.more (plain b φ) (plainBound b xs)) (plain b ψ)
+  pub plain_inside : Bundle → Bracketed → Term
+  plain_inside b (denies φ) = app 3 (Terms.more (plain b φ) Terms.none)
+  plain_inside b (connects c φ ψ) = app (connective_symbol c (head_sort b φ)) (Terms.more (plain b φ) (Terms.more (plain b ψ) Terms.none))
+  plain_inside b (applies f φ φs) = app (symbol_called b f) (Terms.more (plain b φ) (plain_all b φs))
+  plain_inside b (quantifies q x xs φ) = nested b q (x ∷ xs) (plain b φ)
+  plain_inside b (lets x φ xs ψ) = let_in (variable_called b x ∷ bound_names b xs) (Terms.more (plain b φ) (plain_bound b xs)) (plain b ψ)
 
   pub plain_all : Bundle → Formulas → Terms
-  plain_all b noFormula = Terms.none
-  plain_all b (andFormula φ φs) = Terms.more (plain b φ) (plain_all b φs)
+  plain_all b no_formula = Terms.none
+  plain_all b (and_formula φ φs) = Terms.more (plain b φ) (plain_all b φs)
 
-  pub plainBound : Bundle → Bindings → Terms
-  plainBound b noBinding = Terms.none
-  plainBound b (andBinding x φ xs) = Terms.more (plain b φ) (plainBound b xs)
+  pub plain_bound : Bundle → Bindings → Terms
+  plain_bound b no_binding = Terms.none
+  plain_bound b (and_binding x φ xs) = Terms.more (plain b φ) (plain_bound b xs)
 
 -- ---- the tests, each on one node and the heads of its parts
 
 unfoldable mutual
-  unfolding alone_fine accepts headSort head_sorts bound_sorts bound_names connective_symbol sorts_declared variable_called symbol_called different same_list
+  unfolding alone_fine accepts head_sort head_sorts bound_sorts bound_names connective_symbol sorts_declared variable_called symbol_called different same_list
 
   pub fine : Bundle → Formula → Bool
   fine b (called w) = alone_fine b (variable_called b w) (symbol_called b w)
   fine b (truth v) = true
-  fine b (bracketed φ) = fineInside b φ
+  fine b (bracketed φ) = fine_inside b φ
 
-  pub fineInside : Bundle → Bracketed → Bool
-  fineInside b (denies φ) = fine b φ && accepts b 3 (headSort b φ ∷ [])
-  fineInside b (connects c φ ψ) = fine b φ && (fine b ψ && accepts b (connective_symbol c (headSort b φ)) (headSort b φ ∷ headSort b ψ ∷ []))
-  fineInside b (applies f φ φs) = fine b φ && (fineAll b φs && accepts b (symbol_called b f) (headSort b φ ∷ head_sorts b φs))
-  fineInside b (quantifies q x xs φ) = fine b φ && (sorts_declared b (x ∷ xs) && eqb (headSort b φ) truth_sort)
-  fineInside b (lets x φ xs ψ) =
-      fine b φ && (fineBound b xs && (fine b ψ
+  pub fine_inside : Bundle → Bracketed → Bool
+  fine_inside b (denies φ) = fine b φ && accepts b 3 (head_sort b φ ∷ [])
+  fine_inside b (connects c φ ψ) = fine b φ && (fine b ψ && accepts b (connective_symbol c (head_sort b φ)) (head_sort b φ ∷ head_sort b ψ ∷ []))
+  fine_inside b (applies f φ φs) = fine b φ && (fine_all b φs && accepts b (symbol_called b f) (head_sort b φ ∷ head_sorts b φs))
+  fine_inside b (quantifies q x xs φ) = fine b φ && (sorts_declared b (x ∷ xs) && eqb (head_sort b φ) truth_sort)
+  fine_inside b (lets x φ xs ψ) =
+      fine b φ && (fine_bound b xs && (fine b ψ
       && (different (variable_called b x ∷ bound_names b xs)
-      && same_list (map (sort_of_variable b) (variable_called b x ∷ bound_names b xs)) (headSort b φ ∷ bound_sorts b xs))))
+      && same_list (map (sort_of_variable b) (variable_called b x ∷ bound_names b xs)) (head_sort b φ ∷ bound_sorts b xs))))
 
-  pub fineAll : Bundle → Formulas → Bool
-  fineAll b noFormula = true
-  fineAll b (andFormula φ φs) = fine b φ && fineAll b φs
+  pub fine_all : Bundle → Formulas → Bool
+  fine_all b no_formula = true
+  fine_all b (and_formula φ φs) = fine b φ && fine_all b φs
 
-  pub fineBound : Bundle → Bindings → Bool
-  fineBound b noBinding = true
-  fineBound b (andBinding x φ xs) = fine b φ && fineBound b xs
+  pub fine_bound : Bundle → Bindings → Bool
+  fine_bound b no_binding = true
+  fine_bound b (and_binding x φ xs) = fine b φ && fine_bound b xs
 
 abbrev pub typed : Bundle → Formula → Typed
-typed b φ = record { term = plain b φ; sort = headSort b φ }
+typed b φ = record { term = plain b φ; sort = head_sort b φ }
 
 -- A formula is well sorted exactly where every node's test passes; its sort is its head's.
 abbrev pub SortsLocal : Type 0

@@ -2,11 +2,11 @@
 -- before it as in the writer.'
 use Rattle.std.specs.Prelude.{ℕ, suc, max, List, [], ◌∷◌}
 use Rattle.bundle.specs.Bundle.{Bundle}
-use Rattle.logic.specs.Terms.{Term, Terms, var, app, bind, letIn, none, more}
+use Rattle.logic.specs.Terms.{Term, Terms, var, app, bind, let_in, none, more}
 use Rattle.logic.specs.Lookup.{seek, same_variable, same_application, same_binder, same_let}
 use Rattle.logic.specs.Longer.{consecutive}
 use Rattle.grammar.specs.Grammar.{Formula, called, truth, bracketed, Bracketed, denies, connects, applies, quantifies, lets}
-use Rattle.grammar.specs.Grammar.{Formulas, noFormula, andFormula, Bindings, noBinding, andBinding}
+use Rattle.grammar.specs.Grammar.{Formulas, no_formula, and_formula, Bindings, no_binding, and_binding}
 use Rattle.expansion.specs.Placed.{PlacedTerm, place_variable, place_application, place_binder, place_let}
 
 -- a bundle, and terms of it
@@ -20,18 +20,18 @@ unfoldable mutual
 
   pub file : Term → Bundle → PlacedTerm
   file (var x) b = place_variable b x
-  file (app f ts) b = let p : PlacedTerms = fileAll ts b in place_application p.bundle f p.terms
+  file (app f ts) b = let p : PlacedTerms = file_all ts b in place_application p.bundle f p.terms
   file (bind q x t) b = let p : PlacedTerm = file t b in place_binder p.bundle q x p.term
-  file (letIn vs ts t) b =
-      let p : PlacedTerms = fileAll ts b in
+  file (let_in vs ts t) b =
+      let p : PlacedTerms = file_all ts b in
       let r : PlacedTerm = file t p.bundle in
       place_let r.bundle vs p.terms r.term
 
-  pub fileAll : Terms → Bundle → PlacedTerms
-  fileAll none b = record { bundle = b; terms = [] }
-  fileAll (more t ts) b =
+  pub file_all : Terms → Bundle → PlacedTerms
+  file_all none b = record { bundle = b; terms = [] }
+  file_all (more t ts) b =
       let p : PlacedTerm = file t b in
-      let q : PlacedTerms = fileAll ts p.bundle in
+      let q : PlacedTerms = file_all ts p.bundle in
       record { bundle = q.bundle; terms = p.term ∷ q.terms }
 
 -- ---- nesting
@@ -40,32 +40,32 @@ unfoldable mutual
 unfoldable mutual
   pub depth : Term → ℕ
   depth (var x) = 1
-  depth (app f ts) = suc (depthAll ts)
+  depth (app f ts) = suc (depth_all ts)
   depth (bind q x t) = suc (depth t)
-  depth (letIn vs ts t) = suc (max (depthAll ts) (depth t))
+  depth (let_in vs ts t) = suc (max (depth_all ts) (depth t))
 
-  pub depthAll : Terms → ℕ
-  depthAll none = 0
-  depthAll (more t ts) = max (depth t) (depthAll ts)
+  pub depth_all : Terms → ℕ
+  depth_all none = 0
+  depth_all (more t ts) = max (depth t) (depth_all ts)
 
 -- how deep formulas are nested
 unfoldable mutual
   pub nesting : Formula → ℕ
   nesting (called w) = 1
   nesting (truth v) = 1
-  nesting (bracketed φ) = suc (nestingInside φ)
+  nesting (bracketed φ) = suc (nesting_inside φ)
 
-  pub nestingInside : Bracketed → ℕ
-  nestingInside (denies φ) = nesting φ
-  nestingInside (connects c φ ψ) = max (nesting φ) (nesting ψ)
-  nestingInside (applies f φ φs) = max (nesting φ) (nestingAll φs)
-  nestingInside (quantifies q x xs φ) = nesting φ
-  nestingInside (lets x φ xs ψ) = max (max (nesting φ) (nestingBound xs)) (nesting ψ)
+  pub nesting_inside : Bracketed → ℕ
+  nesting_inside (denies φ) = nesting φ
+  nesting_inside (connects c φ ψ) = max (nesting φ) (nesting ψ)
+  nesting_inside (applies f φ φs) = max (nesting φ) (nesting_all φs)
+  nesting_inside (quantifies q x xs φ) = nesting φ
+  nesting_inside (lets x φ xs ψ) = max (max (nesting φ) (nesting_bound xs)) (nesting ψ)
 
-  pub nestingAll : Formulas → ℕ
-  nestingAll noFormula = 0
-  nestingAll (andFormula φ φs) = max (nesting φ) (nestingAll φs)
+  pub nesting_all : Formulas → ℕ
+  nesting_all no_formula = 0
+  nesting_all (and_formula φ φs) = max (nesting φ) (nesting_all φs)
 
-  pub nestingBound : Bindings → ℕ
-  nestingBound noBinding = 0
-  nestingBound (andBinding x φ xs) = max (nesting φ) (nestingBound xs)
+  pub nesting_bound : Bindings → ℕ
+  nesting_bound no_binding = 0
+  nesting_bound (and_binding x φ xs) = max (nesting φ) (nesting_bound xs)

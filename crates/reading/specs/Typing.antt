@@ -3,11 +3,11 @@ use Rattle.std.specs.Prelude.{ℕ, zero, suc, Bool, true, cond, ◌&&◌, List, 
 use Rattle.std.proofs.Math.Option.{Option, none, some}
 use Rattle.bundle.specs.Bundle.{Bundle, sort_of_variable}
 use Rattle.bundle.specs.Lists.{same_list, different}
-use Rattle.logic.specs.Terms.{Binder, Term, Terms, var, app, bind, letIn}
+use Rattle.logic.specs.Terms.{Binder, Term, Terms, var, app, bind, let_in}
 use Rattle.logic.specs.Symbols.{truth_sort, item_sort, signature_of, argument_sorts, result_sort}
 use Rattle.grammar.specs.Bytes.{SortWord, bool, item, Connective, conjunction, disjunction, implication, equality}
 use Rattle.grammar.specs.Grammar.{SortedVariable, declares, Formula, called, truth, bracketed, Bracketed, denies, connects, applies, quantifies, lets}
-use Rattle.grammar.specs.Grammar.{Formulas, noFormula, andFormula, Bindings, noBinding, andBinding}
+use Rattle.grammar.specs.Grammar.{Formulas, no_formula, and_formula, Bindings, no_binding, and_binding}
 use Rattle.grammar.specs.Parser.{and_then}
 use Rattle.reading.specs.Called.{variable_called, symbol_called}
 
@@ -86,7 +86,7 @@ unfoldable pub letting : Bundle → TypedBindings → Typed → Option Typed
 unfolding different same_list
 letting b xs t =
     only (different xs.variables && same_list (map (sort_of_variable b) xs.variables) xs.sorts)
-    (record { term = letIn xs.variables xs.terms t.term; sort = t.sort })
+    (record { term = let_in xs.variables xs.terms t.term; sort = t.sort })
 
 -- ---- formulas
 
@@ -96,20 +96,20 @@ unfoldable mutual
   pub sorts : Bundle → Formula → Option Typed
   sorts b (called w) = alone b (variable_called b w) (symbol_called b w)
   sorts b (truth v) = some (record { term = app (cond v 1 2) Terms.none; sort = truth_sort })
-  sorts b (bracketed φ) = sortsInside b φ
+  sorts b (bracketed φ) = sorts_inside b φ
 
-  pub sortsInside : Bundle → Bracketed → Option Typed
-  sortsInside b (denies φ) = and_then (sorts b φ) (λ t. applied b 3 (also t none'))
-  sortsInside b (connects c φ ψ) = and_then (sorts b φ) (λ t. and_then (sorts b ψ) (λ u. applied b (connective_symbol c t.sort) (also t (also u none'))))
-  sortsInside b (applies f φ φs) = and_then (sorts b φ) (λ t. and_then (sortsAll b φs) (λ ts. applied b (symbol_called b f) (also t ts)))
-  sortsInside b (quantifies q x xs φ) = and_then (sorts b φ) (λ t. quantified b q (x ∷ xs) t)
-  sortsInside b (lets x φ xs ψ) =
-      and_then (sorts b φ) (λ t. and_then (sortsBound b xs) (λ ts. and_then (sorts b ψ) (λ u. letting b (also_bound (variable_called b x) t ts) u)))
+  pub sorts_inside : Bundle → Bracketed → Option Typed
+  sorts_inside b (denies φ) = and_then (sorts b φ) (λ t. applied b 3 (also t none'))
+  sorts_inside b (connects c φ ψ) = and_then (sorts b φ) (λ t. and_then (sorts b ψ) (λ u. applied b (connective_symbol c t.sort) (also t (also u none'))))
+  sorts_inside b (applies f φ φs) = and_then (sorts b φ) (λ t. and_then (sorts_all b φs) (λ ts. applied b (symbol_called b f) (also t ts)))
+  sorts_inside b (quantifies q x xs φ) = and_then (sorts b φ) (λ t. quantified b q (x ∷ xs) t)
+  sorts_inside b (lets x φ xs ψ) =
+      and_then (sorts b φ) (λ t. and_then (sorts_bound b xs) (λ ts. and_then (sorts b ψ) (λ u. letting b (also_bound (variable_called b x) t ts) u)))
 
-  pub sortsAll : Bundle → Formulas → Option TypedList
-  sortsAll b noFormula = some none'
-  sortsAll b (andFormula φ φs) = and_then (sorts b φ) (λ t. and_then (sortsAll b φs) (λ ts. some (also t ts)))
+  pub sorts_all : Bundle → Formulas → Option TypedList
+  sorts_all b no_formula = some none'
+  sorts_all b (and_formula φ φs) = and_then (sorts b φ) (λ t. and_then (sorts_all b φs) (λ ts. some (also t ts)))
 
-  pub sortsBound : Bundle → Bindings → Option TypedBindings
-  sortsBound b noBinding = some (record { variables = []; terms = Terms.none; sorts = [] })
-  sortsBound b (andBinding x φ xs) = and_then (sorts b φ) (λ t. and_then (sortsBound b xs) (λ ts. some (also_bound (variable_called b x) t ts)))
+  pub sorts_bound : Bundle → Bindings → Option TypedBindings
+  sorts_bound b no_binding = some (record { variables = []; terms = Terms.none; sorts = [] })
+  sorts_bound b (and_binding x φ xs) = and_then (sorts b φ) (λ t. and_then (sorts_bound b xs) (λ ts. some (also_bound (variable_called b x) t ts)))

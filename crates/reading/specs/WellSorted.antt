@@ -7,7 +7,7 @@ use Rattle.logic.specs.Lists.{Different}
 use Rattle.logic.specs.Symbols.{truth_sort, item_sort, signature_of, argument_sorts, result_sort}
 use Rattle.grammar.specs.Bytes.{Connective, conjunction, disjunction, implication, equality}
 use Rattle.grammar.specs.Grammar.{SortedVariable, declares, Formula, called, truth, bracketed, Bracketed, denies, connects, applies, quantifies, lets}
-use Rattle.grammar.specs.Grammar.{Formulas, noFormula, andFormula, Bindings, noBinding, andBinding}
+use Rattle.grammar.specs.Grammar.{Formulas, no_formula, and_formula, Bindings, no_binding, and_binding}
 use Rattle.reading.specs.Called.{variable_called, symbol_called}
 use Rattle.reading.specs.Typing.{Typed, sort_number, sorts}
 use Rattle.reading.specs.Local.{bound_names, plain}
@@ -50,15 +50,15 @@ abbrev mutual
 
   -- as many formulas as sorts, each of its sort
   pub AllSorted : Bundle → Formulas → List ℕ → Type 0
-  AllSorted b noFormula [] = Unit {0}
-  AllSorted b noFormula (s ∷ ss) = ⊥
-  AllSorted b (andFormula φ φs) [] = ⊥
-  AllSorted b (andFormula φ φs) (s ∷ ss) = WellSorted b φ s × AllSorted b φs ss
+  AllSorted b no_formula [] = Unit {0}
+  AllSorted b no_formula (s ∷ ss) = ⊥
+  AllSorted b (and_formula φ φs) [] = ⊥
+  AllSorted b (and_formula φ φs) (s ∷ ss) = WellSorted b φ s × AllSorted b φs ss
 
   -- each bound formula of its variable's sort
   pub BoundSorted : Bundle → Bindings → Type 0
-  BoundSorted b noBinding = Unit {0}
-  BoundSorted b (andBinding x φ xs) = WellSorted b φ (sort_of_variable b (variable_called b x)) × BoundSorted b xs
+  BoundSorted b no_binding = Unit {0}
+  BoundSorted b (and_binding x φ xs) = WellSorted b φ (sort_of_variable b (variable_called b x)) × BoundSorted b xs
 
 -- A formula has a term exactly where it is well sorted, and then of that sort.
 abbrev pub TypingExactly : Type 0

@@ -1,7 +1,7 @@
 -- Words stored at the end of a section are a record appended, and every other section stays as it is.
 --     Written                        words vs stand from place p on, and every other word is as it was
 --     written_none, written_more     no store, and one store more
---     written_2, written_4, written-5   stores one after another
+--     written_2, written_4, written_5   stores one after another
 --     rows_kept, rows_more           a section whose words are as they were, and one with a record more: one law over start, size and kind
 --     variable_appended, ..          what the stores of each append leave
 use mathlib.Core.Path.{◌≡◌, refl, sym, ◌∙◌}
@@ -57,9 +57,9 @@ module _ (w : List ℕ) (p a b : ℕ) where
     pub written_4 : p + 4 ≤ length w → Written w (set (set (set (set w p a) (p + 1) b) (p + 2) d) (p + 3) e) p (a ∷ b ∷ d ∷ e ∷ [])
     written_4 h = written_more (written_more (written_2 (omega arith)) (p + 2) d (omega arith) (omega arith)) (p + 3) e (omega arith) (omega arith)
 
-    pub written-5 : (f : ℕ) → p + 5 ≤ length w
+    pub written_5 : (f : ℕ) → p + 5 ≤ length w
         → Written w (set (set (set (set (set w p a) (p + 1) b) (p + 2) d) (p + 3) e) (p + 4) f) p (a ∷ b ∷ d ∷ e ∷ f ∷ [])
-    written-5 f h = written_more (written_4 (omega arith)) (p + 4) f (omega arith) (omega arith)
+    written_5 f h = written_more (written_4 (omega arith)) (p + 4) f (omega arith) (omega arith)
 
 -- v has the words of w from place lo to before place hi
 abbrev pub Same : List ℕ → List ℕ → ℕ → ℕ → Type 0

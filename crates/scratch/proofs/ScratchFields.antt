@@ -1,6 +1,6 @@
 -- Counts and room of the scratch.
 --     sized_in, sized_as      the length of each section; by the bundle that the words stand for
---     symbols-fit, ..         each section ends within the words
+--     symbols_fit, ..         each section ends within the words
 use mathlib.Core.Path.{◌≡◌, subst}
 use mathlib.Core.List.{List}
 use Prim.Native.Nat.{ℕ, ◌+◌, ◌*◌, ◌≤◌}
@@ -21,23 +21,23 @@ module _ (w : List ℕ) (c : Counts) where
 
   -- each section ends within the words
   module _ (r : Roomy w c) where
-    pub symbols-fit : symbols_at limits + 2 * c.symbols ≤ length w
-    symbols-fit = omega (arith, r.long, r.within.symbols)
+    pub symbols_fit : symbols_at limits + 2 * c.symbols ≤ length w
+    symbols_fit = omega (arith, r.long, r.within.symbols)
 
-    pub variables-fit : variables_at limits + 1 * c.variables ≤ length w
-    variables-fit = omega (arith, r.long, r.within.variables)
+    pub variables_fit : variables_at limits + 1 * c.variables ≤ length w
+    variables_fit = omega (arith, r.long, r.within.variables)
 
-    pub terms-fit : terms_at limits + 4 * c.terms ≤ length w
-    terms-fit = omega (arith, r.long, r.within.terms)
+    pub terms_fit : terms_at limits + 4 * c.terms ≤ length w
+    terms_fit = omega (arith, r.long, r.within.terms)
 
-    pub links-fit : links_at limits + 2 * c.links ≤ length w
-    links-fit = omega (arith, r.long, r.within.links)
+    pub links_fit : links_at limits + 2 * c.links ≤ length w
+    links_fit = omega (arith, r.long, r.within.links)
 
-    pub contexts-fit : contexts_at limits + 4 * c.contexts ≤ length w
-    contexts-fit = omega (arith, r.long, r.within.contexts)
+    pub contexts_fit : contexts_at limits + 4 * c.contexts ≤ length w
+    contexts_fit = omega (arith, r.long, r.within.contexts)
 
-    pub steps-fit : steps_at limits + 5 * c.steps ≤ length w
-    steps-fit = omega (arith, r.long, r.within.steps)
+    pub steps_fit : steps_at limits + 5 * c.steps ≤ length w
+    steps_fit = omega (arith, r.long, r.within.steps)
 
 -- the limits are within the limits
 pub limits_within : Within limits

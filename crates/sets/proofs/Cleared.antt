@@ -11,11 +11,11 @@ use Rattle.sets.proofs.Members.{filled_length, filled_in}
 
 pub all_cleared : (w : List ℕ) → cleared w 0 (length w) ≡ replicate (length w) 0
 all_cleared w =
-    ext_get_or 0 (cleared w 0 (length w)) (replicate (length w) 0) (same-long ∙ sym (length-replicate (length w) 0))
-    (λ i h. zero_at i (omega (arith, same-long)))
+    ext_get_or 0 (cleared w 0 (length w)) (replicate (length w) 0) (same_long ∙ sym (length-replicate (length w) 0))
+    (λ i h. zero_at i (omega (arith, same_long)))
   where
-    same-long : length (cleared w 0 (length w)) ≡ length w
-    same-long = filled_length (λ k. 0) w 0 (length w)
+    same_long : length (cleared w 0 (length w)) ≡ length w
+    same_long = filled_length (λ k. 0) w 0 (length w)
 
     zero_at : (i : ℕ) → i < length w → get_or (cleared w 0 (length w)) i 0 ≡ get_or (replicate (length w) 0) i 0
     zero_at i h =

@@ -1,6 +1,6 @@
 -- The sorts of terms, noted from the first term up.
 --     SortsBelow                       the sorts of the terms below t are noted; at all other places there is 0
---     sorts_none, sorts_on, sorts_all  so at term 1; on to t + 1; past the last term all are
+--     sorts_none, sorts_on, sorts_all_lem  so at term 1; on to t + 1; past the last term all are
 use mathlib.Core.Path.{◌≡◌, refl, sym, ap, ◌∙◌, fun_ext}
 use mathlib.Core.Bool.{Bool, true, false, cond}
 use mathlib.Core.List.{List}
@@ -28,9 +28,9 @@ module _ (f : List ℕ) (c : Counts) where
   abbrev pub SortsBelow : List ℕ → ℕ → Type 0
   SortsBelow w t = (i : ℕ) → get_or w i 0 ≡ below truth_sort t (sort_at (bundle_at f c)) i
 
-  sort_past : (t : ℕ) → c.terms < t → sort_at (bundle_at f c) t ≡ truth_sort
+  sort_past_lem : (t : ℕ) → c.terms < t → sort_at (bundle_at f c) t ≡ truth_sort
   unfolding sort_by kind_of sort_as
-  sort_past t h =
+  sort_past_lem t h =
       sort_below (bundle_at f c) t
       ∙ ap (sort_by (bundle_at f c) (below truth_sort t (sort_at (bundle_at f c)))) (at_none no_term (bundle_at f c).terms t (rw terms_length h))
 
@@ -62,9 +62,9 @@ module _ (f : List ℕ) (c : Counts) where
           rw (e, get_or-set_same w t s 0 room, up) here
       go (no other) = rw (get_or-set_other w t i s 0 other, same other (ltb i t) refl) (so i)
 
-  pub sorts_all : (w : List ℕ) (t : ℕ) → SortsBelow w t → c.terms < t → Sorted f c w
-  sorts_all w t so past = record { noted = λ i. so i ∙ go i (ltb i t) refl }
+  pub sorts_all_lem : (w : List ℕ) (t : ℕ) → SortsBelow w t → c.terms < t → Sorted f c w
+  sorts_all_lem w t so past = record { noted = λ i. so i ∙ go i (ltb i t) refl }
     where
       go : (i : ℕ) (q : Bool) → ltb i t ≡ q → cond q (sort_at (bundle_at f c) i) truth_sort ≡ sort_at (bundle_at f c) i
       go i true e = refl
-      go i false e = let h : t ≤ i = ltb-false i t e in sym (sort_past i (omega arith))
+      go i false e = let h : t ≤ i = ltb-false i t e in sym (sort_past_lem i (omega arith))

@@ -1,6 +1,6 @@
 -- Laws of the second scan.
 --     guess_in, guess_out, column-…, if-…, inside-…     as the functions of `guesses` return
---     guessed_word, guessed-open, guessed_close         one lexeme
+--     guessed_word, guessed_open, guessed_close         one lexeme
 --     Seeking                                           the loop of `guesses::find_levels`
 use Prim.Native.Nat.{ℕ, zero, suc, ◌+◌, ◌-◌, ◌*◌, ◌≤◌, ◌<◌}
 use native.Mathlib.Omega.{arith}
@@ -79,25 +79,25 @@ module _ (low top depth : ℕ) where
   if_above x y l m = rw (le-ltb depth low l, le-ltb depth top m)
 
   module _ (a : List ℕ) (g : ℕ) where
-    pub inside-enter : depth < low → depth + 1 ≡ low → (20 ≡ guess_inside low top depth g) × (a ≡ guess_stored a low top depth g)
+    pub inside_enter : depth < low → depth + 1 ≡ low → (20 ≡ guess_inside low top depth g) × (a ≡ guess_stored a low top depth g)
     unfolding guess_inside guess_stored
-    inside-enter l e = (rw (eq-eqb (depth + 1) low e), if_below (set a (depth - low) (cell g 10)) a l)
+    inside_enter l e = (rw (eq-eqb (depth + 1) low e), if_below (set a (depth - low) (cell g 10)) a l)
 
-    pub inside-below : depth < low → (depth + 1 ≡ low → ⊥) → (g ≡ guess_inside low top depth g) × (a ≡ guess_stored a low top depth g)
+    pub inside_below : depth < low → (depth + 1 ≡ low → ⊥) → (g ≡ guess_inside low top depth g) × (a ≡ guess_stored a low top depth g)
     unfolding guess_inside guess_stored
-    inside-below l e = (rw (ne_eqb (depth + 1) low e) (if_below (cell g 0) g l), if_below (set a (depth - low) (cell g 10)) a l)
+    inside_below l e = (rw (ne_eqb (depth + 1) low e) (if_below (cell g 0) g l), if_below (set a (depth - low) (cell g 10)) a l)
 
-    pub inside-held : low ≤ depth → depth < top → (s v : ℕ) → s ≡ cell g 0 → v ≡ cell g 10
+    pub inside_held : low ≤ depth → depth < top → (s v : ℕ) → s ≡ cell g 0 → v ≡ cell g 10
         → (s ≡ guess_inside low top depth g) × (set a (depth - low) v ≡ guess_stored a low top depth g)
     unfolding guess_inside guess_stored
-    inside-held l m s v e f = (
+    inside_held l m s v e f = (
       rw (ne_eqb (depth + 1) low (λ q. omega arith)) (e ∙ if_inside (cell g 0) g l m),
       ap (set a (depth - low)) f ∙ if_inside (set a (depth - low) (cell g 10)) a l m,
     )
 
-    pub inside-above : low ≤ depth → top ≤ depth → (g ≡ guess_inside low top depth g) × (a ≡ guess_stored a low top depth g)
+    pub inside_above : low ≤ depth → top ≤ depth → (g ≡ guess_inside low top depth g) × (a ≡ guess_stored a low top depth g)
     unfolding guess_inside guess_stored
-    inside-above l m = (rw (ne_eqb (depth + 1) low (λ q. omega arith)) (if_above (cell g 0) g l m), if_above (set a (depth - low) (cell g 10)) a l m)
+    inside_above l m = (rw (ne_eqb (depth + 1) low (λ q. omega arith)) (if_above (cell g 0) g l m), if_above (set a (depth - low) (cell g 10)) a l m)
 
 -- ---- one lexeme
 
@@ -151,9 +151,9 @@ module _ (a : List ℕ) (low top d g : ℕ) (x : Stand) (h : Guessed a low top d
         → (j : ℕ) → low ≤ j → j < d → j < top → alike (level (v ∷ x.held) j) (get_or b (j - low) 0) ≡ true
     under b q j k m o = rw (level_under v x.held j (omega (arith, h.deep)), q j k m) (h.stored j k m o)
 
-    pub guessed-open : Guessed (guess_stored a low top d g) low top (d + 1) (guess_inside low top d g) (stand n (cell x.spot 0) (cell x.spot 10 ∷ x.held))
+    pub guessed_open : Guessed (guess_stored a low top d g) low top (d + 1) (guess_inside low top d g) (stand n (cell x.spot 0) (cell x.spot 10 ∷ x.held))
     unfolding v
-    guessed-open = go (ltb d low) refl (ltb d top) refl
+    guessed_open = go (ltb d low) refl (ltb d top) refl
       where
         y : Stand
         y = stand n (cell x.spot 0) (cell x.spot 10 ∷ x.held)
@@ -164,7 +164,7 @@ module _ (a : List ℕ) (low top d g : ℕ) (x : Stand) (h : Guessed a low top d
         below : d < low → Guessed (guess_stored a low top d g) low top (d + 1) (guess_inside low top d g) y
         below k = record {
           deep = deeper;
-          spot = λ p q. let e : d + 1 ≡ low = omega arith in rw (← (inside-enter low top d a g k e).0) (guess_enter x.spot l c);
+          spot = λ p q. let e : d + 1 ≡ low = omega arith in rw (← (inside_enter low top d a g k e).0) (guess_enter x.spot l c);
           stored = λ j p q r. absurd (off j p q);
         }
           where
@@ -173,7 +173,7 @@ module _ (a : List ℕ) (low top d g : ℕ) (x : Stand) (h : Guessed a low top d
 
         inside : low ≤ d → d < top → Guessed (guess_stored a low top d g) low top (d + 1) (guess_inside low top d g) y
         inside k m =
-            let e = inside-held low top d a g k m (cell g 0) (cell g 10) refl refl in
+            let e = inside_held low top d a g k m (cell g 0) (cell g 10) refl refl in
             let o = guess_open x.spot g l (h.spot k m) c in
             record {
               deep = deeper;
@@ -192,7 +192,7 @@ module _ (a : List ℕ) (low top d g : ℕ) (x : Stand) (h : Guessed a low top d
         above k m = record {
           deep = deeper;
           spot = λ p q. absurd (off q);
-          stored = λ j p q r. rw (← (inside-above low top d a g k m).1) (under a (λ i y u. refl) j p (omega arith) r);
+          stored = λ j p q r. rw (← (inside_above low top d a g k m).1) (under a (λ i y u. refl) j p (omega arith) r);
         }
           where
             off : d + 1 < top → ⊥
@@ -263,9 +263,9 @@ module _ (text a : List ℕ) (low top : ℕ) (g : Guess) (i : ℕ) (l : i < leng
     bounds : (i < n) × (n ≤ length text)
     bounds = let v = lexeme_within text (i + 1) (omega arith) in (omega (arith, v.0, q), omega (arith, v.1, q))
 
-    pub turned-open : g.depth ≤ i → code_of (get_or text i 0) ≡ 3 → top ≤ low + length a → (b : List ℕ) → b ≡ guess_stored a low top g.depth g.spot
+    pub turned_open : g.depth ≤ i → code_of (get_or text i 0) ≡ 3 → top ≤ low + length a → (b : List ℕ) → b ≡ guess_stored a low top g.depth g.spot
         → (s : ℕ) → s ≡ guess_inside low top g.depth g.spot → GuessTurned text a b low top g i (guess (g.depth + 1) s)
-    turned-open d k fits b p s f = record {
+    turned_open d k fits b p s f = record {
       later = bounds.0;
       inside = bounds.1;
       shallow = omega (arith, bounds.0);
@@ -275,7 +275,7 @@ module _ (text a : List ℕ) (low top : ℕ) (g : Guess) (i : ℕ) (l : i < leng
         go : (known : Name → Bool) (t : ℕ) (held : List ℕ) (y : Stand) → Sound text (stand i t held) → Next known text (stand i t held) y
             → Guessed a low top g.depth g.spot (stand i t held) → (y.byte ≡ n) × Guessed b low top (g.depth + 1) s y
         go known t held y snd (opens _ c) h =
-            (sym q, rw (p, f) (guessed-open a low top g.depth g.spot (stand i t held) h (lexeme_from text (i + 1)) snd.low c fits))
+            (sym q, rw (p, f) (guessed_open a low top g.depth g.spot (stand i t held) h (lexeme_from text (i + 1)) snd.low c fits))
         go known t held y snd (words e c u) h = absurd (off (sym k ∙ e))
           where
             off : ◌≡◌ {A = ℕ} 3 6 → ⊥
@@ -286,8 +286,8 @@ module _ (text a : List ℕ) (low top : ℕ) (g : Guess) (i : ℕ) (l : i < leng
             off z = omega arith
 
     module _ (x : code_of (get_or text i 0) ≡ 6 → ⊥) (z : code_of (get_or text i 0) ≡ 3 → ⊥) where
-      pub turned-empty : g.depth ≡ 0 → GuessTurned text a a low top g i (guess g.depth g.spot)
-      turned-empty d = record {
+      pub turned_empty : g.depth ≡ 0 → GuessTurned text a a low top g i (guess g.depth g.spot)
+      turned_empty d = record {
         later = bounds.0;
         inside = bounds.1;
         shallow = omega (arith, d);
@@ -304,9 +304,9 @@ module _ (text a : List ℕ) (low top : ℕ) (g : Guess) (i : ℕ) (l : i < leng
               off : 0 ≡ suc (length rest) → ⊥
               off z = omega arith
 
-      pub turned-close : g.depth ≤ i → (s : ℕ) → s ≡ if_between low top (g.depth - 1) (get_or a (g.depth - 1 - low) 0) g.spot
+      pub turned_close : g.depth ≤ i → (s : ℕ) → s ≡ if_between low top (g.depth - 1) (get_or a (g.depth - 1 - low) 0) g.spot
           → GuessTurned text a a low top g i (guess (g.depth - 1) s)
-      turned-close d s f = record {
+      turned_close d s f = record {
         later = bounds.0;
         inside = bounds.1;
         shallow = omega (arith, bounds.0);

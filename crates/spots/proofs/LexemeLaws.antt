@@ -1,7 +1,7 @@
 -- Laws of one lexeme of a text at a spot: the verdict is that of the rest, or 19 or 20.
 --     over_lexeme                                 blanks
---     opens-goes, opens-stops, closes-goes, closes-stops, stray-stops
---     word-goes, word-unknown, word-stops         a run
+--     opens_goes, opens_stops, closes_goes, closes_stops, stray_stops
+--     word_goes, word_unknown, word_stops         a run
 --     judged_end                                  the text's end
 use Prim.Native.Nat.{ℕ, zero, suc, ◌+◌, ◌-◌, ◌≤◌, ◌<◌}
 use native.Mathlib.Omega.{arith}
@@ -126,11 +126,11 @@ sort_meant_lem c w = go (eqb c 66) refl
 
     go : (b : Bool) → eqb c 66 ≡ b
         → (starts (c ∷ w) (bytes "Bool") || starts (c ∷ w) (bytes "Item")) ≡ starts (c ∷ w) (cond b (bytes "Bool") (bytes "Item"))
-    go true e = rw (e, ne_eqb c 73 (off (eqb-true c 66 e))) (or-not (starts w (bytes "ool")))
+    go true e = rw (e, ne_eqb c 73 (off (eqb-true c 66 e))) (or_not (starts w (bytes "ool")))
       where
-        or-not : (b : Bool) → (b || false) ≡ b
-        or-not true = refl
-        or-not false = refl
+        or_not : (b : Bool) → (b || false) ≡ b
+        or_not true = refl
+        or_not false = refl
     go false e = rw e
 
 module _ (known : Name → Bool) (text : List ℕ) where
@@ -164,49 +164,49 @@ module _ (known : Name → Bool) (text : List ℕ) where
     unfolding c xs
     here = ap (λ ys. judge_from known i ys (state between σ)) (drop-cons text i 0 inside)
 
-    class-is : (k : Class) → class_code (class_of (get_or text i 0)) ≡ class_code k → class_of c ≡ k
+    class_is : (k : Class) → class_code (class_of (get_or text i 0)) ≡ class_code k → class_of c ≡ k
     unfolding c
-    class-is k e = is_class (class_of (get_or text i 0)) (class_code k) e ∙ sym (is_class k (class_code k) refl)
+    class_is k e = is_class (class_of (get_or text i 0)) (class_code k) e ∙ sym (is_class k (class_code k) refl)
 
     -- ---- brackets
 
-    pub opens-goes : code_of (get_or text i 0) ≡ 3 → cell s 0 < 20 → Rest i (due_at s held) ≡ Rest (lexeme_from text (i + 1)) (due_at (cell s 0) (cell s 10 ∷ held))
+    pub opens_goes : code_of (get_or text i 0) ≡ 3 → cell s 0 < 20 → Rest i (due_at s held) ≡ Rest (lexeme_from text (i + 1)) (due_at (cell s 0) (cell s 10 ∷ held))
     unfolding σ due_at owed class_code xs
-    opens-goes e l =
+    opens_goes e l =
         here
-        ∙ lexeme_goes known σ i c xs opens (rw (class-is opening e) an_opening) (due_at (cell s 0) (cell s 10 ∷ held))
+        ∙ lexeme_goes known σ i c xs opens (rw (class_is opening e) an_opening) (due_at (cell s 0) (cell s 10 ∷ held))
         (due_opens s held low nested ∙ rw (lt-ltb (cell s 0) 20 l))
         ∙ one_past (due_at (cell s 0) (cell s 10 ∷ held)) i
 
-    pub opens-stops : code_of (get_or text i 0) ≡ 3 → 20 ≤ cell s 0 → Rest i (due_at s held) ≡ verdict 19 i
+    pub opens_stops : code_of (get_or text i 0) ≡ 3 → 20 ≤ cell s 0 → Rest i (due_at s held) ≡ verdict 19 i
     unfolding σ class_code
-    opens-stops e l = here ∙ lexeme_stops known σ i c xs opens (rw (class-is opening e) an_opening) (due_opens s held low nested ∙ rw (le-ltb (cell s 0) 20 l))
+    opens_stops e l = here ∙ lexeme_stops known σ i c xs opens (rw (class_is opening e) an_opening) (due_opens s held low nested ∙ rw (le-ltb (cell s 0) 20 l))
 
-    pub closes-goes : code_of (get_or text i 0) ≡ 4 → (cell s 1 ≡ 99 → ⊥) → (u : ℕ) (rest : List ℕ) → held ≡ u ∷ rest
+    pub closes_goes : code_of (get_or text i 0) ≡ 4 → (cell s 1 ≡ 99 → ⊥) → (u : ℕ) (rest : List ℕ) → held ≡ u ∷ rest
         → Rest i (due_at s held) ≡ Rest (lexeme_from text (i + 1)) (due_at u rest)
     unfolding σ due_at owed class_code xs
-    closes-goes e l u rest h =
+    closes_goes e l u rest h =
         here
-        ∙ lexeme_goes known σ i c xs closes (rw (class-is closing e) a_closing) (due_at u rest) (due_closes s held low nested ∙ rw (ne_eqb (cell s 1) 99 l, h))
+        ∙ lexeme_goes known σ i c xs closes (rw (class_is closing e) a_closing) (due_at u rest) (due_closes s held low nested ∙ rw (ne_eqb (cell s 1) 99 l, h))
         ∙ one_past (due_at u rest) i
 
-    pub closes-stops : code_of (get_or text i 0) ≡ 4 → cell s 1 ≡ 99 → Rest i (due_at s held) ≡ verdict 19 i
+    pub closes_stops : code_of (get_or text i 0) ≡ 4 → cell s 1 ≡ 99 → Rest i (due_at s held) ≡ verdict 19 i
     unfolding σ class_code
-    closes-stops e l =
-        here ∙ lexeme_stops known σ i c xs closes (rw (class-is closing e) a_closing) (due_closes s held low nested ∙ rw (eq-eqb (cell s 1) 99 l))
+    closes_stops e l =
+        here ∙ lexeme_stops known σ i c xs closes (rw (class_is closing e) a_closing) (due_closes s held low nested ∙ rw (eq-eqb (cell s 1) 99 l))
 
-    pub stray-stops : ltb 2 (code_of (get_or text i 0)) ≡ true → (code_of (get_or text i 0) ≡ 3 → ⊥) → (code_of (get_or text i 0) ≡ 4 → ⊥)
+    pub stray_stops : ltb 2 (code_of (get_or text i 0)) ≡ true → (code_of (get_or text i 0) ≡ 3 → ⊥) → (code_of (get_or text i 0) ≡ 4 → ⊥)
         → (code_of (get_or text i 0) ≡ 6 → ⊥)
         → Rest i (due_at s held) ≡ verdict 19 i
     unfolding σ c
-    stray-stops e x y z = here ∙ lexeme_stops known σ i c xs stray (stray_class (class_of (get_or text i 0)) e x y z) (due_stray s held low nested)
+    stray_stops e x y z = here ∙ lexeme_stops known σ i c xs stray (stray_class (class_of (get_or text i 0)) e x y z) (due_stray s held low nested)
 
     -- ---- runs
 
     begins : code_of (get_or text i 0) ≡ 6
         → Rest i (due_at s held) ≡ cond (may_grow (c ∷ []) σ) (judge_from known (suc i) xs (state (within (c ∷ [])) σ)) (verdict 19 i)
     unfolding σ class_code
-    begins e = here ∙ begins_run known σ i c xs (class-is symbol e)
+    begins e = here ∙ begins_run known σ i c xs (class_is symbol e)
 
     parts : w ≡ c ∷ run_of xs
     unfolding w c xs
@@ -232,8 +232,8 @@ module _ (known : Name → Bool) (text : List ℕ) where
     grows v = due_grows s held low nested v
 
     -- what a run may become: nothing, any word, a sort
-    not-any : eqb (cell s 11) 0 ≡ true → (v : List ℕ) → may_grow v σ ≡ false
-    not-any e v = grows v ∙ rw e
+    not_any : eqb (cell s 11) 0 ≡ true → (v : List ℕ) → may_grow v σ ≡ false
+    not_any e v = grows v ∙ rw e
 
     any : eqb (cell s 11) 0 ≡ false → eqb (cell s 11) 1 ≡ true → (v : List ℕ) → may_grow v σ ≡ true
     any e f v = grows v ∙ rw (e, f)
@@ -241,9 +241,9 @@ module _ (known : Name → Bool) (text : List ℕ) where
     t : List ℕ
     t = sort_meant (c ∷ [])
 
-    one-sort : eqb (cell s 11) 0 ≡ false → eqb (cell s 11) 1 ≡ false → (v : List ℕ) → may_grow (c ∷ v) σ ≡ starts (c ∷ v) t
+    one_sort : eqb (cell s 11) 0 ≡ false → eqb (cell s 11) 1 ≡ false → (v : List ℕ) → may_grow (c ∷ v) σ ≡ starts (c ∷ v) t
     unfolding t sort_meant
-    one-sort e f v = grows (c ∷ v) ∙ rw (e, f) (sort_meant_lem c v)
+    one_sort e f v = grows (c ∷ v) ∙ rw (e, f) (sort_meant_lem c v)
 
     -- read whole where it may grow
     reaches : code_of (get_or text i 0) ≡ 6 → may_grow w σ ≡ true → Rest i (due_at s held) ≡ Whole
@@ -258,29 +258,29 @@ module _ (known : Name → Bool) (text : List ℕ) where
         by_sort g true q =
             let k : starts (c ∷ run_of xs) t ≡ true = sym (g (run_of xs)) ∙ so in
             run_sort known σ t i c g xs [] (suc i) (omega arith) q ∙ rw k whole
-        by_sort g false q = absurd (true≢false (sym so ∙ g (run_of xs) ∙ (cut [] (run_of xs) c t (starts-nil t) q).0))
+        by_sort g false q = absurd (true≢false (sym so ∙ g (run_of xs) ∙ (cut [] (run_of xs) c t (starts_nil t) q).0))
           where
-            starts-nil : (v : List ℕ) → starts [] v ≡ true
-            starts-nil v = refl
+            starts_nil : (v : List ℕ) → starts [] v ≡ true
+            starts_nil v = refl
 
         go : (a b : Bool) → eqb (cell s 11) 0 ≡ a → eqb (cell s 11) 1 ≡ b
             → cond (may_grow (c ∷ []) σ) (judge_from known (suc i) xs (state (within (c ∷ [])) σ)) (verdict 19 i) ≡ Whole
-        go true b x y = absurd (true≢false (sym m ∙ not-any x w))
+        go true b x y = absurd (true≢false (sym m ∙ not_any x w))
         go false true x y = rw (any x y (c ∷ [])) (run_any known σ (any x y) xs (c ∷ []) (suc i) ∙ whole)
-        go false false x y = rw (one-sort x y []) (by_sort (one-sort x y) (starts (c ∷ []) t) refl)
+        go false false x y = rw (one_sort x y []) (by_sort (one_sort x y) (starts (c ∷ []) t) refl)
 
-    viable-all : may_grow w σ ≡ true → viable_bytes s w ≡ length w
+    viable_all : may_grow w σ ≡ true → viable_bytes s w ≡ length w
     unfolding viable_bytes sort_start sort_meant t
-    viable-all m = go (eqb (cell s 11) 0) (eqb (cell s 11) 1) refl refl
+    viable_all m = go (eqb (cell s 11) 0) (eqb (cell s 11) 1) refl refl
       where
         meant : sort_meant w ≡ t
         meant = ap sort_meant parts
 
         go : (a b : Bool) → eqb (cell s 11) 0 ≡ a → eqb (cell s 11) 1 ≡ b → cond a 0 (cond b (length w) (common w (sort_meant w))) ≡ length w
-        go true b x y = absurd (true≢false (sym m ∙ not-any x w))
+        go true b x y = absurd (true≢false (sym m ∙ not_any x w))
         go false true x y = refl
         go false false x y =
-            let q : starts w t ≡ true = ap (λ v. starts v t) parts ∙ sym (one-sort x y (run_of xs)) ∙ sym (ap (λ v. may_grow v σ) parts) ∙ m in
+            let q : starts w t ≡ true = ap (λ v. starts v t) parts ∙ sym (one_sort x y (run_of xs)) ∙ sym (ap (λ v. may_grow v σ) parts) ∙ m in
             eqb-true (common w (sort_meant w)) (length w) (starts_common w (sort_meant w) ∙ ap (starts w) meant ∙ q)
 
     halts : code_of (get_or text i 0) ≡ 6 → may_grow w σ ≡ false → Rest i (due_at s held) ≡ verdict 19 (i + viable_bytes s w)
@@ -302,18 +302,18 @@ module _ (known : Name → Bool) (text : List ℕ) where
             let k : starts (c ∷ run_of xs) t ≡ false = sym (g (run_of xs)) ∙ so in
             run_sort known σ t i c g xs [] (suc i) (omega arith) q ∙ rw (k, meant, parts)
         by_sort g false q =
-            let z = (cut [] (run_of xs) c t (starts-nil t) q).1 in
+            let z = (cut [] (run_of xs) c t (starts_nil t) q).1 in
             rw (meant, parts, z) at_once
           where
-            starts-nil : (v : List ℕ) → starts [] v ≡ true
-            starts-nil v = refl
+            starts_nil : (v : List ℕ) → starts [] v ≡ true
+            starts_nil v = refl
 
         go : (a b : Bool) → eqb (cell s 11) 0 ≡ a → eqb (cell s 11) 1 ≡ b
             → cond (may_grow (c ∷ []) σ) (judge_from known (suc i) xs (state (within (c ∷ [])) σ)) (verdict 19 i)
             ≡ verdict 19 (i + cond a 0 (cond b (length w) (common w (sort_meant w))))
-        go true b x y = rw (not-any x (c ∷ [])) at_once
+        go true b x y = rw (not_any x (c ∷ [])) at_once
         go false true x y = absurd (true≢false (sym (any x y w) ∙ m))
-        go false false x y = rw (one-sort x y []) (by_sort (one-sort x y) (starts (c ∷ []) t) refl)
+        go false false x y = rw (one_sort x y []) (by_sort (one_sort x y) (starts (c ∷ []) t) refl)
 
     -- ---- words
 
@@ -321,9 +321,9 @@ module _ (known : Name → Bool) (text : List ℕ) where
     unfolding w
     first = let e = run_ending text i inside in omega (arith, e)
 
-    takes-word : takes σ (λ f. tt) (word (word_of w)) ≡ word_to (word_of w) s (owed held)
+    takes_word : takes σ (λ f. tt) (word (word_of w)) ≡ word_to (word_of w) s (owed held)
     unfolding σ
-    takes-word = due_word s held low nested (word_of w)
+    takes_word = due_word s held low nested (word_of w)
 
     may : cell s (code_of_run w) < 20 → may_grow w σ ≡ true
     may l = go (may_grow w σ) refl
@@ -332,13 +332,13 @@ module _ (known : Name → Bool) (text : List ℕ) where
         go true e = refl
         go false e =
             absurd (none-ne-some (stack_of (wanted (cell s (code_of_run w)) ++ owed held))
-            (sym (refuses w σ (λ f. tt) e) ∙ takes-word ∙ rw (lt-ltb (cell s (code_of_run w)) 20 l)))
+            (sym (refuses w σ (λ f. tt) e) ∙ takes_word ∙ rw (lt-ltb (cell s (code_of_run w)) 20 l)))
 
     -- the name met is the word, where it is one
-    unknown-here : cell s (code_of_run w) < 20
+    unknown_here : cell s (code_of_run w) < 20
         → first_unknown known (locate (run_end text (i + 1) - length w) (met_at σ (word_of w))) ≡ cond (is_unknown known s w) (some i) none
     unfolding is_unknown first_unknown locate σ
-    unknown-here l = rw first (go (eqb (code_of_run w) 9) refl)
+    unknown_here l = rw first (go (eqb (code_of_run w) 9) refl)
       where
         one : (b : Bool) → cond b none (some i) ≡ cond (not b) (some i) none
         one true = refl
@@ -365,32 +365,32 @@ module _ (known : Name → Bool) (text : List ℕ) where
     run_ends : Rattle.grammar.specs.Names.EndsRun (drop (run_end text (i + 1)) text)
     run_ends = rw past (past_run_lem xs)
 
-    pub word-goes : code_of (get_or text i 0) ≡ 6 → cell s (code_of_run (run_at text i)) < 20 → is_unknown known s (run_at text i) ≡ false
+    pub word_goes : code_of (get_or text i 0) ≡ 6 → cell s (code_of_run (run_at text i)) < 20 → is_unknown known s (run_at text i) ≡ false
         → Rest i (due_at s held) ≡ Rest (lexeme_from text (run_end text (i + 1))) (due_at (cell s (code_of_run (run_at text i))) held)
     unfolding w due_at
-    word-goes e l u =
+    word_goes e l u =
         reaches e (may l)
-        ∙ run_goes known σ w (run_end text (i + 1)) (drop (run_end text (i + 1)) text) run_ends (unknown-here l ∙ rw u) (due_at (cell s (code_of_run w)) held)
-        (takes-word ∙ rw (lt-ltb (cell s (code_of_run w)) 20 l))
+        ∙ run_goes known σ w (run_end text (i + 1)) (drop (run_end text (i + 1)) text) run_ends (unknown_here l ∙ rw u) (due_at (cell s (code_of_run w)) held)
+        (takes_word ∙ rw (lt-ltb (cell s (code_of_run w)) 20 l))
         ∙ over_lexeme (due_at (cell s (code_of_run w)) held) (run_end text (i + 1))
 
-    pub word-unknown : code_of (get_or text i 0) ≡ 6 → cell s (code_of_run (run_at text i)) < 20 → is_unknown known s (run_at text i) ≡ true
+    pub word_unknown : code_of (get_or text i 0) ≡ 6 → cell s (code_of_run (run_at text i)) < 20 → is_unknown known s (run_at text i) ≡ true
         → Rest i (due_at s held) ≡ verdict 20 i
     unfolding w
-    word-unknown e l u =
-        reaches e (may l) ∙ run_unknown known σ w (run_end text (i + 1)) (drop (run_end text (i + 1)) text) run_ends i (unknown-here l ∙ rw u)
+    word_unknown e l u =
+        reaches e (may l) ∙ run_unknown known σ w (run_end text (i + 1)) (drop (run_end text (i + 1)) text) run_ends i (unknown_here l ∙ rw u)
 
-    pub word-stops : code_of (get_or text i 0) ≡ 6 → 20 ≤ cell s (code_of_run (run_at text i)) → Rest i (due_at s held) ≡ verdict 19 (i + viable_bytes s (run_at text i))
+    pub word_stops : code_of (get_or text i 0) ≡ 6 → 20 ≤ cell s (code_of_run (run_at text i)) → Rest i (due_at s held) ≡ verdict 19 (i + viable_bytes s (run_at text i))
     unfolding w
-    word-stops e l = go (may_grow w σ) refl
+    word_stops e l = go (may_grow w σ) refl
       where
         go : (b : Bool) → may_grow w σ ≡ b → Rest i (due_at s held) ≡ verdict 19 (i + viable_bytes s (run_at text i))
         go true m =
-            let n = viable-all m in
+            let n = viable_all m in
             let z : run_end text (i + 1) ≡ i + viable_bytes s w = run_ending text i inside ∙ ap (λ k. i + k) (sym n) in
             reaches e m
             ∙ run_stops known σ w (run_end text (i + 1)) (drop (run_end text (i + 1)) text) run_ends (none_here l)
-            (takes-word ∙ rw (le-ltb (cell s (code_of_run w)) 20 l))
+            (takes_word ∙ rw (le-ltb (cell s (code_of_run w)) 20 l))
             ∙ ap (verdict 19) z
         go false m = halts e m
 

@@ -114,9 +114,9 @@ module _ (text : List ℕ) (from j : ℕ) (m : Bool) (h : Skipping text from j m
   skipping_end l = let z : blanks m (drop j text) ≡ 0 = rw (drop_of_length-le text l) in omega (arith, h.rest, z)
 
   module _ (l : j < length text) (k : ℕ) (e : k ≡ code_of (get_or text j 0)) where
-    pub skipping-found : (m || ltb k 3) ≡ false → j ≡ lexeme_from text from
+    pub skipping_found : (m || ltb k 3) ≡ false → j ≡ lexeme_from text from
     unfolding blanks
-    skipping-found q =
+    skipping_found q =
         let z : blanks m (drop j text) ≡ 0 = rw (drop-cons text j 0 l, (or_false m (ltb k 3) q).0) (stops (ltb 2 (code_of (get_or text j 0))) refl) in omega
         (arith, h.rest, z)
       where
@@ -136,8 +136,8 @@ module _ (text : List ℕ) (from j : ℕ) (m : Bool) (h : Skipping text from j m
         in_comment (no x) = rw (ne_eqb k 1 x)
     goes_on_lem false q = rw (drop-cons text j 0 l, ← e, le-ltb 2 k (omega (arith, ltb-true k 3 q)))
 
-    pub skipping-on : (m || ltb k 3) ≡ true → Skipping text from (j + 1) ((m && not (eqb k 1)) || eqb k 2)
-    skipping-on q = let g = goes_on_lem m q in rw (add-one j) (record { inside = l; rest = omega (arith, h.rest, g) })
+    pub skipping_on : (m || ltb k 3) ≡ true → Skipping text from (j + 1) ((m && not (eqb k 1)) || eqb k 2)
+    skipping_on q = let g = goes_on_lem m q in rw (add-one j) (record { inside = l; rest = omega (arith, h.rest, g) })
 
 -- ---- the loop of `runs::run_end`
 
@@ -155,13 +155,13 @@ module _ (text : List ℕ) (from j : ℕ) (h : Running text from j) where
   running_end l = let z : run_length (drop j text) ≡ 0 = rw (drop_of_length-le text l) in omega (arith, h.rest, z)
 
   module _ (l : j < length text) (k : ℕ) (e : k ≡ code_of (get_or text j 0)) where
-    pub running-found : (eqb k 5 || eqb k 6) ≡ false → j ≡ run_end text from
+    pub running_found : (eqb k 5 || eqb k 6) ≡ false → j ≡ run_end text from
     unfolding run_length
-    running-found q = let z : run_length (drop j text) ≡ 0 = rw (drop-cons text j 0 l, ← e, q) in omega (arith, h.rest, z)
+    running_found q = let z : run_length (drop j text) ≡ 0 = rw (drop-cons text j 0 l, ← e, q) in omega (arith, h.rest, z)
 
-    pub running-on : (eqb k 5 || eqb k 6) ≡ true → Running text from (j + 1)
+    pub running_on : (eqb k 5 || eqb k 6) ≡ true → Running text from (j + 1)
     unfolding run_length
-    running-on q =
+    running_on q =
         let z : run_length (drop j text) ≡ suc (run_length (drop (suc j) text)) = rw (drop-cons text j 0 l, ← e, q) in
         rw (add-one j) (record { inside = l; rest = omega (arith, h.rest, z) })
 

@@ -22,8 +22,8 @@ use Rattle.spots.specs.declared.Met.{Met}
 use Rattle.spots.specs.declared.Turn.{Turn}
 use Rattle.spots.specs.declared.Verdict.{Verdict}
 use Rattle.spots.proofs.Resolutions.{resolved_judged}
-use Rattle.spots.proofs.LexemeLaws.{over_lexeme, opens-goes, opens-stops, closes-goes, closes-stops, stray-stops, word-goes, word-unknown}
-use Rattle.spots.proofs.LexemeLaws.{word-stops, judged_end}
+use Rattle.spots.proofs.LexemeLaws.{over_lexeme, opens_goes, opens_stops, closes_goes, closes_stops, stray_stops, word_goes, word_unknown}
+use Rattle.spots.proofs.LexemeLaws.{word_stops, judged_end}
 use Rattle.spots.proofs.TableFacts.{closes_some, closes_most}
 use Rattle.spots.proofs.TraceLaws.{sound_origin, sound_next, reached_on}
 use Rattle.spots.proofs.Windows.{window_start, window_pushed, pushed_spot}
@@ -33,7 +33,7 @@ use Rattle.spots.proofs.PopLaws.{stands_sound}
 
 letter_of : (letter low high : ℕ) (w : List ℕ) → 1 ≤ low → ltb 0 (number_within letter low high w) ≡ true → get_or w 0 0 ≡ letter
 unfolding number_within number_after
-letter_of letter low high [] l h = absurd (false≢true (rw (borrow.Author.Tests.lt-leb low 0 (omega arith)) at h))
+letter_of letter low high [] l h = absurd (false≢true (rw (borrow.Author.Tests.lt_leb low 0 (omega arith)) at h))
 letter_of letter low high (c ∷ cs) l h = go (eqb c letter) refl h
   where
     go : (b : Bool) → eqb c letter ≡ b
@@ -41,7 +41,7 @@ letter_of letter low high (c ∷ cs) l h = go (eqb c letter) refl h
         (cond (b && is_numeral cs) (decimal 0 cs) 0) 0) ≡ true
         → c ≡ letter
     go true e h = eqb-true c letter e
-    go false e h = absurd (false≢true (rw (borrow.Author.Tests.lt-leb low 0 (omega arith)) at h))
+    go false e h = absurd (false≢true (rw (borrow.Author.Tests.lt_leb low 0 (omega arith)) at h))
 
 pub lettered : (symbols variables : ℕ) → Lettered (declared_by symbols variables)
 unfolding declared_by known_among
@@ -65,13 +65,13 @@ module _ (known : Name → Bool) (text a : List ℕ) (p : Where) (i : ℕ) (l : 
       (met 19 (i + viable_bytes p.spot (run_at text i)) p.spot)
       → Turned known text i p.spot held a (turn_to m.number m.byte (lexeme_from text (run_end text (i + 1))) (place m.spot p.height p.base))
   word_by true x true y k m e =
-      rw e (stops (λ z. omega arith) (word-unknown known text i p.spot held sound.low sound.nested l k
+      rw e (stops (λ z. omega arith) (word_unknown known text i p.spot held sound.low sound.nested l k
       (ltb-true (cell p.spot (code_of_run (run_at text i))) 20 x) y))
   word_by true x false y k m e =
       let c = ltb-true (cell p.spot (code_of_run (run_at text i))) 20 x in
-      rw e (goes refl held (words k c y) st.window (word-goes known text i p.spot held sound.low sound.nested l k c y))
+      rw e (goes refl held (words k c y) st.window (word_goes known text i p.spot held sound.low sound.nested l k c y))
   word_by false x u y k m e =
-      rw e (stops (λ z. omega arith) (word-stops known text i p.spot held sound.low sound.nested l k
+      rw e (stops (λ z. omega arith) (word_stops known text i p.spot held sound.low sound.nested l k
       (ltb-false (cell p.spot (code_of_run (run_at text i))) 20 x)))
 
   pub turned_run : code_of (get_or text i 0) ≡ 6 → (e : ℕ) → e ≡ run_end text (i + 1) → (n : ℕ) → n ≡ lexeme_from text e → (m : Met)
@@ -93,7 +93,7 @@ module _ (known : Name → Bool) (text a : List ℕ) (p : Where) (i : ℕ) (l : 
       goes refl (cell p.spot 10 ∷ held)
       (rw (en, z) (opens k m))
       (rw (eb, eq) w)
-      (rw (en, z) (opens-goes known text i p.spot held sound.low sound.nested l k m))
+      (rw (en, z) (opens_goes known text i p.spot held sound.low sound.nested l k m))
 
   pub turned_closed : code_of (get_or text i 0) ≡ 4 → Lettered known → (c : ℕ) → c ≡ cell p.spot 1 → c < 99 → (n : ℕ) → n ≡ lexeme_from text (i + 1)
       → (b : List ℕ) (q : Where) → Popped text a b p i q → Turned known text i p.spot held b (turn_to 0 0 n q)
@@ -108,21 +108,21 @@ module _ (known : Name → Bool) (text a : List ℕ) (p : Where) (i : ℕ) (l : 
           goes refl h.1
           (rw (en, r.0) (closes k ok h.0 h.1 h.2))
           r.1
-          (rw (en, r.0) (closes-goes known text i p.spot held sound.low sound.nested l k ok h.0 h.1 h.2))
+          (rw (en, r.0) (closes_goes known text i p.spot held sound.low sound.nested l k ok h.0 h.1 h.2))
 
   refused : judge_from known i (drop i text) (standing p.spot held) ≡ verdict 19 i → Turned known text i p.spot held a (turn_to 19 i i p)
   refused e = stops (λ z. omega arith) e
 
   pub turned_not_inside : code_of (get_or text i 0) ≡ 3 → (c : ℕ) → c ≡ cell p.spot 0 → 20 ≤ c → Turned known text i p.spot held a (turn_to 19 i i p)
-  turned_not_inside k c is lc = refused (opens-stops known text i p.spot held sound.low sound.nested l k (omega (arith, is)))
+  turned_not_inside k c is lc = refused (opens_stops known text i p.spot held sound.low sound.nested l k (omega (arith, is)))
 
   pub turned_not_closed : code_of (get_or text i 0) ≡ 4 → (c : ℕ) → c ≡ cell p.spot 1 → 99 ≤ c → Turned known text i p.spot held a (turn_to 19 i i p)
   turned_not_closed k c is lc =
-      refused (closes-stops known text i p.spot held sound.low sound.nested l k (closes_most p.spot sound.low (omega (arith, is))))
+      refused (closes_stops known text i p.spot held sound.low sound.nested l k (closes_most p.spot sound.low (omega (arith, is))))
 
   pub turned_stray : (code_of (get_or text i 0) ≡ 6 → ⊥) → (code_of (get_or text i 0) ≡ 3 → ⊥) → (code_of (get_or text i 0) ≡ 4 → ⊥)
       → Turned known text i p.spot held a (turn_to 19 i i p)
-  turned_stray x y z = refused (stray-stops known text i p.spot held sound.low sound.nested l (sound.first l) y z x)
+  turned_stray x y z = refused (stray_stops known text i p.spot held sound.low sound.nested l (sound.first l) y z x)
 
 pub first_cell : (s c : ℕ) → c ≡ get_or table (s * 14) 0 → c ≡ cell s 0
 first_cell s c e = let z : s * 14 ≡ s * 14 + 0 = omega arith in e ∙ ap (λ k. get_or table k 0) z
@@ -165,15 +165,15 @@ module _ (known : Name → Bool) (text a : List ℕ) (p : Where) (i : ℕ) (h : 
   passing_inside = (stands_sound known text a p i h.scanning.held h.scanning.stands).inside
 
   module _ (l : i < length text) (b : List ℕ) (r : Turn) (t : TurnedFrom known text a b p i r) where
-    pub passing-stop : (r.number ≡ 0 → ⊥) → verdict r.number r.byte ≡ verdict_of (resolve known text)
-    passing-stop n = go (t h.scanning.held h.scanning.stands)
+    pub passing_stop : (r.number ≡ 0 → ⊥) → verdict r.number r.byte ≡ verdict_of (resolve known text)
+    passing_stop n = go (t h.scanning.held h.scanning.stands)
       where
         go : Turned known text i p.spot h.scanning.held b r → verdict r.number r.byte ≡ verdict_of (resolve known text)
         go (stops m e) = sym (h.rest ∙ e)
         go (goes z rest nx w e) = absurd (n z)
 
-    pub passing-on : r.number ≡ 0 → Passing known text b r.place r.next × (i < r.next)
-    passing-on z = go (t h.scanning.held h.scanning.stands)
+    pub passing_on : r.number ≡ 0 → Passing known text b r.place r.next × (i < r.next)
+    passing_on z = go (t h.scanning.held h.scanning.stands)
       where
         go : Turned known text i p.spot h.scanning.held b r → Passing known text b r.place r.next × (i < r.next)
         go (stops m e) = absurd (m z)
@@ -201,8 +201,8 @@ module _ (known : Name → Bool) (text a : List ℕ) (p : Where) (i : ℕ) (h : 
         let o = stands_sound known text a p i h.scanning.held h.scanning.stands in
         h.rest ∙ judged_end known text i p.spot h.scanning.held o.low o.nested l
 
-    pub passing-read : p.spot ≡ 0 → verdict 0 0 ≡ verdict_of (resolve known text)
-    passing-read z = sym (ended ∙ rw (eq-eqb p.spot 0 z))
+    pub passing_read : p.spot ≡ 0 → verdict 0 0 ≡ verdict_of (resolve known text)
+    passing_read z = sym (ended ∙ rw (eq-eqb p.spot 0 z))
 
-    pub passing-short : (p.spot ≡ 0 → ⊥) → verdict 19 i ≡ verdict_of (resolve known text)
-    passing-short z = sym (ended ∙ rw (ne_eqb p.spot 0 z))
+    pub passing_short : (p.spot ≡ 0 → ⊥) → verdict 19 i ≡ verdict_of (resolve known text)
+    passing_short z = sym (ended ∙ rw (ne_eqb p.spot 0 z))

@@ -50,14 +50,14 @@ module _ (symbols variables s i : ℕ) (w : List ℕ) (code : ℕ) (is : code �
     so : known_among symbols variables (place_of (cell s 12)) w ≡ known
     so = ap (λ k. known_among symbols variables (place_of k) w) (sym due) ∙ sym test
 
-    pub met-name : next < 20 → code ≡ 9 → known ≡ true → met 0 0 next ≡ word_met (declared_by symbols variables) s i w
+    pub met_name : next < 20 → code ≡ 9 → known ≡ true → met 0 0 next ≡ word_met (declared_by symbols variables) s i w
     unfolding word_met is_unknown declared_by
-    met-name l n k =
+    met_name l n k =
         rw (lt-ltb (cell s (code_of_run w)) 20 (omega (arith, there)), eq-eqb (code_of_run w) 9 (sym is ∙ n), so, k) (ap (met 0 0) there)
 
-    pub met-unknown : next < 20 → code ≡ 9 → known ≡ false → met 20 i s ≡ word_met (declared_by symbols variables) s i w
+    pub met_unknown : next < 20 → code ≡ 9 → known ≡ false → met 20 i s ≡ word_met (declared_by symbols variables) s i w
     unfolding word_met is_unknown declared_by
-    met-unknown l n k = rw (lt-ltb (cell s (code_of_run w)) 20 (omega (arith, there)), eq-eqb (code_of_run w) 9 (sym is ∙ n), so, k)
+    met_unknown l n k = rw (lt-ltb (cell s (code_of_run w)) 20 (omega (arith, there)), eq-eqb (code_of_run w) 9 (sym is ∙ n), so, k)
 
   pub met_refused : 20 ≤ next → (v : ℕ) → v ≡ viable_bytes s w → met 19 (i + v) s ≡ word_met (declared_by symbols variables) s i w
   unfolding word_met

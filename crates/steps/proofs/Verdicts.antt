@@ -36,7 +36,7 @@ use Rattle.images.specs.ContextRows.{mention_at, image_at, mentioned_at}
 use Rattle.images.specs.LentReading.{images_in, in_scope_in, all_in_scope_in, reading_in}
 use Rattle.steps.specs.declared.Verdict.{Verdict}
 use Rattle.steps.specs.Verdicts.{LeavesAtMost, verdict, walk_verdict, Judged, JudgedScoped, JudgedAfter, later}
-use Rattle.steps.proofs.RuleOf.{fault-refers, fault-rule, no_pairs, refl_tests}
+use Rattle.steps.proofs.RuleOf.{fault_refers, fault_rule, no_pairs, refl_tests}
 
 -- ---- what a walk says
 
@@ -138,13 +138,13 @@ module _ (g : Reading) (b : Bundle) (s : Step) (r : Verdict) {p : Bool} (scope :
 module _ (g : Reading) (b : Bundle) (s : Step) (n : ℕ) (s' : Step) (same : s ≡ s') (p : Bool) (walked : p ≡ each (numbers n) (items b s.premises)) where
   pub after_refers : (r : Verdict) → r ≡ verdict 12 0 → passed (refers_where p b s) ≡ false → JudgedAfter g b n s' r
   after_refers r e refers = record {
-    number = ap (λ (x : Verdict). x.number) e ∙ fault-refers g b s n s' same p walked refers;
+    number = ap (λ (x : Verdict). x.number) e ∙ fault_refers g b s n s' same p walked refers;
     pairs = λ z. absurd (let n : r.number ≡ 12 = ap (λ (x : Verdict). x.number) e in omega (arith, n, z));
   }
 
   pub after_rule : (r : Verdict) → passed (refers_where p b s) ≡ true → JudgedScoped g b s r → JudgedAfter g b n s' r
   after_rule r refers j = record {
-    number = fault-rule g b s n s' same p walked r.number refers j.number;
+    number = fault_rule g b s n s' same p walked r.number refers j.number;
     pairs = λ z. j.pairs z ∙ ap (pairs_by g b) same;
   }
 

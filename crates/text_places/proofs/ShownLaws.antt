@@ -109,8 +109,8 @@ module _ (text : List ℕ) (i at : ℕ) (area : List ℕ) (n j : ℕ) (h : Marki
     next = ap under (part_more text i j h.after (omega arith)) ∙ under_more (part text i j) (get_or text j 0)
         ∙ ap (λ x. under (part text i j) ++ cond x [] (under_byte (get_or text j 0) ∷ [])) (sym e)
 
-    pub marking-more : (v : ℕ) → b ≡ false → v ≡ under_byte (get_or text j 0) → Marking text i at (set area n v) (n + 1) (j + 1)
-    marking-more v f g = record {
+    pub marking_more : (v : ℕ) → b ≡ false → v ≡ under_byte (get_or text j 0) → Marking text i at (set area n v) (n + 1) (j + 1)
+    marking_more v f g = record {
       after = omega (arith, h.after);
       inside = omega arith;
       few = omega (arith, h.few);
@@ -121,8 +121,8 @@ module _ (text : List ℕ) (i at : ℕ) (area : List ℕ) (n j : ℕ) (h : Marki
           ∙ sym (next ∙ ap (λ x. under (part text i j) ++ cond x [] (under_byte (get_or text j 0) ∷ [])) f);
     }
 
-    pub marking-on : b ≡ true → Marking text i at area n (j + 1)
-    marking-on t = record {
+    pub marking_on : b ≡ true → Marking text i at area n (j + 1)
+    marking_on t = record {
       after = omega (arith, h.after);
       inside = omega arith;
       few = omega (arith, h.few);

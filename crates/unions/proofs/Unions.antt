@@ -4,7 +4,7 @@
 --     fewer_refl, fewer_on, unions_fewer      marks of a walk make no link known
 --     apart                                   the sets of different numbers stand apart
 --     frees_lower, known_put                  the union of a known list, as its terms' sets give it now
---     unions-learnt                           a link made known from the link after it
+--     unions_learnt                           a link made known from the link after it
 --     unions_none, unions_later               no link is known at first; what is known for t is known for t + 1
 --     links_room                              room for all links
 --     below_none, below_same, below_on        the sets below t while that of t is written; and below t + 1 then
@@ -174,20 +174,20 @@ module _ (area lists marks : List ℕ) (n t k term next : ℕ) (b : Bundle) (so 
     unfolding written
     put = joined_put area (n * (term - 1)) lists (n * next) lists (n * k) n fits
 
-    own-lower : each (numbers (t - 1)) (items b k) ≡ true
+    own_lower : each (numbers (t - 1)) (items b k) ≡ true
     unfolding each
-    own-lower = rw here (and_both (numbers (t - 1) term) (each (numbers (t - 1)) (items b next)) low (unions.lower next then))
+    own_lower = rw here (and_both (numbers (t - 1) term) (each (numbers (t - 1)) (items b next)) low (unions.lower next then))
 
-    own-union : (x : ℕ) → member written (n * k) n x ≡ frees_of (free_at b) (items b k) x
+    own_union : (x : ℕ) → member written (n * k) n x ≡ frees_of (free_at b) (items b k) x
     unfolding frees_of
-    own-union x =
+    own_union x =
         let p : (1 ≤ term) × (term ≤ t - 1) = numbers_of_lem (t - 1) term low in
         put.members x
         ∙ rw (here, so.sets term x p.0 (omega (arith, so.one)), unions.union next x then)
 
     -- the unions of other links stay
-    other-union : (j x : ℕ) → (j < k) ⊎ (k < j) → member written (n * j) n x ≡ member lists (n * j) n x
-    other-union j x d = member_same written lists (n * j) n (λ i h. put.kept.others (n * j + i) (out (apart n j k d) i h)) x
+    other_union : (j x : ℕ) → (j < k) ⊎ (k < j) → member written (n * j) n x ≡ member lists (n * j) n x
+    other_union j x d = member_same written lists (n * j) n (λ i h. put.kept.others (n * j + i) (out (apart n j k d) i h)) x
       where
         out : (n * j + n ≤ n * k) ⊎ (n * k + n ≤ n * j) → (i : ℕ) → i < n → (n * j + i < n * k) ⊎ (n * k + n ≤ n * j + i)
         out (inl l) i h = inl (omega arith)
@@ -200,9 +200,9 @@ module _ (area lists marks : List ℕ) (n t k term next : ℕ) (b : Bundle) (so 
         go true e = inl (omega (arith, ltb-true j k e))
         go false e = inr (omega (arith, ltb-false j k e))
 
-    pub unions-learnt : (v m : List ℕ) → v ≡ joined area (n * (term - 1)) lists (n * next) lists (n * k) n → m ≡ set marks k 65535 → Unions b n t v m
+    pub unions_learnt : (v m : List ℕ) → v ≡ joined area (n * (term - 1)) lists (n * next) lists (n * k) n → m ≡ set marks k 65535 → Unions b n t v m
     unfolding written
-    unions-learnt v m ev em = rw (ev, em) (record {
+    unions_learnt v m ev em = rw (ev, em) (record {
       marked = omega (arith, length-set marks k 65535, unions.marked);
       room = omega (arith, put.kept.long, unions.room);
       lower = λ j e. lower j e (ℕ_discrete j k);
@@ -210,12 +210,12 @@ module _ (area lists marks : List ℕ) (n t k term next : ℕ) (b : Bundle) (so 
     })
       where
         lower : (j : ℕ) → known (set marks k 65535) j ≡ true → Dec (j ≡ k) → each (numbers (t - 1)) (items b j) ≡ true
-        lower j e (yes q) = rw q own-lower
+        lower j e (yes q) = rw q own_lower
         lower j e (no ne) = unions.lower j (sym (known_other marks k 65535 j ne) ∙ e)
 
         union : (j x : ℕ) → known (set marks k 65535) j ≡ true → Dec (j ≡ k) → member written (n * j) n x ≡ frees_of (free_at b) (items b j) x
-        union j x e (yes q) = rw q (own-union x)
-        union j x e (no ne) = other-union j x (sides j ne) ∙ unions.union j x (sym (known_other marks k 65535 j ne) ∙ e)
+        union j x e (yes q) = rw q (own_union x)
+        union j x e (no ne) = other_union j x (sides j ne) ∙ unions.union j x (sym (known_other marks k 65535 j ne) ∙ e)
 
 -- ---- from the start, and from term to term
 

@@ -2,8 +2,8 @@
 --     left, left_le          the measure: how many links are left from a link on
 --     list_none              an empty list
 --     LinkReads             the first link, as the code reads it
---     first_asks, first-full, first-words, first-height     the visit to the first term
---     rest-asks, list-more   the visit to the others
+--     first_asks, first_full, first_words, first_height     the visit to the first term
+--     rest_asks, list_more   the visit to the others
 use mathlib.Core.Path.{◌≡◌, refl, sym, ap, ◌∙◌, subst}
 use mathlib.Core.Logic.{◌⊎◌, inl, inr}
 use mathlib.Core.Bool.{true, false}
@@ -21,12 +21,12 @@ use Rattle.scratch.proofs.Halves.{halves_none}
 use Rattle.placing.specs.declared.Visited.{Visited}
 use Rattle.placing.specs.declared.Listed.{Listed}
 use Rattle.expansion.specs.Nodes.{Node, Nodes, nil, cons}
-use Rattle.expansion.specs.Visit.{visit, visitAll}
+use Rattle.expansion.specs.Visit.{visit, visit_all}
 use Rattle.expansion.specs.File.{counts_in}
 use Rattle.placing.specs.Outcomes.{ListOutcome, Stands, StandAll, TermAsks, TermGives, ListAsks, ListGives}
-use Rattle.expansion.proofs.Grown.{visit-longer, visitAll-longer}
+use Rattle.expansion.proofs.Grown.{visit_longer, visit_all_longer}
 use Rattle.placing.proofs.ScratchOutcomes.{counts_are, holds}
-use Rattle.placing.proofs.StandingKept.{stand-all-on, visit_ends, visit_all_steps}
+use Rattle.placing.proofs.StandingKept.{stand_all_on, visit_ends, visit_all_steps}
 use Rattle.placing.proofs.OutcomeFacts.{VisitDone, visit_done, visit_full, more_full, on, contexts_on, steps_are, Words, result_word}
 use Rattle.placing.proofs.Pairs.{Pair, below_same, below_trans, below_set, halves_first}
 
@@ -53,7 +53,7 @@ pub list_none : {w s : List ℕ} {n : Counts} {Γ h o l : ℕ} → ListAsks w s 
 unfolding visit
 list_none {w} {s} {n} {Γ} {h} {o} {l} asks z = record { long = refl; kept = below_same s h; outcome = go }
   where
-    go : (ns : Nodes) → StandAll (bundle_in w n) o l ns → ListOutcome (visitAll ns Γ (bundle_in w n)) h w s (Listed.Done n h)
+    go : (ns : Nodes) → StandAll (bundle_in w n) o l ns → ListOutcome (visit_all ns Γ (bundle_in w n)) h w s (Listed.Done n h)
     go nil k =
         let e : n ≡ counts_in (bundle_in w n) = counts_are w n refl in
         let m : h ≡ h + 0 = omega arith in
@@ -98,13 +98,13 @@ module _ {w s : List ℕ} {n : Counts} {Γ h o l : ℕ} (asks : ListAsks w s n �
 
   module _ {w1 s1 : List ℕ} {r : Visited} (gave : TermGives w s n Γ h value w1 s1 r) where
     -- the first visit was full: so is the list's
-    pub first-full : r ≡ Visited.Full → ListGives w s n Γ h o l w1 s1 Listed.Full
+    pub first_full : r ≡ Visited.Full → ListGives w s n Γ h o l w1 s1 Listed.Full
     unfolding visit
-    first-full t = record {
+    first_full t = record {
       long = gave.long;
       kept = gave.kept;
-      outcome = first_of reads (λ ns. ListOutcome (visitAll ns Γ (bundle_in w n)) h w1 s1 Listed.Full) (λ τ ns k.
-          ListOutcome.full (more_full (visitAll-longer ns Γ (visit τ Γ (bundle_in w n)).bundle) (visit_full (gave.outcome τ k.first) t)) refl);
+      outcome = first_of reads (λ ns. ListOutcome (visit_all ns Γ (bundle_in w n)) h w1 s1 Listed.Full) (λ τ ns k.
+          ListOutcome.full (more_full (visit_all_longer ns Γ (visit τ Γ (bundle_in w n)).bundle) (visit_full (gave.outcome τ k.first) t)) refl);
     }
 
     module _ {after : Counts} {x y : ℕ} (told : r ≡ Visited.Done after x y) where
@@ -112,13 +112,13 @@ module _ {w s : List ℕ} {n : Counts} {Γ h o l : ℕ} (asks : ListAsks w s n �
       first_done τ k = visit_done (gave.outcome τ k) told
 
       -- numbers for a pair, and a place for it: there is a step more than there were
-      pub first-words : Words w1 → (x ≤ 4294967295) × (y ≤ 4294967295)
-      first-words word = some_first _ (λ τ ns k.
+      pub first_words : Words w1 → (x ≤ 4294967295) × (y ≤ 4294967295)
+      first_words word = some_first _ (λ τ ns k.
           let z = result_word (visit_ends τ Γ (bundle_in w n)) (first_done τ k.first) word in
           (z.0, omega (arith, z.1)))
 
-      pub first-height : (h < after.steps) × (h < limits.steps) × (h < length s1)
-      first-height = some_first _ (λ τ ns k.
+      pub first_height : (h < after.steps) × (h < limits.steps) × (h < length s1)
+      first_height = some_first _ (λ τ ns k.
           let d = first_done τ k.first in
           let e : h < length (visit τ Γ (bundle_in w n)).bundle.steps =
           omega (arith, asks.pending.height, (sized_in w n).steps, (visit_ends τ Γ (bundle_in w n)).more) in
@@ -126,49 +126,49 @@ module _ {w s : List ℕ} {n : Counts} {Γ h o l : ℕ} (asks : ListAsks w s n �
           (omega (arith, e, steps_are d.now), i, omega (arith, i, asks.pending.places, gave.kept.long)))
 
       module _ {pair : ℕ} (packed : Pair pair x y) where
-        rest-stands : (τ : Node) (ns : Nodes) → First (bundle_in w n) o l value next τ ns → StandAll (bundle_in w1 after) o next ns
-        rest-stands τ ns k = stand-all-on (on (visit-longer τ Γ (bundle_in w n)) (first_done τ k.first).now) ns o next k.rest
+        rest_stands : (τ : Node) (ns : Nodes) → First (bundle_in w n) o l value next τ ns → StandAll (bundle_in w1 after) o next ns
+        rest_stands τ ns k = stand_all_on (on (visit_longer τ Γ (bundle_in w n)) (first_done τ k.first).now) ns o next k.rest
 
         -- the call for the other terms
-        pub rest-asks : ListAsks w1 (set s1 h pair) after Γ (h + 1) o next × (left next < left l)
-        rest-asks = some_first _ (λ τ ns k.
+        pub rest_asks : ListAsks w1 (set s1 h pair) after Γ (h + 1) o next × (left next < left l)
+        rest_asks = some_first _ (λ τ ns k.
             let d = first_done τ k.first in
-            let longer = visit-longer τ Γ (bundle_in w n) in (
+            let longer = visit_longer τ Γ (bundle_in w n) in (
               record {
                 ready = d.now.ready;
                 pending = record {
                   places = omega (arith, length-set s1 h pair, gave.kept.long, asks.pending.places);
-                  height = omega (arith, first-height.0);
+                  height = omega (arith, first_height.0);
                 };
                 context = omega (arith, asks.context, (sized_in w n).contexts, contexts_on longer d.now);
                 standing = ns;
-                stands = rest-stands τ ns k;
+                stands = rest_stands τ ns k;
               },
               left_less l next k.link.0 (omega (arith, k.link.1, (sized_in w n).links, asks.ready.room.within.links)) k.order,
             ))
 
         -- the list's visit, from the visit to its first term and the visit to the others
-        pub list-more : {w3 s3 : List ℕ} {r3 : Listed} → ListGives w1 (set s1 h pair) after Γ (h + 1) o next w3 s3 r3 → ListGives w s n Γ h o l w3 s3 r3
+        pub list_more : {w3 s3 : List ℕ} {r3 : Listed} → ListGives w1 (set s1 h pair) after Γ (h + 1) o next w3 s3 r3 → ListGives w s n Γ h o l w3 s3 r3
         unfolding visit
-        list-more {w3} {s3} {r3} g = record {
+        list_more {w3} {s3} {r3} g = record {
           long = g.long ∙ gave.long;
           kept = below_trans (omega arith) (below_trans (omega arith) gave.kept (below_set s1 h h pair (omega arith))) g.kept;
-          outcome = first_of reads (λ ns. ListOutcome (visitAll ns Γ (bundle_in w n)) h w3 s3 r3) (λ τ ns k.
+          outcome = first_of reads (λ ns. ListOutcome (visit_all ns Γ (bundle_in w n)) h w3 s3 r3) (λ τ ns k.
               let d = first_done τ k.first in
-              up τ ns d (subst (λ (b : Bundle). ListOutcome (visitAll ns Γ b) (h + 1) w3 s3 r3) d.now.bundle (g.outcome ns (rest-stands τ ns k))));
+              up τ ns d (subst (λ (b : Bundle). ListOutcome (visit_all ns Γ b) (h + 1) w3 s3 r3) d.now.bundle (g.outcome ns (rest_stands τ ns k))));
         }
           where
             up : (τ : Node) (ns : Nodes) → VisitDone (visit τ Γ (bundle_in w n)) w1 after x y
-                → ListOutcome (visitAll ns Γ (visit τ Γ (bundle_in w n)).bundle) (h + 1) w3 s3 r3
-                → ListOutcome (visitAll (cons τ ns) Γ (bundle_in w n)) h w3 s3 r3
+                → ListOutcome (visit_all ns Γ (visit τ Γ (bundle_in w n)).bundle) (h + 1) w3 s3 r3
+                → ListOutcome (visit_all (cons τ ns) Γ (bundle_in w n)) h w3 s3 r3
             up τ ns d (ListOutcome.full f e) = ListOutcome.full f e
             up τ ns d (ListOutcome.done hs e p q) =
-                let v = visitAll ns Γ (visit τ Γ (bundle_in w n)).bundle in
+                let v = visit_all ns Γ (visit τ Γ (bundle_in w n)).bundle in
                 let i : h + 1 + length v.results ≡ h + suc (length v.results) = omega arith in
                 let fits : h + 1 + length v.results ≤ length s3 =
                 omega (
                   arith,
-                  first-height.0,
+                  first_height.0,
                   steps_are d.now,
                   visit_all_steps ns Γ (visit τ Γ (bundle_in w n)).bundle,
                   hs.within.steps,
@@ -179,5 +179,5 @@ module _ {w s : List ℕ} {n : Counts} {Γ h o l : ℕ} (asks : ListAsks w s n �
                 ) in
                 let m = length v.results in
                 ListOutcome.done hs (e ∙ ap (Listed.Done (counts_in v.bundle)) i)
-                (halves_first s1 h pair first-height.2 g.kept true m fits ∙ (λ j. (packed.upper ∙ d.result) j ∷ p j))
-                (halves_first s1 h pair first-height.2 g.kept false m fits ∙ (λ j. (packed.lower ∙ d.step) j ∷ q j))
+                (halves_first s1 h pair first_height.2 g.kept true m fits ∙ (λ j. (packed.upper ∙ d.result) j ∷ p j))
+                (halves_first s1 h pair first_height.2 g.kept false m fits ∙ (λ j. (packed.lower ∙ d.step) j ∷ q j))

@@ -1,11 +1,11 @@
 -- The visit to a term: what each of its calls asks, and what each of its returns gives.
 --     Reads                                         the term's record, as the code reads it
 --     quantified                                    the numbers of quantifiers
---     term_words_lem, term-variable                     a variable
---     scope-closed, scope-asks, scope-full, ..      a quantifier
---     args-asks, args-full, args-ready              the list of arguments or of bound terms
---     apply-done                                    an application
---     let-closed, body-asks, body-full, ..          a let
+--     term_words_lem, term_variable                     a variable
+--     scope_closed, scope_asks, scope_full, ..      a quantifier
+--     args_asks, args_full, args_ready              the list of arguments or of bound terms
+--     apply_done                                    an application
+--     let_closed, body_asks, body_full, ..          a let
 use mathlib.Core.Path.{◌≡◌, refl, sym, ◌∙◌, subst}
 use mathlib.Core.Bool.{true, false, false≢true}
 use mathlib.Core.List.{List, [], ◌∷◌, ◌++◌}
@@ -29,9 +29,9 @@ use Rattle.placing.specs.declared.Recorded.{Recorded}
 use Rattle.placing.specs.declared.Opened.{Opened}
 use Rattle.expansion.specs.Nodes.{Node, Nodes, leaf, node, scope, block}
 use Rattle.expansion.specs.Visit as unlimited
-use Rattle.expansion.specs.Visit.{Visit, visit, visitAll, concluded, close_application, close_binder, open_binder, replacing}
+use Rattle.expansion.specs.Visit.{Visit, visit, visit_all, concluded, close_application, close_binder, open_binder, replacing}
 use Rattle.placing.specs.Outcomes.{VisitOutcome, OpenOutcome, BinderOutcome, Stands, StandAll, TermAsks, TermGives, ListAsks, ListGives}
-use Rattle.expansion.proofs.Grown.{open_longer, visit-longer, visitAll-longer}
+use Rattle.expansion.proofs.Grown.{open_longer, visit_longer, visit_all_longer}
 use Rattle.placing.proofs.StandingKept.{stands_on, visit_ends, visit_all_steps, replacing_context, open_context, opening, opening_longer, scope_longer}
 use Rattle.placing.proofs.StandingKept.{node_longer, body_longer, block_longer}
 use Rattle.placing.proofs.Pairs.{Pair, below_same, below_trans, below_set, halves_then}
@@ -79,25 +79,25 @@ module _ {b : Bundle} {t kind first second third : ℕ} (reads : Reads b t kind 
       (p q u (reads.kind_is ∙ k.2) (omega (arith, reads.second_is, k.4)) (subst (λ (m : ℕ). Stands b m u) (sym reads.second_is) k.5))
   binder_only e p (block n s vs ns u) k = absurd (omega (arith, (quantified kind e).1, reads.kind_is, k.2))
 
-  module _ (not-1 : kind ≡ 1 → ⊥) (no-binder : is_binder kind ≡ false) where
-    listed-only : ((ns : Nodes) → kind ≡ 2 → StandAll b t second ns → P (node t first ns))
+  module _ (not-1 : kind ≡ 1 → ⊥) (no_binder : is_binder kind ≡ false) where
+    listed_only : ((ns : Nodes) → kind ≡ 2 → StandAll b t second ns → P (node t first ns))
         → ((vs : List ℕ) (ns : Nodes) (u : Node) → kind ≡ 5 → StandAll b t second ns → third < t → Stands b third u → P (block t first vs ns u))
         → (τ : Node) → Stands b t τ → P τ
-    listed-only p p' (leaf n x) k = absurd (not-1 (reads.kind_is ∙ k.2))
-    listed-only p p' (node n f ns) k = numbers (λ m y. node m y ns) k.0 k.3 (p ns (reads.kind_is ∙ k.2) (on_second ns k.4))
-    listed-only p p' (scope n q x u) k =
-        absurd (false≢true (sym no-binder ∙ (is_binder_exactly kind).1 (q, binder_number kind q (reads.kind_is ∙ k.2))))
-    listed-only p p' (block n s vs ns u) k =
+    listed_only p p' (leaf n x) k = absurd (not-1 (reads.kind_is ∙ k.2))
+    listed_only p p' (node n f ns) k = numbers (λ m y. node m y ns) k.0 k.3 (p ns (reads.kind_is ∙ k.2) (on_second ns k.4))
+    listed_only p p' (scope n q x u) k =
+        absurd (false≢true (sym no_binder ∙ (is_binder_exactly kind).1 (q, binder_number kind q (reads.kind_is ∙ k.2))))
+    listed_only p p' (block n s vs ns u) k =
         numbers (λ m y. block m y vs ns u) k.0 k.3
         (p' vs ns u (reads.kind_is ∙ k.2) (on_second ns k.4) (omega (arith, reads.third_is, k.5))
         (subst (λ (m : ℕ). Stands b m u) (sym reads.third_is) k.6))
 
-    application-only : kind ≡ 2 → ((ns : Nodes) → StandAll b t second ns → P (node t first ns)) → (τ : Node) → Stands b t τ → P τ
-    application-only e p = listed-only (λ ns i k. p ns k) (λ vs ns u i k low st. absurd (omega (arith, e, i)))
+    application_only : kind ≡ 2 → ((ns : Nodes) → StandAll b t second ns → P (node t first ns)) → (τ : Node) → Stands b t τ → P τ
+    application_only e p = listed_only (λ ns i k. p ns k) (λ vs ns u i k low st. absurd (omega (arith, e, i)))
 
-    let-only : (kind ≡ 2 → ⊥) → ((vs : List ℕ) (ns : Nodes) (u : Node) → StandAll b t second ns → third < t → Stands b third u → P (block t first vs ns u))
+    let_only : (kind ≡ 2 → ⊥) → ((vs : List ℕ) (ns : Nodes) (u : Node) → StandAll b t second ns → third < t → Stands b third u → P (block t first vs ns u))
         → (τ : Node) → Stands b t τ → P τ
-    let-only e p = listed-only (λ ns i k. absurd (e i)) (λ vs ns u i k low st. p vs ns u k low st)
+    let_only e p = listed_only (λ ns i k. absurd (e i)) (λ vs ns u i k low st. p vs ns u k low st)
 
 stands_number : (b : Bundle) (t : ℕ) (τ : Node) → Stands b t τ → Number (length b.terms) t
 stands_number b t (leaf n x) k = k.1
@@ -117,9 +117,9 @@ module _ {w s : List ℕ} {n : Counts} {Γ h t : ℕ} (asks : TermAsks w s n Γ 
   module _ {kind first second third : ℕ} (reads : Reads (bundle_in w n) t kind first second third) where
     -- ---- a variable
 
-    pub term-variable : {w1 : List ℕ} {r : Visited} → kind ≡ 1 → length w1 ≡ length w → VisitOutcome (visit (leaf t first) Γ (bundle_in w n)) w1 r
+    pub term_variable : {w1 : List ℕ} {r : Visited} → kind ≡ 1 → length w1 ≡ length w → VisitOutcome (visit (leaf t first) Γ (bundle_in w n)) w1 r
         → TermGives w s n Γ h t w1 s r
-    term-variable {w1} {r} e long g = record {
+    term_variable {w1} {r} e long g = record {
       long = long;
       kept = below_same s h;
       outcome = variable_only reads (λ τ. VisitOutcome (visit τ Γ (bundle_in w n)) w1 r) e g;
@@ -130,97 +130,97 @@ module _ {w s : List ℕ} {n : Counts} {Γ h t : ℕ} (asks : TermAsks w s n Γ 
     module _ (quantifies : is_binder kind ≡ true) {w1 : List ℕ} {r : Opened} (long : length w1 ≡ length w)
         (opened : BinderOutcome (open_binder (bundle_in w n) first Γ) w1 r) where
       -- there was no room for its contexts
-      pub scope-closed : r ≡ Opened.Full → TermGives w s n Γ h t w1 s Visited.Full
-      scope-closed e = record {
+      pub scope_closed : r ≡ Opened.Full → TermGives w s n Γ h t w1 s Visited.Full
+      scope_closed e = record {
         long = long;
         kept = below_same s h;
         outcome = binder_only reads (λ τ. VisitOutcome (visit τ Γ (bundle_in w n)) w1 Visited.Full) quantifies (λ q u i low k.
-            VisitOutcome.full (more_full (longer_trans (visit-longer u _ _) (scope_longer t Γ (bundle_in w n) q first u)) (binder_full opened e)) refl);
+            VisitOutcome.full (more_full (longer_trans (visit_longer u _ _) (scope_longer t Γ (bundle_in w n) q first u)) (binder_full opened e)) refl);
       }
 
       -- y is the variable that the result binds
       module _ {inside : Counts} {inner y : ℕ} (told : r ≡ Opened.Done inside inner y) where
-        scope-open : BinderDone (open_binder (bundle_in w n) first Γ) w1 inside inner y
-        scope-open = binder_done opened told
+        scope_open : BinderDone (open_binder (bundle_in w n) first Γ) w1 inside inner y
+        scope_open = binder_done opened told
 
-        body-stands : (u : Node) → Stands (bundle_in w n) second u → Stands (bundle_in w1 inside) second u
-        body-stands u k = stands_on (on (open_longer (bundle_in w n) first Γ) scope-open.now) u second k
+        body_stands : (u : Node) → Stands (bundle_in w n) second u → Stands (bundle_in w1 inside) second u
+        body_stands u k = stands_on (on (open_longer (bundle_in w n) first Γ) scope_open.now) u second k
 
         -- the call for the body
-        pub scope-asks : TermAsks w1 s inside inner h second × (second < t)
-        scope-asks = binder_only reads (λ τ. TermAsks w1 s inside inner h second × (second < t)) quantifies (λ q u i low k. (
+        pub scope_asks : TermAsks w1 s inside inner h second × (second < t)
+        scope_asks = binder_only reads (λ τ. TermAsks w1 s inside inner h second × (second < t)) quantifies (λ q u i low k. (
           record {
-            ready = scope-open.now.ready;
+            ready = scope_open.now.ready;
             pending = record {
               places = asks.pending.places;
-              height = omega (arith, asks.pending.height, (sized_in w n).steps, steps_on (open_longer (bundle_in w n) first Γ) scope-open.now);
+              height = omega (arith, asks.pending.height, (sized_in w n).steps, steps_on (open_longer (bundle_in w n) first Γ) scope_open.now);
             };
-            context = omega (arith, scope-open.context, contexts_are scope-open.now, open_context (bundle_in w n) first Γ);
+            context = omega (arith, scope_open.context, contexts_are scope_open.now, open_context (bundle_in w n) first Γ);
             standing = u;
-            stands = body-stands u k;
+            stands = body_stands u k;
           },
           low,
         )) asks.standing asks.stands
 
         module _ {w2 s2 : List ℕ} {r2 : Visited} (gave : TermGives w1 s inside inner h second w2 s2 r2) where
-          scope-body : (u : Node) → Stands (bundle_in w n) second u
+          scope_body : (u : Node) → Stands (bundle_in w n) second u
               → VisitOutcome (visit u (open_binder (bundle_in w n) first Γ).context (open_binder (bundle_in w n) first Γ).bundle) w2 r2
-          scope-body u k =
-              subst (λ (v : Visit). VisitOutcome v w2 r2) (λ i. visit u (scope-open.context i) (scope-open.now.bundle i)) (gave.outcome u (body-stands u k))
+          scope_body u k =
+              subst (λ (v : Visit). VisitOutcome v w2 r2) (λ i. visit u (scope_open.context i) (scope_open.now.bundle i)) (gave.outcome u (body_stands u k))
 
           -- the body's visit was full: so is the quantifier's
-          pub scope-full : r2 ≡ Visited.Full → TermGives w s n Γ h t w2 s2 Visited.Full
-          scope-full e = record {
+          pub scope_full : r2 ≡ Visited.Full → TermGives w s n Γ h t w2 s2 Visited.Full
+          scope_full e = record {
             long = gave.long ∙ long;
             kept = gave.kept;
             outcome = binder_only reads (λ τ. VisitOutcome (visit τ Γ (bundle_in w n)) w2 Visited.Full) quantifies (λ q u i low k.
-                VisitOutcome.full (more_full (scope_longer t Γ (bundle_in w n) q first u) (visit_full (scope-body u k) e)) refl);
+                VisitOutcome.full (more_full (scope_longer t Γ (bundle_in w n) q first u) (visit_full (scope_body u k) e)) refl);
           }
 
           module _ {after : Counts} {x k : ℕ} (told2 : r2 ≡ Visited.Done after x k) where
             -- the call that closes it
-            pub scope-ready : Words w2 → Ready w2 after × (y ≤ 4294967295) × (x ≤ 4294967295) × (k ≤ 4294967295)
-            scope-ready word = binder_only reads (λ τ. Ready w2 after × (y ≤ 4294967295) × (x ≤ 4294967295) × (k ≤ 4294967295)) quantifies (λ q u i low h.
+            pub scope_ready : Words w2 → Ready w2 after × (y ≤ 4294967295) × (x ≤ 4294967295) × (k ≤ 4294967295)
+            scope_ready word = binder_only reads (λ τ. Ready w2 after × (y ≤ 4294967295) × (x ≤ 4294967295) × (k ≤ 4294967295)) quantifies (λ q u i low h.
                 let o = open_binder (bundle_in w n) first Γ in
-                let d = visit_done (scope-body u h) told2 in
+                let d = visit_done (scope_body u h) told2 in
                 let z = result_word (visit_ends u o.context o.bundle) d word in
-                let new : y ≤ 4294967295 = omega (arith, scope-open.variable, (sized_in w n).variables, asks.ready.room.within.variables) in
+                let new : y ≤ 4294967295 = omega (arith, scope_open.variable, (sized_in w n).variables, asks.ready.room.within.variables) in
                 (d.now.ready, new, z.0, omega (arith, z.1))) asks.standing asks.stands
 
             -- a quantifier's visit, from the body's and what closed it
-            pub scope-done : {w3 : List ℕ} {r3 : Visited} → length w3 ≡ length w2
+            pub scope_done : {w3 : List ℕ} {r3 : Visited} → length w3 ≡ length w2
                 → ((q : Binder) → kind ≡ number_of (binder q)
                 → VisitOutcome (close_binder Γ t q y (record { bundle = bundle_in w2 after; result = x; step = k })) w3 r3)
                 → TermGives w s n Γ h t w3 s2 r3
             unfolding visit
-            scope-done {w3} {r3} long3 g = record {
+            scope_done {w3} {r3} long3 g = record {
               long = long3 ∙ gave.long ∙ long;
               kept = gave.kept;
               outcome = binder_only reads (λ τ. VisitOutcome (visit τ Γ (bundle_in w n)) w3 r3) quantifies (λ q u i low h.
                   let o = open_binder (bundle_in w n) first Γ in
-                  let d = visit_done (scope-body u h) told2 in
+                  let d = visit_done (scope_body u h) told2 in
                   let same : record { bundle = bundle_in w2 after; result = x; step = k } ≡ visit u o.context o.bundle =
                   λ j. record { bundle = d.now.bundle j; result = d.result j; step = d.step j } in
-                  subst (λ (v : Visit). VisitOutcome v w3 r3) (λ j. close_binder Γ t q (scope-open.variable j) (same j)) (g q i));
+                  subst (λ (v : Visit). VisitOutcome v w3 r3) (λ j. close_binder Γ t q (scope_open.variable j) (same j)) (g q i));
             }
 
     -- ---- the list of arguments, or of bound terms
 
-    module _ (not-1 : kind ≡ 1 → ⊥) (no-binder : is_binder kind ≡ false) where
+    module _ (not-1 : kind ≡ 1 → ⊥) (no_binder : is_binder kind ≡ false) where
       -- the call for it
-      pub args-asks : ListAsks w s n Γ h t second
-      args-asks = listed-only reads (λ τ. ListAsks w s n Γ h t second) not-1 no-binder
+      pub args_asks : ListAsks w s n Γ h t second
+      args_asks = listed_only reads (λ τ. ListAsks w s n Γ h t second) not-1 no_binder
           (λ ns i k. record { ready = asks.ready; pending = asks.pending; context = asks.context; standing = ns; stands = k })
           (λ vs ns u i k low st. record { ready = asks.ready; pending = asks.pending; context = asks.context; standing = ns; stands = k })
           asks.standing asks.stands
 
       module _ {w1 s1 : List ℕ} {r : Listed} (gave : ListGives w s n Γ h t second w1 s1 r) where
         -- the list's visit was full: so is the term's
-        pub args-full : r ≡ Listed.Full → TermGives w s n Γ h t w1 s1 Visited.Full
-        args-full e = record {
+        pub args_full : r ≡ Listed.Full → TermGives w s n Γ h t w1 s1 Visited.Full
+        args_full e = record {
           long = gave.long;
           kept = gave.kept;
-          outcome = listed-only reads (λ τ. VisitOutcome (visit τ Γ (bundle_in w n)) w1 Visited.Full) not-1 no-binder
+          outcome = listed_only reads (λ τ. VisitOutcome (visit τ Γ (bundle_in w n)) w1 Visited.Full) not-1 no_binder
               (λ ns i k. VisitOutcome.full (more_full (node_longer t Γ (bundle_in w n) first ns) (list_full (gave.outcome ns k) e)) refl)
               (λ vs ns u i k low st. VisitOutcome.full
               (more_full (longer_trans (opening_longer (bundle_in w n) first Γ ns) (block_longer t Γ (bundle_in w n) first vs ns u))
@@ -228,14 +228,14 @@ module _ {w s : List ℕ} {n : Counts} {Γ h t : ℕ} (asks : TermAsks w s n Γ 
         }
 
         module _ {bound : Counts} {top : ℕ} (told : r ≡ Listed.Done bound top) where
-          args-done : (ns : Nodes) → StandAll (bundle_in w n) t second ns → ListDone (visitAll ns Γ (bundle_in w n)) h w1 s1 bound top
-          args-done ns k = list_done (gave.outcome ns k) told
+          args_done : (ns : Nodes) → StandAll (bundle_in w n) t second ns → ListDone (visit_all ns Γ (bundle_in w n)) h w1 s1 bound top
+          args_done ns k = list_done (gave.outcome ns k) told
 
           -- the pairs are on the stack, no more than there are steps
-          pub args-ready : Ready w1 bound × (h ≤ top) × (top ≤ bound.steps) × (top ≤ length s1)
-          args-ready =
-              let ns = args-asks.standing in
-              let d = args-done ns args-asks.stands in
+          pub args_ready : Ready w1 bound × (h ≤ top) × (top ≤ bound.steps) × (top ≤ length s1)
+          args_ready =
+              let ns = args_asks.standing in
+              let d = args_done ns args_asks.stands in
               let e : top ≤ bound.steps =
               omega (arith, d.height, asks.pending.height, (sized_in w n).steps, visit_all_steps ns Γ (bundle_in w n), steps_are d.now) in (
                 d.now.ready,
@@ -245,17 +245,17 @@ module _ {w s : List ℕ} {n : Counts} {Γ h t : ℕ} (asks : TermAsks w s n Γ 
               )
 
           -- an application's visit, from its arguments' and what closed it
-          pub apply-done : kind ≡ 2 → {w2 : List ℕ} {r2 : Visited} → length w2 ≡ length w1
+          pub apply_done : kind ≡ 2 → {w2 : List ℕ} {r2 : Visited} → length w2 ≡ length w1
               → VisitOutcome (close_application Γ t first (record { bundle = bundle_in w1 bound; results = halves true s1 h top; steps = halves false s1 h top }))
               w2 r2
               → TermGives w s n Γ h t w2 s1 r2
           unfolding visit
-          apply-done e {w2} {r2} long2 g = record {
+          apply_done e {w2} {r2} long2 g = record {
             long = long2 ∙ gave.long;
             kept = gave.kept;
-            outcome = application-only reads (λ τ. VisitOutcome (visit τ Γ (bundle_in w n)) w2 r2) not-1 no-binder e (λ ns k.
-                let d = args-done ns k in
-                let same : record { bundle = bundle_in w1 bound; results = halves true s1 h top; steps = halves false s1 h top } ≡ visitAll ns Γ (bundle_in w n) =
+            outcome = application_only reads (λ τ. VisitOutcome (visit τ Γ (bundle_in w n)) w2 r2) not-1 no_binder e (λ ns k.
+                let d = args_done ns k in
+                let same : record { bundle = bundle_in w1 bound; results = halves true s1 h top; steps = halves false s1 h top } ≡ visit_all ns Γ (bundle_in w n) =
                 λ j. record { bundle = d.now.bundle j; results = d.results j; steps = d.steps j } in
                 subst (λ (v : Visit). VisitOutcome v w2 r2) (λ j. close_application Γ t first (same j)) g);
           }
@@ -264,100 +264,100 @@ module _ {w s : List ℕ} {n : Counts} {Γ h t : ℕ} (asks : TermAsks w s n Γ 
 
           module _ (not-2 : kind ≡ 2 → ⊥) {w2 : List ℕ} {r2 : Recorded} (long2 : length w2 ≡ length w1)
               (opened : OpenOutcome (replacing (bundle_in w1 bound) first Γ (halves true s1 h top)) w2 r2) where
-            let-opened : (ns : Nodes) → StandAll (bundle_in w n) t second ns → OpenOutcome (opening (bundle_in w n) first Γ ns) w2 r2
-            let-opened ns k =
-                let d = args-done ns k in
+            let_opened : (ns : Nodes) → StandAll (bundle_in w n) t second ns → OpenOutcome (opening (bundle_in w n) first Γ ns) w2 r2
+            let_opened ns k =
+                let d = args_done ns k in
                 subst (λ (o : unlimited.OpenedContext). OpenOutcome o w2 r2) (λ j. replacing (d.now.bundle j) first Γ (d.results j)) opened
 
             -- there was no room for it
-            pub let-closed : r2 ≡ Recorded.Full → TermGives w s n Γ h t w2 s1 Visited.Full
-            let-closed e = record {
+            pub let_closed : r2 ≡ Recorded.Full → TermGives w s n Γ h t w2 s1 Visited.Full
+            let_closed e = record {
               long = long2 ∙ gave.long;
               kept = gave.kept;
-              outcome = let-only reads (λ τ. VisitOutcome (visit τ Γ (bundle_in w n)) w2 Visited.Full) not-1 no-binder not-2 (λ vs ns u k low st.
-                  VisitOutcome.full (more_full (block_longer t Γ (bundle_in w n) first vs ns u) (open_full (let-opened ns k) e)) refl);
+              outcome = let_only reads (λ τ. VisitOutcome (visit τ Γ (bundle_in w n)) w2 Visited.Full) not-1 no_binder not-2 (λ vs ns u k low st.
+                  VisitOutcome.full (more_full (block_longer t Γ (bundle_in w n) first vs ns u) (open_full (let_opened ns k) e)) refl);
             }
 
             module _ {inside : Counts} {inner : ℕ} (told2 : r2 ≡ Recorded.Done inside inner) where
-              let-done : (ns : Nodes) → StandAll (bundle_in w n) t second ns → OpenDone (opening (bundle_in w n) first Γ ns) w2 inside inner
-              let-done ns k = open_done (let-opened ns k) told2
+              let_done : (ns : Nodes) → StandAll (bundle_in w n) t second ns → OpenDone (opening (bundle_in w n) first Γ ns) w2 inside inner
+              let_done ns k = open_done (let_opened ns k) told2
 
               let_longer : (ns : Nodes) → Longer (bundle_in w n) (opening (bundle_in w n) first Γ ns).bundle
-              let_longer ns = longer_trans (visitAll-longer ns Γ (bundle_in w n)) (opening_longer (bundle_in w n) first Γ ns)
+              let_longer ns = longer_trans (visit_all_longer ns Γ (bundle_in w n)) (opening_longer (bundle_in w n) first Γ ns)
 
-              let-stands : (ns : Nodes) → StandAll (bundle_in w n) t second ns → (u : Node) → Stands (bundle_in w n) third u → Stands (bundle_in w2 inside) third u
-              let-stands ns k u st = stands_on (on (let_longer ns) (let-done ns k).now) u third st
+              let_stands : (ns : Nodes) → StandAll (bundle_in w n) t second ns → (u : Node) → Stands (bundle_in w n) third u → Stands (bundle_in w2 inside) third u
+              let_stands ns k u st = stands_on (on (let_longer ns) (let_done ns k).now) u third st
 
               -- the call for the body
-              pub body-asks : TermAsks w2 s1 inside inner top third × (third < t)
-              body-asks = let-only reads (λ τ. TermAsks w2 s1 inside inner top third × (third < t)) not-1 no-binder not-2 (λ vs ns u k low st.
-                  let d = let-done ns k in
-                  let v = visitAll ns Γ (bundle_in w n) in (
+              pub body_asks : TermAsks w2 s1 inside inner top third × (third < t)
+              body_asks = let_only reads (λ τ. TermAsks w2 s1 inside inner top third × (third < t)) not-1 no_binder not-2 (λ vs ns u k low st.
+                  let d = let_done ns k in
+                  let v = visit_all ns Γ (bundle_in w n) in (
                     record {
                       ready = d.now.ready;
                       pending = record {
                         places = omega (arith, asks.pending.places, gave.kept.long);
-                        height = omega (arith, args-ready.2, steps_are (args-done ns k).now, steps_are d.now);
+                        height = omega (arith, args_ready.2, steps_are (args_done ns k).now, steps_are d.now);
                       };
                       context = omega (arith, d.context, contexts_are d.now, replacing_context v.bundle first Γ v.results);
                       standing = u;
-                      stands = let-stands ns k u st;
+                      stands = let_stands ns k u st;
                     },
                     low,
                   )) asks.standing asks.stands
 
               module _ {w3 s3 : List ℕ} {r3 : Visited} (gave3 : TermGives w2 s1 inside inner top third w3 s3 r3) where
-                body-outcome : (ns : Nodes) → StandAll (bundle_in w n) t second ns → (u : Node) → Stands (bundle_in w n) third u
+                body_outcome : (ns : Nodes) → StandAll (bundle_in w n) t second ns → (u : Node) → Stands (bundle_in w n) third u
                     → VisitOutcome (visit u (opening (bundle_in w n) first Γ ns).context (opening (bundle_in w n) first Γ ns).bundle) w3 r3
-                body-outcome ns k u st =
-                    let d = let-done ns k in
-                    subst (λ (v : Visit). VisitOutcome v w3 r3) (λ i. visit u (d.context i) (d.now.bundle i)) (gave3.outcome u (let-stands ns k u st))
+                body_outcome ns k u st =
+                    let d = let_done ns k in
+                    subst (λ (v : Visit). VisitOutcome v w3 r3) (λ i. visit u (d.context i) (d.now.bundle i)) (gave3.outcome u (let_stands ns k u st))
 
                 -- the body's visit was full: so is the let's
-                pub body-full : r3 ≡ Visited.Full → TermGives w s n Γ h t w3 s3 Visited.Full
-                body-full e = record {
+                pub body_full : r3 ≡ Visited.Full → TermGives w s n Γ h t w3 s3 Visited.Full
+                body_full e = record {
                   long = gave3.long ∙ long2 ∙ gave.long;
-                  kept = below_trans args-ready.1 gave.kept gave3.kept;
-                  outcome = let-only reads (λ τ. VisitOutcome (visit τ Γ (bundle_in w n)) w3 Visited.Full) not-1 no-binder not-2 (λ vs ns u k low st.
-                      VisitOutcome.full (more_full (body_longer t Γ (bundle_in w n) first vs ns u) (visit_full (body-outcome ns k u st) e)) refl);
+                  kept = below_trans args_ready.1 gave.kept gave3.kept;
+                  outcome = let_only reads (λ τ. VisitOutcome (visit τ Γ (bundle_in w n)) w3 Visited.Full) not-1 no_binder not-2 (λ vs ns u k low st.
+                      VisitOutcome.full (more_full (body_longer t Γ (bundle_in w n) first vs ns u) (visit_full (body_outcome ns k u st) e)) refl);
                 }
 
                 module _ {after : Counts} {x y : ℕ} (told3 : r3 ≡ Visited.Done after x y) where
                   -- numbers for a pair, a place for it, and the call that closes the let
-                  pub body-words : Words w3 → (x ≤ 4294967295) × (y ≤ 4294967295)
-                  body-words word = let-only reads (λ τ. (x ≤ 4294967295) × (y ≤ 4294967295)) not-1 no-binder not-2 (λ vs ns u k low st.
+                  pub body_words : Words w3 → (x ≤ 4294967295) × (y ≤ 4294967295)
+                  body_words word = let_only reads (λ τ. (x ≤ 4294967295) × (y ≤ 4294967295)) not-1 no_binder not-2 (λ vs ns u k low st.
                       let z = result_word (visit_ends u (opening (bundle_in w n) first Γ ns).context (opening (bundle_in w n) first Γ ns).bundle)
-                      (visit_done (body-outcome ns k u st) told3) word in
+                      (visit_done (body_outcome ns k u st) told3) word in
                       (z.0, omega (arith, z.1))) asks.standing asks.stands
 
-                  pub body-ready : Ready w3 after × (top < limits.steps) × (top < length s3)
-                  body-ready = let-only reads (λ τ. Ready w3 after × (top < limits.steps) × (top < length s3)) not-1 no-binder not-2 (λ vs ns u k low st.
-                      let d = visit_done (body-outcome ns k u st) told3 in
+                  pub body_ready : Ready w3 after × (top < limits.steps) × (top < length s3)
+                  body_ready = let_only reads (λ τ. Ready w3 after × (top < limits.steps) × (top < length s3)) not-1 no_binder not-2 (λ vs ns u k low st.
+                      let d = visit_done (body_outcome ns k u st) told3 in
                       let i : top < limits.steps =
                       omega (
                         arith,
-                        args-ready.2,
-                        steps_are (args-done ns k).now,
+                        args_ready.2,
+                        steps_are (args_done ns k).now,
                         (visit_ends u (opening (bundle_in w n) first Γ ns).context (opening (bundle_in w n) first Γ ns).bundle).more,
                         d.now.within.steps,
                       ) in
                       (d.now.ready, i, omega (arith, i, asks.pending.places, gave.kept.long, gave3.kept.long))) asks.standing asks.stands
 
                   -- a let's visit, from the bound terms', the body's and the step that closed it
-                  pub body-done : {pair : ℕ} → Pair pair x y → {w4 : List ℕ} {r4 : Visited} → length w4 ≡ length w3
+                  pub body_done : {pair : ℕ} → Pair pair x y → {w4 : List ℕ} {r4 : Visited} → length w4 ≡ length w3
                       → VisitOutcome (concluded (bundle_in w3 after) 5 Γ t x (halves false (set s3 top pair) h (top + 1))) w4 r4
                       → TermGives w s n Γ h t w4 (set s3 top pair) r4
                   unfolding visit
-                  body-done {pair} packed {w4} {r4} long4 g = record {
+                  body_done {pair} packed {w4} {r4} long4 g = record {
                     long = long4 ∙ gave3.long ∙ long2 ∙ gave.long;
-                    kept = below_trans args-ready.1 gave.kept (below_trans (omega arith) gave3.kept (below_set s3 top top pair (omega arith)));
-                    outcome = let-only reads (λ τ. VisitOutcome (visit τ Γ (bundle_in w n)) w4 r4) not-1 no-binder not-2 (λ vs ns u k low st.
-                        let a = args-done ns k in
-                        let d = visit_done (body-outcome ns k u st) told3 in
-                        let steps = (visitAll ns Γ (bundle_in w n)).steps in
+                    kept = below_trans args_ready.1 gave.kept (below_trans (omega arith) gave3.kept (below_set s3 top top pair (omega arith)));
+                    outcome = let_only reads (λ τ. VisitOutcome (visit τ Γ (bundle_in w n)) w4 r4) not-1 no_binder not-2 (λ vs ns u k low st.
+                        let a = args_done ns k in
+                        let d = visit_done (body_outcome ns k u st) told3 in
+                        let steps = (visit_all ns Γ (bundle_in w n)).steps in
                         let premises : halves false (set s3 top pair) h (top + 1) ≡ steps
                         ++ ((visit u (opening (bundle_in w n) first Γ ns).context (opening (bundle_in w n) first Γ ns).bundle).step ∷ []) =
-                        halves_then gave3.kept false h pair args-ready.1 body-ready.2
+                        halves_then gave3.kept false h pair args_ready.1 body_ready.2
                         ∙ (λ j. a.steps j ++ ((packed.lower ∙ d.step) j ∷ [])) in
                         subst (λ (v : Visit). VisitOutcome v w4 r4) (λ j. concluded (d.now.bundle j) 5 Γ t (d.result j) (premises j)) g);
                   }

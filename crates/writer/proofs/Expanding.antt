@@ -1,5 +1,5 @@
 -- The answer of the expansion, as the code comes to it.
---     refused_early, refused-late             a check of 1 to 9 fails; 18, 15 or 17 does
+--     refused_early, refused_late             a check of 1 to 9 fails; 18, 15 or 17 does
 --     Begun                                   none of those does, and the job is in the scratch
 --     job_formed, visit_asks, visit_is        what the visit to the rule asks for then, and what it gives
 --     Told, told_done, told_full              what the visit's answer says
@@ -128,26 +128,26 @@ module _ (f : List ℕ) (out words sets : ℕ) where
 
   -- 1 to 9 do not fail
   module _ (none : (tables_fault f (long_enough out words sets) 3).number ≡ 0) where
-    pub header-formed : HeaderFormed f
-    header-formed = (tables_header f (long_enough out words sets) 3 none).0
+    pub header_formed : HeaderFormed f
+    header_formed = (tables_header f (long_enough out words sets) 3 none).0
 
     pub areas_long : LongEnough out words sets
     areas_long = (long_exactly out words sets).0 (tables_header f (long_enough out words sets) 3 none).1
 
-    tables-formed : TablesFormed (bundle_of f)
+    tables_formed : TablesFormed (bundle_of f)
     unfolding tables_fault
-    tables-formed = (tables_exactly (bundle_of f)).0 (next_both (fault (header_fault f (long_enough out words sets) 3) 0) (sections_fault (bundle_of f)) none).1
+    tables_formed = (tables_exactly (bundle_of f)).0 (next_both (fault (header_fault f (long_enough out words sets) 3) 0) (sections_fault (bundle_of f)) none).1
 
     late_is : job_fault f out words sets ≡ or_else (first_failing (job_tests (bundle_of f))) 0 (fault 0 0)
     unfolding job_fault
     late_is = or_else_on (tables_fault f (long_enough out words sets) 3).number (tables_fault f (long_enough out words sets) 3).«record» _ none
 
-    refused-number : (m : ℕ) → (m ≡ 0 → ⊥) → first_failing (job_tests (bundle_of f)) ≡ m → Refused m 0 ≡ (expansion f out words sets).answer
-    refused-number m ne e = refused m 0 ne (late_is ∙ rw e (or_else_here m 0 (fault 0 0) ne))
+    refused_number : (m : ℕ) → (m ≡ 0 → ⊥) → first_failing (job_tests (bundle_of f)) ≡ m → Refused m 0 ≡ (expansion f out words sets).answer
+    refused_number m ne e = refused m 0 ne (late_is ∙ rw e (or_else_here m 0 (fault 0 0) ne))
 
-    pub refused-late : (m : ℕ) → m ≡ first_failing (early_tests (bundle_of f)) → (m ≡ 0 → ⊥) → Refused m 0 ≡ (expansion f out words sets).answer
-    refused-late m e ne =
-        refused-number m ne (failing_early (test 16 (within_of (counts_in (visited (bundle_of f)).bundle)) ∷ []) (early_tests (bundle_of f)) (λ z. ne (e ∙ z))
+    pub refused_late : (m : ℕ) → m ≡ first_failing (early_tests (bundle_of f)) → (m ≡ 0 → ⊥) → Refused m 0 ≡ (expansion f out words sets).answer
+    refused_late m e ne =
+        refused_number m ne (failing_early (test 16 (within_of (counts_in (visited (bundle_of f)).bundle)) ∷ []) (early_tests (bundle_of f)) (λ z. ne (e ∙ z))
         ∙ sym e)
 
 module _ {f : List ℕ} {out words sets : ℕ} {w : List ℕ} {c : Counts} {left : ℕ} (b : Begun f out words sets w c left) where
@@ -157,7 +157,7 @@ module _ {f : List ℕ} {out words sets : ℕ} {w : List ℕ} {c : Counts} {left
 
   pub refused_full : TooMuch (visited (bundle_of f)).bundle → Refused 16 0 ≡ (expansion f out words sets).answer
   refused_full h =
-      refused-number f out words sets b.none 16 (λ z. omega arith)
+      refused_number f out words sets b.none 16 (λ z. omega arith)
       (last_is ∙ rw (off (within_of (counts_in (visited (bundle_of f)).bundle)) (λ e. h (within_all (counts_in (visited (bundle_of f)).bundle) e))))
 
   written : Within (counts_in (visited (bundle_of f)).bundle) → expansion f out words sets ≡ writes (expanded (bundle_of f)) out words sets
@@ -178,15 +178,15 @@ module _ {f : List ℕ} {out words sets : ℕ} {w : List ℕ} {c : Counts} {left
   visit_stands : Stands (bundle_in w c) left (node_at (bundle_in w c) left)
   visit_stands =
       let known = numbers_of_lem (length (bundle_of f).terms) (bundle_of f).left (failing_none (early_tests (bundle_of f)) refl b.early).1.0 in
-      rw (bundle_is, left_is) (stands_at (bundle_of f) (tables-formed f out words sets b.none) (bundle_of f).left known)
+      rw (bundle_is, left_is) (stands_at (bundle_of f) (tables_formed f out words sets b.none) (bundle_of f).left known)
 
   pub job_formed : TablesFormed (bundle_in w c)
-  job_formed = rw bundle_is (tables-formed f out words sets b.none)
+  job_formed = rw bundle_is (tables_formed f out words sets b.none)
 
   -- the stack is s
   pub visit_asks : {s : List ℕ} → length w ≡ words → length s ≡ sets → TermAsks w s c 0 0 left
   visit_asks scratch stack =
-      let header = header-formed f out words sets b.none in
+      let header = header_formed f out words sets b.none in
       let long = areas_long f out words sets b.none in
       record {
         ready = record {

@@ -5,7 +5,7 @@ use native.Mathlib.Omega.{arith}
 use Rattle.scratch.specs.Scratch.{bundle_in}
 use Rattle.scratch.specs.Stack.{halves}
 use Rattle.placing.proofs.CallOutcomes.{application_asks, concluded_on, concluded_full}
-use Rattle.placing.proofs.Indexes.{full_visit, step-indexed}
+use Rattle.placing.proofs.Indexes.{full_visit, step_indexed}
 use Rattle.closers.proofs.close_application.Goals as goal
 
 pub conclude-requires : goal.conclude-requires
@@ -32,6 +32,6 @@ returns-in-Done c =
       t.ensures.0 ∙ p.ensures.0,
       concluded_on p.ensures.1 c.in-Done.is 2 a.context a.term
           (halves false a.stack.now a.from a.to) t.ensures.1,
-      step-indexed (p.ensures.2.held _ _ c.in-Done.is) 2 a.context a.term _
+      step_indexed (p.ensures.2.held _ _ c.in-Done.is) 2 a.context a.term _
           (halves false a.stack.now a.from a.to) t.ensures.1,
     )

@@ -1,6 +1,11 @@
 -- `closers::close_variable` meets its contract: by the image, which is a word of 32 bits.
 use mathlib.Core.Path.{sym, ◌∙◌}
+use Prim.Native.Nat.{ℕ}
 use native.Mathlib.Omega.{arith}
+use borrow.Author.Rules.{rules}
+use mir.Syntax.{w32}
+use mir.Val.{Fits}
+use lib.ListN.{get_or}
 use Rattle.scratch.specs.Scratch.{bundle_in}
 use Rattle.placing.proofs.ScratchOutcomes.{given_word}
 use Rattle.placing.proofs.CallOutcomes.{leaf_own, leaf_gives}
@@ -10,12 +15,12 @@ pub conclude_alone-requires-in-Gives : goal.conclude_alone-requires-in-Gives
 conclude_alone-requires-in-Gives c =
     let a = c.args in
     let i = c.image_in-image in
-    let g = c.image-1.given in (
+    let word : (j : ℕ) → Fits w32 (get_or a.words.now j 0) = search rules in (
       c.requires.0,
       omega arith,
       c.requires.1,
       c.requires.2,
-      given_word a.words.now a.c c.requires.0.version (λ j. omega (arith, c.slice_known-1.given j))
+      given_word a.words.now a.c c.requires.0.version (λ j. omega (arith, word j))
           a.context a.x _ (sym i.ensures ∙ c.in-Gives.is),
     )
 

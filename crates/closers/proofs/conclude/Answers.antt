@@ -1,7 +1,7 @@
 -- `closers::conclude` meets its contract: the list of premises, then the step.
 use mathlib.Core.Path.{◌∙◌}
 use native.Mathlib.Omega.{arith}
-use Rattle.placing.proofs.CallOutcomes.{add_asks, step-on, step_full}
+use Rattle.placing.proofs.CallOutcomes.{add_asks, step_on, step_full}
 use Rattle.closers.proofs.conclude.Goals as goal
 
 pub add_step-requires : goal.add_step-requires
@@ -21,5 +21,5 @@ returns-in-Done c =
     let l = c.add_halves-listed in
     let t = c.add_step in (
       t.ensures.0 ∙ l.ensures.0,
-      step-on l.ensures.1 c.in-Done.is a.rule a.context a.left a.right t.ensures.1,
+      step_on l.ensures.1 c.in-Done.is a.rule a.context a.left a.right t.ensures.1,
     )

@@ -1,7 +1,7 @@
 -- `closers::open_let` meets its contract: the list of terms, then the context.
 use mathlib.Core.Path.{◌∙◌}
 use native.Mathlib.Omega.{arith}
-use Rattle.placing.proofs.CallOutcomes.{add_asks, context-on, context_full}
+use Rattle.placing.proofs.CallOutcomes.{add_asks, context_on, context_full}
 use Rattle.closers.proofs.open_let.Goals as goal
 
 pub add_context-requires : goal.add_context-requires
@@ -21,6 +21,6 @@ returns-in-Done c =
     let l = c.add_halves-listed in
     let t = c.add_context in (
       t.ensures.0 ∙ l.ensures.0,
-      context-on l.ensures.1 c.in-Done.is a.variables a.parent
+      context_on l.ensures.1 c.in-Done.is a.variables a.parent
           t.ensures.1,
     )

@@ -8,8 +8,8 @@ use Rattle.bundle.specs.declared.Bundle.{Bundle as Counts}
 use Rattle.scratch.specs.Scratch.{bundle_in}
 use Rattle.scratch.proofs.ScratchFields.{sized_in}
 use Rattle.expansion.specs.Visit.{new_variable}
-use Rattle.placing.proofs.CallOutcomes.{fresh_asks, binder_full, binder-over, binder-on}
-use Rattle.placing.proofs.Indexes.{full_binder, renaming-indexed}
+use Rattle.placing.proofs.CallOutcomes.{fresh_asks, binder_full, binder_over, binder_on}
+use Rattle.placing.proofs.Indexes.{full_binder, renaming_indexed}
 use Rattle.closers.proofs.open_quantifier.Goals as goal
 
 -- the new variable, as the code counts it
@@ -35,7 +35,7 @@ returns-in-Full-renamed c =
     let p = c.place_fresh-placed in
     let t = c.open_renaming-renamed in (
       t.ensures.0 ∙ p.ensures.0,
-      binder-over (bundle_in a.words.now a.c) a.x a.context p.ensures.1
+      binder_over (bundle_in a.words.now a.c) a.x a.context p.ensures.1
           c.in-Done.is (new a.words.now a.c) t.ensures.1 c.in-Full-renamed.is,
       full_binder,
     )
@@ -46,9 +46,9 @@ returns-in-Done-renamed c =
     let p = c.place_fresh-placed in
     let t = c.open_renaming-renamed in (
       t.ensures.0 ∙ p.ensures.0,
-      binder-on (bundle_in a.words.now a.c) a.x a.context p.ensures.1
+      binder_on (bundle_in a.words.now a.c) a.x a.context p.ensures.1
           c.in-Done.is (new a.words.now a.c) t.ensures.1
           c.in-Done-renamed.is,
-      renaming-indexed (p.ensures.2.held _ _ c.in-Done.is) a.x
+      renaming_indexed (p.ensures.2.held _ _ c.in-Done.is) a.x
           (a.c.variables + 1) _ a.context t.ensures.1 c.in-Done-renamed.is,
     )

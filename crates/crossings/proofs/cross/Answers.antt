@@ -5,7 +5,7 @@ use mathlib.Core.Path.{sym, ap, ◌∙◌}
 use lib.ListN.{length, length-set}
 use Rattle.sets.specs.Sets.{with_bit}
 use Rattle.sets.proofs.Members.{changed_length}
-use Rattle.crossings.proofs.Places.{places-crossed}
+use Rattle.crossings.proofs.Places.{places_crossed}
 use Rattle.crossings.proofs.cross.Goals as goal
 
 pub bounds-places-count : goal.bounds-places-count
@@ -18,6 +18,6 @@ returns c =
     let i = c.insert in (
       simp length-set,
       ap length i.ensures ∙ changed_length with_bit a.bound.now 0 a.n a.y,
-      λ ps e known. places-crossed a.b.variables a.n a.places.now a.bound.now a.x (a.depth + 1) a.y (a.depth + 1) p.0 p.2 p.3
+      λ ps e known. places_crossed a.b.variables a.n a.places.now a.bound.now a.x (a.depth + 1) a.y (a.depth + 1) p.0 p.2 p.3
           p.4 p.5 p.1 p.6 ps (ap (λ (k : ℕ). k + 1) (sym e)) (ap (λ (k : ℕ). k + 1) (sym e)) i.ensures known,
     )

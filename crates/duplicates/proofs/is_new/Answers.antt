@@ -3,7 +3,7 @@ use native.Mathlib.Omega.{arith}
 use Prim.Native.Nat.{◌-◌}
 use mathlib.Core.Path.{◌≡◌, refl, sym, ◌∙◌}
 use Rattle.bundle.specs.File.{bundle_at}
-use Rattle.bundle.proofs.Filed.{sought_start, sought_less, sought-miss}
+use Rattle.bundle.proofs.Filed.{sought_start, sought_less, sought_miss}
 use Rattle.duplicates.proofs.Digests.{same_digest, same, new_at_end, not_new}
 use Rattle.duplicates.proofs.is_new.Goals as goal
 
@@ -28,7 +28,7 @@ loop-j-smaller c =
 pub loop-j-preserved : goal.loop-j-preserved
 loop-j-preserved c =
     let l = c.loop-j in
-    sought-miss c.requires.1 l.invariant c.loop-j-test.true c.wide-j-in-loop-j.ensures
+    sought_miss c.requires.1 l.invariant c.loop-j-test.true c.wide-j-in-loop-j.ensures
     c.same_term.ensures c.if-same_term.false refl
 
 pub returns : goal.returns

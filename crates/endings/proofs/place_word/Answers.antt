@@ -20,15 +20,14 @@ use Rattle.endings.proofs.EndingLaws.{ended_outcome, ended_held, variable_le, ap
 use Rattle.endings.proofs.place_word.Goals as goal
 
 pub place_variable-p-requires : goal.place_variable-p-requires
-place_variable-p-requires c =
-    (
-      c.requires.1.ready,
-      variable_word c.args.b.variables c.args.run.now c.variable_called-x.ensures (omega (
-        arith,
-        c.requires.0.within.variables,
-      )),
-      c.requires.1.indexed,
-    )
+place_variable-p-requires c = (
+  c.requires.1.ready,
+  variable_word c.args.b.variables c.args.run.now c.variable_called-x.ensures (omega (
+    arith,
+    c.requires.0.within.variables,
+  )),
+  c.requires.1.indexed,
+)
 
 pub returns-then-x-ne0 : goal.returns-then-x-ne0
 returns-then-x-ne0 c =

@@ -6,14 +6,14 @@ use Rattle.bundle.specs.File.{bundle_at}
 use Rattle.images.specs.ContextRows.{image_at}
 use Rattle.images.specs.LentReading.{free_in}
 use Rattle.pair_walk.specs.Agenda.{few_pairs}
-use Rattle.pair_walk.proofs.MorePairs.{same-few, more_same, different-few, more-different}
+use Rattle.pair_walk.proofs.MorePairs.{same_few, more_same, different_few, more_different}
 use Rattle.pair_walk.proofs.pair_walk.Goals as goal
 
 pub overflow_add-result : goal.overflow_add-result
 overflow_add-result c = let a = c.args in
     omega (
       arith,
-      same-few (free_in a.b.terms a.area.now a.n) (image_at a.b.variables a.images.now a.context) (bundle_at a.file.now a.b) a.left [] a.right
+      same_few (free_in a.b.terms a.area.now a.n) (image_at a.b.variables a.images.now a.context) (bundle_at a.file.now a.b) a.left [] a.right
           few_pairs c.in-Same.m (sym c.in-Same.is ∙ c.short_walk-walked.ensures),
     )
 
@@ -21,7 +21,7 @@ pub overflow_add-result-in-Different : goal.overflow_add-result-in-Different
 overflow_add-result-in-Different c = let a = c.args in
     omega (
       arith,
-      different-few (free_in a.b.terms a.area.now a.n) (image_at a.b.variables a.images.now a.context) (bundle_at a.file.now a.b)
+      different_few (free_in a.b.terms a.area.now a.n) (image_at a.b.variables a.images.now a.context) (bundle_at a.file.now a.b)
           a.left [] a.right
           few_pairs c.in-Different.m (sym c.in-Different.is ∙ c.short_walk-walked.ensures),
     )
@@ -33,5 +33,5 @@ returns-in-Same c = let a = c.args in
 
 pub returns-in-Different : goal.returns-in-Different
 returns-in-Different c = let a = c.args in
-    more-different (free_in a.b.terms a.area.now a.n) (image_at a.b.variables a.images.now a.context) (bundle_at a.file.now a.b) a.left [] a.right
+    more_different (free_in a.b.terms a.area.now a.n) (image_at a.b.variables a.images.now a.context) (bundle_at a.file.now a.b) a.left [] a.right
     few_pairs c.in-Different.m (sym c.in-Different.is ∙ c.short_walk-walked.ensures) 4032

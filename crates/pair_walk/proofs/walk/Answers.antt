@@ -7,7 +7,7 @@ use Rattle.logic.specs.ReflWalk.{within_by}
 use Rattle.images.specs.ContextRows.{image_at}
 use Rattle.images.specs.LentReading.{free_in}
 use Rattle.pair_walk.specs.Agenda.{frames, crossed_by}
-use Rattle.pair_walk.proofs.Visiting.{visit_start, visit-differs, open-known, opened-held, opened-whole, turned_end, turned_pair}
+use Rattle.pair_walk.proofs.Visiting.{visit_start, visit_differs, open_known, opened_held, opened_whole, turned_end, turned_pair}
 use Rattle.pair_walk.proofs.walk.Goals as goal
 
 pub overflow_sub-spare : goal.overflow_sub-spare
@@ -39,7 +39,7 @@ shape_of-agenda-then-not-pair_meets c = c.loop-b.invariant.3
 pub returns-then-not-pair_meets : goal.returns-then-not-pair_meets
 returns-then-not-pair_meets c = let a = c.args in
     let l = c.loop-b in
-    visit-differs (free_in a.b.terms a.area.now a.n) (image_at a.b.variables a.images.now a.context) a.file.now a.b a.n a.most (within_by (free_in a.b.terms a.area.now a.n) (image_at a.b.variables a.images.now a.context) (bundle_at a.file.now a.b) a.left []
+    visit_differs (free_in a.b.terms a.area.now a.n) (image_at a.b.variables a.images.now a.context) a.file.now a.b a.n a.most (within_by (free_in a.b.terms a.area.now a.n) (image_at a.b.variables a.images.now a.context) (bundle_at a.file.now a.b) a.left []
     a.right a.most)
     l.agenda l.places l.bound l.l l.r l.height l.depth l.spare l.invariant.0 (c.pair_meets.ensures (crossed_by (frames l.agenda l.height)) l.invariant.0.held.crossing.placed)
     c.if-not-pair_meets.true
@@ -47,7 +47,7 @@ returns-then-not-pair_meets c = let a = c.args in
 pub open-opened-requires : goal.open-opened-requires
 open-opened-requires c = let a = c.args in
     let l = c.loop-b in
-    let known = open-known (free_in a.b.terms a.area.now a.n) (image_at a.b.variables a.images.now a.context) a.file.now a.b a.n a.most (within_by (free_in a.b.terms a.area.now a.n) (image_at a.b.variables a.images.now a.context) (bundle_at a.file.now a.b) a.left []
+    let known = open_known (free_in a.b.terms a.area.now a.n) (image_at a.b.variables a.images.now a.context) a.file.now a.b a.n a.most (within_by (free_in a.b.terms a.area.now a.n) (image_at a.b.variables a.images.now a.context) (bundle_at a.file.now a.b) a.left []
     a.right a.most)
     l.agenda l.places l.bound l.l l.r l.height l.depth l.spare l.invariant.0 (c.pair_meets.ensures (crossed_by (frames
     l.agenda l.height)) l.invariant.0.held.crossing.placed)
@@ -60,7 +60,7 @@ next-turn-requires c = let a = c.args in
     let h = c.requires in
     let o = c.open-opened in (
       h.0,
-      opened-held (free_in a.b.terms a.area.now a.n) (image_at a.b.variables a.images.now a.context) a.file.now a.b a.n a.most (within_by (free_in a.b.terms a.area.now a.n) (image_at a.b.variables a.images.now a.context) (bundle_at a.file.now a.b) a.left []
+      opened_held (free_in a.b.terms a.area.now a.n) (image_at a.b.variables a.images.now a.context) a.file.now a.b a.n a.most (within_by (free_in a.b.terms a.area.now a.n) (image_at a.b.variables a.images.now a.context) (bundle_at a.file.now a.b) a.left []
           a.right a.most)
           l.agenda l.places l.bound l.l l.r l.height l.depth l.spare l.invariant.0 (c.pair_meets.ensures (crossed_by (frames l.agenda l.height)) l.invariant.0.held.crossing.placed)
           c.if-not-pair_meets.false o.new.agenda o.result o.ensures.0 o.ensures.2,
@@ -86,9 +86,9 @@ returns-in-Ended c = let a = c.args in
     let u = turned_end (free_in a.b.terms a.area.now a.n) (image_at a.b.variables a.images.now a.context) a.file.now a.b a.n a.most t.new.agenda t.new.places
     t.new.bound l.spare
     (t.ensures (free_in a.b.terms a.area.now a.n) (image_at a.b.variables a.images.now a.context)) c.in-Ended.is
-    (opened-whole (free_in a.b.terms a.area.now a.n) (image_at a.b.variables a.images.now a.context) a.file.now a.b a.n a.most (within_by (free_in a.b.terms a.area.now a.n) (image_at a.b.variables a.images.now a.context) (bundle_at a.file.now a.b) a.left []
+    (opened_whole (free_in a.b.terms a.area.now a.n) (image_at a.b.variables a.images.now a.context) a.file.now a.b a.n a.most (within_by (free_in a.b.terms a.area.now a.n) (image_at a.b.variables a.images.now a.context) (bundle_at a.file.now a.b) a.left []
     a.right a.most)
-    l.agenda l.places l.bound l.l l.r l.height l.depth l.spare l.inv.0 (c.pair_meets.ensures (crossed_by (frames l.agenda l.height)) l.inv.0.held.crossing.placed)
+    l.agenda l.places l.bound l.l l.r l.height l.depth l.spare l.invariant.0 (c.pair_meets.ensures (crossed_by (frames l.agenda l.height)) l.invariant.0.held.crossing.placed)
     c.if-not-pair_meets.false o.new.agenda o.result o.ensures.0 o.ensures.2) in
     u
 
@@ -101,9 +101,9 @@ loop-b-smaller c = let a = c.args in
     a.most t.new.agenda t.new.places
     t.new.bound l.spare
     (t.ensures (free_in a.b.terms a.area.now a.n) (image_at a.b.variables a.images.now a.context)) c.in-Pair.is
-    (opened-whole (free_in a.b.terms a.area.now a.n) (image_at a.b.variables a.images.now a.context) a.file.now a.b a.n a.most (within_by (free_in a.b.terms a.area.now a.n) (image_at a.b.variables a.images.now a.context) (bundle_at a.file.now a.b) a.left []
+    (opened_whole (free_in a.b.terms a.area.now a.n) (image_at a.b.variables a.images.now a.context) a.file.now a.b a.n a.most (within_by (free_in a.b.terms a.area.now a.n) (image_at a.b.variables a.images.now a.context) (bundle_at a.file.now a.b) a.left []
     a.right a.most)
-    l.agenda l.places l.bound l.l l.r l.height l.depth l.spare l.inv.0 (c.pair_meets.ensures (crossed_by (frames l.agenda l.height)) l.inv.0.held.crossing.placed)
+    l.agenda l.places l.bound l.l l.r l.height l.depth l.spare l.invariant.0 (c.pair_meets.ensures (crossed_by (frames l.agenda l.height)) l.invariant.0.held.crossing.placed)
     c.if-not-pair_meets.false o.new.agenda o.result o.ensures.0 o.ensures.2) in
     omega (arith, u.1)
 
@@ -116,8 +116,8 @@ loop-b-preserved c = let a = c.args in
     a.most t.new.agenda t.new.places
     t.new.bound l.spare
     (t.ensures (free_in a.b.terms a.area.now a.n) (image_at a.b.variables a.images.now a.context)) c.in-Pair.is
-    (opened-whole (free_in a.b.terms a.area.now a.n) (image_at a.b.variables a.images.now a.context) a.file.now a.b a.n a.most (within_by (free_in a.b.terms a.area.now a.n) (image_at a.b.variables a.images.now a.context) (bundle_at a.file.now a.b) a.left []
+    (opened_whole (free_in a.b.terms a.area.now a.n) (image_at a.b.variables a.images.now a.context) a.file.now a.b a.n a.most (within_by (free_in a.b.terms a.area.now a.n) (image_at a.b.variables a.images.now a.context) (bundle_at a.file.now a.b) a.left []
     a.right a.most)
-    l.agenda l.places l.bound l.l l.r l.height l.depth l.spare l.inv.0 (c.pair_meets.ensures (crossed_by (frames l.agenda l.height)) l.inv.0.held.crossing.placed)
+    l.agenda l.places l.bound l.l l.r l.height l.depth l.spare l.invariant.0 (c.pair_meets.ensures (crossed_by (frames l.agenda l.height)) l.invariant.0.held.crossing.placed)
     c.if-not-pair_meets.false o.new.agenda o.result o.ensures.0 o.ensures.2) in
-    (u.0, t.auto.places ∙ l.inv.1, t.auto.bound ∙ l.inv.2, t.auto.agenda ∙ o.ensures.0 ∙ l.inv.3)
+    (u.0, t.auto.places ∙ l.invariant.1, t.auto.bound ∙ l.invariant.2, t.auto.agenda ∙ o.ensures.0 ∙ l.invariant.3)

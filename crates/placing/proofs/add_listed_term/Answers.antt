@@ -1,7 +1,7 @@
 -- `add_listed_term` meets its contract: the list, then the term.
 use mathlib.Core.Path.{◌∙◌}
 use Rattle.placing.proofs.CallOutcomes.{add_asks, term_on, term_full}
-use Rattle.placing.proofs.Indexes.{full_record, list-indexed, list_filed}
+use Rattle.placing.proofs.Indexes.{full_record, list_indexed, list_filed}
 use Rattle.placing.proofs.add_listed_term.Goals as goal
 
 pub add_term-requires : goal.add_term-requires
@@ -15,7 +15,7 @@ add_term-requires c =
       c.requires.2,
       k.1,
       c.requires.5,
-      list-indexed c.requires.6 l e,
+      list_indexed c.requires.6 l e,
       c.requires.7,
       list_filed l e (λ n. record { kind = a.kind; a = a.first; b = n; c = a.third }) a.d c.requires.8,
     )

@@ -45,7 +45,7 @@ add_listed_term-requires c =
       c.requires.4,
       m.ensures.1,
       application_filed (bundle_in a.words.now a.c) a.symbol (halves true a.stack.now a.from a.to) m.result
-          (own_digest c),
+          (m.ensures.0 ∙ ap (λ (n : ℕ). mix_all n (halves true a.stack.now a.from a.to)) c.root_digest-root.ensures.0),
     )
 
 pub returns : goal.returns

@@ -5,7 +5,7 @@ use native.Mathlib.Omega.{arith}
 use Rattle.scratch.specs.Scratch.{bundle_in}
 use Rattle.scratch.specs.Stack.{halves}
 use Rattle.placing.proofs.CallOutcomes.{add_asks, found_is, let_on, let_full}
-use Rattle.placing.proofs.Indexes.{full_record, place_holds, list-indexed, let_filed}
+use Rattle.placing.proofs.Indexes.{full_record, place_holds, list_indexed, let_filed}
 use Rattle.placing.proofs.place_let.Goals as goal
 
 pub find_let-found-requires : goal.find_let-found-requires
@@ -31,7 +31,7 @@ add_listed_term-requires c =
       c.requires.2,
       c.requires.3,
       c.requires.1,
-      list-indexed c.requires.4 l e,
+      list_indexed c.requires.4 l e,
       d.ensures.1,
       let_filed l e (halves true a.stack.now a.from a.to) a.body d.result d.ensures.0,
     )

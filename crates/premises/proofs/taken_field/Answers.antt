@@ -1,7 +1,7 @@
 -- `rules::taken_field` meets its contract: a step of the file, of the bed, or of neither.
 use native.Mathlib.Omega.{arith}
 use mathlib.Core.Path.{sym, ◌∙◌}
-use Rattle.premises.proofs.BedSteps.{taken_file, taken-bed, taken_none}
+use Rattle.premises.proofs.BedSteps.{taken_file, taken_bed, taken_none}
 use Rattle.premises.proofs.taken_field.Goals as goal
 
 pub returns-then-p-steps : goal.returns-then-p-steps
@@ -12,7 +12,7 @@ returns-then-p-steps c =
 pub returns-then-j-bed : goal.returns-then-j-bed
 returns-then-j-bed c =
     let a = c.args in
-    c.wide.ensures.0 ∙ sym (taken-bed a.file.now a.b a.bed.now a.p a.k (omega arith) (omega arith) (omega arith))
+    c.wide.ensures.0 ∙ sym (taken_bed a.file.now a.b a.bed.now a.p a.k (omega arith) (omega arith) (omega arith))
 
 pub returns : goal.returns
 returns c =

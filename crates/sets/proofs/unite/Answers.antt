@@ -21,10 +21,10 @@ module _ (w : List ℕ) (to from n : ℕ) (apart : from + n ≤ to) (some : n �
   united_front : united first (to + 1) (from + 1) (n - 1) ≡ united w to from n
   united_front =
       filled_same (λ k. bit_or (get_or first (to + 1 + k) 0) (get_or first (from + 1 + k) 0)) (λ k. g (suc k)) first (to + 1) (n - 1) (λ k l. same k l)
-      ∙ (rw (to-first, from_first) at (filled_front g w to n some))
+      ∙ (rw (to_first, from_first) at (filled_front g w to n some))
     where
-      to-first : to + 0 ≡ to
-      to-first = omega arith
+      to_first : to + 0 ≡ to
+      to_first = omega arith
 
       from_first : from + 0 ≡ from
       from_first = omega arith

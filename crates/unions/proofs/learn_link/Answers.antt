@@ -4,14 +4,13 @@ use Prim.Native.Nat.{◌+◌, ◌*◌, ◌-◌, ◌≤◌}
 use mathlib.Core.Path.{◌≡◌, refl, sym, ◌∙◌}
 use mathlib.Core.Bool.{true}
 use lib.ListN.{length}
-use borrow.Author.Tests.{not-false}
 use Rattle.bundle.specs.Lists.{numbers}
 use Rattle.bundle.specs.File.{bundle_at}
 use Rattle.bundle.proofs.Fields.{links_length, record_within}
 use Rattle.bundle.proofs.Walks.{walk_le, walk_up, walk_cons}
 use Rattle.logic.proofs.Tests.{numbers_of_lem}
 use Rattle.unions.specs.Unions.{known}
-use Rattle.unions.proofs.Unions.{apart, next_side, link_fits, unions-learnt}
+use Rattle.unions.proofs.Unions.{apart, next_side, link_fits, unions_learnt}
 use Rattle.unions.proofs.learn_link.Goals as goal
 
 pub bounds-marks-k : goal.bounds-marks-k
@@ -163,13 +162,12 @@ returns c =
     ) in
     let low : numbers (a.t - 1) c.link_field-term.result
     ≡ true = sym c.is_lower.ensures
-    ∙ not-false c.is_lower.result
-    c.if-not-is_lower.false in
+    ∙ c.if-not-is_lower.false in
     let then : known a.marks.now c.next_link-next.result
     ≡ true = sym c.is_known.ensures
     ∙ c.if-not-is_known.false in (
       c.if-before-k.false,
-      unions-learnt a.area.now a.lists.now a.marks.now a.n a.t a.k
+      unions_learnt a.area.now a.lists.now a.marks.now a.n a.t a.k
           c.link_field-term.result
           c.next_link-next.result B
           c.requires.1 c.requires.2

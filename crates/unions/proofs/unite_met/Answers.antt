@@ -54,10 +54,7 @@ overflow_mul-n c =
     let fits : a.n * a.i + a.n ≤ length a.lists.now =
     link_fits a.n a.i (length B.links) (length a.lists.now) link
     c.requires.3.room in
-    omega (
-      arith,
-      c.well_formed.1.1.1.1.1.1.1.0.0,
-    )
+    omega arith
 
 pub unite_known-requires : goal.unite_known-requires
 unite_known-requires c =

@@ -83,6 +83,6 @@ shape_of-marks c = c.loop-b.invariant.2.long
 
 pub returns : goal.returns
 returns c = record {
-      fact = (c.loop-b.invariant.0, c.loop-b.invariant.1);
-      fewer = c.loop-b.invariant.2;
-    }
+  fact = (c.loop-b.invariant.0, c.loop-b.invariant.1);
+  fewer = c.loop-b.invariant.2;
+}

@@ -2,7 +2,6 @@
 use native.Mathlib.Omega.{arith}
 use mathlib.Core.Path.{◌≡◌, sym, ◌∙◌}
 use mathlib.Core.Bool.{false}
-use borrow.Author.Tests.{not-true}
 use Rattle.bundle.proofs.Walks.{walk_le, walk_length}
 use Rattle.unions.specs.Unions.{known}
 use Rattle.unions.proofs.Unions.{unknown_some, fewer_refl, fewer_on}
@@ -33,7 +32,7 @@ pub loop-b-smaller : goal.loop-b-smaller
 loop-b-smaller c =
     let a = c.args in
     let new : known c.loop-b.marks c.loop-b.i ≡ false =
-    sym c.is_known.ensures ∙ not-true c.is_known.result c.loop-b-test.true in
+    sym c.is_known.ensures ∙ c.loop-b-test.true in
     omega (
       arith,
       walk_length a.file.now a.b c.loop-b.i c.next_link-i.result
@@ -46,7 +45,7 @@ loop-b-preserved c =
     let a = c.args in
     let l = c.loop-b in
     let new : known l.marks l.i ≡ false = sym c.is_known.ensures
-    ∙ not-true c.is_known.result c.loop-b-test.true in (
+    ∙ c.loop-b-test.true in (
       l.invariant.1,
       walk_le a.file.now a.b l.i c.next_link-i.result c.next_link-i.ensures,
       fewer_on a.marks.now l.marks l.i l.last l.invariant.2

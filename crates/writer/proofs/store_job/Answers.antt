@@ -17,7 +17,7 @@ use Rattle.scratch.specs.Scratch.{bundle_in}
 use Rattle.expansion.specs.Expansion.{long_enough, early_tests}
 use Rattle.expansion.specs.Demands.{LongEnough}
 use Rattle.expansion.proofs.AreasAfter.{stored_refused}
-use Rattle.writer.proofs.Expanding.{header-formed, areas_long, refused_early, refused-late, refused_full, stored_expanded}
+use Rattle.writer.proofs.Expanding.{header_formed, areas_long, refused_early, refused_late, refused_full, stored_expanded}
 use Rattle.writer.proofs.Expanding.{Begun, job_formed, visit_asks, visit_is, told_done, told_full, right_small, bytes_of_lem}
 use Rattle.writer.proofs.store_job.Goals as goal
 
@@ -33,7 +33,7 @@ module _ (f : List ℕ) (out words sets : ℕ) {k : ℕ} {t : Fault} (enough : k
   none = rw (← enough, ← tested) passed
 
   good : HeaderFormed f
-  good = header-formed f out words sets none
+  good = header_formed f out words sets none
 
   areas : LongEnough out words sets
   areas = areas_long f out words sets none
@@ -80,7 +80,7 @@ pub returns-then-number-ne0 : goal.returns-then-number-ne0
 returns-then-number-ne0 c =
     let a = c.args in
     stored_refused refl refl c.job_fault-number.auto.sets
-    (refused-late a.job.now (length a.out.now) (length a.words.now) (length a.sets.now)
+    (refused_late a.job.now (length a.out.now) (length a.words.now) (length a.sets.now)
     (none a.job.now (length a.out.now) (length a.words.now) (length a.sets.now) c.long_enough-enough.ensures c.tables_fault-early.ensures c.if-early-ne0.false)
     c.job_fault-number.result (early_is a.job.now c.counts-b.ensures c.job_fault-number.ensures.1) c.if-number-ne0.true)
 

@@ -1,7 +1,7 @@
 -- `brackets::after_formula` meets its contract. The invariant: what follows the formula is what follows here, where n brackets are open.
 use native.Mathlib.Omega.{arith}
 use Prim.Native.Nat.{◌-◌}
-use Rattle.bracketing.proofs.PlaceLaws.{skip_start, skip_over, skip-here, skip-next}
+use Rattle.bracketing.proofs.PlaceLaws.{skip_start, skip_over, skip_here, skip_next}
 use Rattle.bracketing.proofs.brackets.after_formula.Goals as goal
 
 pub loop-l-init : goal.loop-l-init
@@ -25,7 +25,7 @@ returns-then-n-eq0 c =
     let k = c.next_lexeme-l in
     let o = c.open_after-n in
     let l = c.loop-l in
-    skip-here _ _ _ _ l.invariant k.result k.ensures c.if-l-eq10.false o.result o.ensures c.if-n-eq0.true
+    skip_here _ _ _ _ l.invariant k.result k.ensures c.if-l-eq10.false o.result o.ensures c.if-n-eq0.true
 
 pub loop-l-smaller : goal.loop-l-smaller
 loop-l-smaller c =
@@ -37,4 +37,4 @@ loop-l-preserved c =
     let k = c.next_lexeme-l in
     let o = c.open_after-n in
     let l = c.loop-l in
-    skip-next _ _ _ _ l.invariant k.result k.ensures c.if-l-eq10.false o.result o.ensures c.if-n-eq0.false
+    skip_next _ _ _ _ l.invariant k.result k.ensures c.if-l-eq10.false o.result o.ensures c.if-n-eq0.false

@@ -3,7 +3,7 @@ use native.Mathlib.Omega.{arith}
 use Prim.Native.Nat.{◌-◌}
 use mathlib.Core.Path.{refl}
 use Rattle.bracketing.proofs.Fronts.{lies}
-use Rattle.bracketing.proofs.SortPlaces.{sorting_word, sorting-result, sorting-let, sorting-further}
+use Rattle.bracketing.proofs.SortPlaces.{sorting_word, sorting_result, sorting_let, sorting_further}
 use Rattle.bracketing.proofs.sorts.sort_at.Goals as goal
 
 pub loop-b-init : goal.loop-b-init
@@ -29,7 +29,7 @@ result_here-requires c =
 
 pub returns-then-h-ne7 : goal.returns-then-h-ne7
 returns-then-h-ne7 c =
-    sorting-result c.loop-b.invariant c.next_lexeme-l.ensures c.if-l-ne0.false c.next_lexeme-h.ensures c.if-h-ne7.true
+    sorting_result c.loop-b.invariant c.next_lexeme-l.ensures c.if-l-ne0.false c.next_lexeme-h.ensures c.if-h-ne7.true
     c.result_here.ensures
 
 pub after_formula-at-requires : goal.after_formula-at-requires
@@ -38,9 +38,9 @@ after_formula-at-requires c = c.next_lexeme-h.ensures.inside
 pub loop-b-smaller : goal.loop-b-smaller
 loop-b-smaller c =
     let r = c.after_formula-at.ensures in
-    omega (arith, r.inside, sorting-further c.loop-b.invariant c.next_lexeme-l.ensures c.if-l-ne0.false c.next_lexeme-h.ensures r)
+    omega (arith, r.inside, sorting_further c.loop-b.invariant c.next_lexeme-l.ensures c.if-l-ne0.false c.next_lexeme-h.ensures r)
 
 pub loop-b-preserved : goal.loop-b-preserved
 loop-b-preserved c =
-    sorting-let c.loop-b.invariant c.next_lexeme-l.ensures c.if-l-ne0.false c.next_lexeme-h.ensures c.if-h-ne7.false
+    sorting_let c.loop-b.invariant c.next_lexeme-l.ensures c.if-l-ne0.false c.next_lexeme-h.ensures c.if-h-ne7.false
     c.after_formula-at.ensures

@@ -3,7 +3,7 @@ use native.Mathlib.Omega.{arith}
 use mathlib.Core.Path.{◌∙◌}
 use Rattle.bundle.specs.Lists.{each}
 use Rattle.bundle.proofs.Walks.{walk_start, walk_start_le, walk_le, walk_nil, walk_cons, walk_some, walk_length}
-use Rattle.images.proofs.ReadingRight.{free_long, settled-right}
+use Rattle.images.proofs.ReadingRight.{free_long, settled_right}
 use Rattle.contexts.proofs.contexts.all_settled.Goals as goal
 
 pub loop-i-init : goal.loop-i-init
@@ -37,7 +37,7 @@ returns-then-not-is_settled c =
       l.invariant.1,
       walk_some a.file.now a.b l.i c.loop-i-test.true l.invariant.0,
       ← c.link_field-t.ensures,
-      ← (c.is_settled.ensures ∙ settled-right a.file.now a.b a.area.now a.n p.1
+      ← (c.is_settled.ensures ∙ settled_right a.file.now a.b a.area.now a.n p.1
           (λ j. omega (arith, c.type_inv.area j)) a.scopes.now a.context
           c.link_field-t.result p.2),
       c.if-not-is_settled.true,
@@ -69,7 +69,7 @@ loop-i-preserved c =
         l.invariant.1,
         walk_cons a.file.now a.b l.i t.result r.result c.loop-i-test.true l.invariant.0 t.ensures
             r.ensures,
-        ← (c.is_settled.ensures ∙ settled-right a.file.now a.b a.area.now a.n p.1
+        ← (c.is_settled.ensures ∙ settled_right a.file.now a.b a.area.now a.n p.1
             (λ j. omega (arith, c.type_inv.area j)) a.scopes.now a.context
             t.result p.2),
         c.if-not-is_settled.false,

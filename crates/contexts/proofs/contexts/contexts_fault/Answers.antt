@@ -6,7 +6,7 @@ use lib.ListN.{length}
 use Rattle.bundle.specs.File.{bundle_at}
 use Rattle.bundle.proofs.Fields.{variables_length, contexts_length}
 use Rattle.logic.specs.Contexts.{contexts_fault}
-use Rattle.logic.proofs.Firsts.{rest_start, rest-on, rest-here, rest_end}
+use Rattle.logic.proofs.Firsts.{rest_start, rest_on, rest_here, rest_end}
 use Rattle.logic.proofs.EntryFacts.{refers_passed}
 use Rattle.images.proofs.FreeWords.{known_room}
 use Rattle.images.proofs.ContextRows.{record_below}
@@ -32,7 +32,7 @@ shape_of-scopes-then-number-ne0 c = c.loop-i.invariant.4
 pub returns-then-number-ne0 : goal.returns-then-number-ne0
 returns-then-number-ne0 c =
     let l = c.loop-i in record {
-      value = sym (l.invariant.1 ∙ rest-here _ _ _ c.context_fault-number.ensures c.loop-i-test.true c.if-number-ne0.true);
+      value = sym (l.invariant.1 ∙ rest_here _ _ _ c.context_fault-number.ensures c.loop-i-test.true c.if-number-ne0.true);
       fact = λ z. absurd
           (c.if-number-ne0.true z);
     }
@@ -63,7 +63,7 @@ pub loop-i-preserved : goal.loop-i-preserved
 loop-i-preserved c =
     let l = c.loop-i in (
       omega arith,
-      l.invariant.1 ∙ rest-on _ _ _ c.context_fault-number.ensures
+      l.invariant.1 ∙ rest_on _ _ _ c.context_fault-number.ensures
           c.loop-i-test.true
           c.if-number-ne0.false,
       omega arith,

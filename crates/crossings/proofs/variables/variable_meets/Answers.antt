@@ -5,7 +5,7 @@ use Rattle.logic.specs.ReflWalk.{rights}
 use Rattle.images.specs.ContextRows.{image_at}
 use Rattle.images.specs.LentReading.{free_in}
 use Rattle.crossings.proofs.Captures.{no_captures}
-use Rattle.crossings.proofs.Pairs.{bound_meets_lem, free-meets, image-differs}
+use Rattle.crossings.proofs.Pairs.{bound_meets_lem, free_meets_lem, image_differs}
 use Rattle.crossings.proofs.variables.variable_meets.Goals as goal
 
 pub returns-then-place-ne0 : goal.returns-then-place-ne0
@@ -24,7 +24,7 @@ returns-then-not-good c ps known =
     let place = c.left_place-place in
     let image = c.image_of-image in
     let good = c.image_is-good in
-    image-differs (free_in a.b.terms a.area.now a.n) (image_at a.b.variables a.images.now a.context)
+    image_differs (free_in a.b.terms a.area.now a.n) (image_at a.b.variables a.images.now a.context)
     (bundle_at a.file.now a.b) ps a.x a.r
     (place.ensures a.n a.bound.now ps known) c.if-place-ne0.false image.ensures good.ensures
     c.if-not-good.true
@@ -35,7 +35,7 @@ returns c ps known =
     let place = c.left_place-place in
     let image = c.image_of-image in
     let good = c.image_is-good in
-    free-meets (free_in a.b.terms a.area.now a.n) (image_at a.b.variables a.images.now a.context)
+    free_meets_lem (free_in a.b.terms a.area.now a.n) (image_at a.b.variables a.images.now a.context)
     (bundle_at a.file.now a.b) ps a.x a.r
     (place.ensures a.n a.bound.now ps known) c.if-place-ne0.false image.ensures good.ensures
     c.if-not-good.false

@@ -1,5 +1,4 @@
 -- `lookups::find_application` meets its contract. The invariant: the walk stands at 0 or a term, `found` is the lowest match so far, and whatever else
-use mathlib.Core.Logic.{⊎_elim}
 use native.Mathlib.Omega.{arith}
 use Prim.Native.Nat.{◌+◌}
 use mathlib.Core.Path.{◌≡◌, sym, ◌∙◌}
@@ -7,11 +6,12 @@ use lib.ListN.{get_or}
 use mathlib.Core.Bool.{true}
 use Rattle.scratch.specs.Stack.{halves}
 use Rattle.logic.specs.Lookup.{same_application}
-use Rattle.bundle.proofs.Filed.{sought_start, sought_less, sought-hit, sought-miss}
+use Rattle.bundle.proofs.Filed.{sought_start, sought_less, sought_hit, sought_miss}
 use Rattle.scratch.specs.Scratch.{bundle_in}
 use Rattle.scratch.proofs.ScratchFields.{sized_in}
 use Rattle.filing.proofs.Filed.{application_digest, held_own, sought_end}
 use Rattle.filing.proofs.lookups.find_application.Goals as goal
+use Rattle.filing.proofs.lookups.find_application.Goals.{then-same, else-same}
 
 pub loop-t-init : goal.loop-t-init
 loop-t-init c =
@@ -44,10 +44,10 @@ loop-t-preserved c =
     let some = c.loop-t-test.true in
     let e : c.wide-t-in-loop-t.result ≡ get_or c.args.index.now (2048 + l.t) 0 = c.wide-t-in-loop-t.ensures in (
       omega (arith, l.invariant.0, sought_less filed some e),
-      ⊎_elim
-          (λ w. sought-hit filed l.invariant.1 some e c.is_application-same.ensures w.0.taken w.1)
-          (λ w. sought-miss filed l.invariant.1 some e c.is_application-same.ensures w.0.left w.1)
-          c.if-same.branch,
+      elim c.if-same.branch [
+        | then-same w ↦ sought_hit filed l.invariant.1 some e c.is_application-same.ensures w.if-same.true w.found-is
+        | else-same w ↦ sought_miss filed l.invariant.1 some e c.is_application-same.ensures w.if-same.false w.found-is
+      ],
     )
 
 pub returns : goal.returns

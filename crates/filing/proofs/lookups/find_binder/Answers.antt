@@ -1,16 +1,16 @@
 -- `lookups::find_binder` meets its contract. The invariant: the walk stands at 0 or a term, `found` is the lowest match so far, and whatever else
-use mathlib.Core.Logic.{⊎_elim}
 use native.Mathlib.Omega.{arith}
 use Prim.Native.Nat.{ℕ, ◌+◌}
 use mathlib.Core.Path.{◌≡◌, sym, ap, ◌∙◌}
 use lib.ListN.{get_or}
 use Rattle.logic.specs.Lookup.{same_binder}
 use Rattle.filing.specs.Filing.{root_digest}
-use Rattle.bundle.proofs.Filed.{sought_start, sought_less, sought-hit, sought-miss}
+use Rattle.bundle.proofs.Filed.{sought_start, sought_less, sought_hit, sought_miss}
 use Rattle.scratch.specs.Scratch.{bundle_in}
 use Rattle.scratch.proofs.ScratchFields.{sized_in}
 use Rattle.filing.proofs.Filed.{binder_digest, held_own, sought_end}
 use Rattle.filing.proofs.lookups.find_binder.Goals as goal
+use Rattle.filing.proofs.lookups.find_binder.Goals.{then-same, else-same}
 
 pub loop-t-init : goal.loop-t-init
 loop-t-init c =
@@ -43,10 +43,10 @@ loop-t-preserved c =
     let some = c.loop-t-test.true in
     let e : c.wide-t-in-loop-t.result ≡ get_or c.args.index.now (2048 + l.t) 0 = c.wide-t-in-loop-t.ensures in (
       omega (arith, l.invariant.0, sought_less filed some e),
-      λ q f. ⊎_elim
-          (λ w. sought-hit filed (l.invariant.1 q f) some e (c.same_binder-same.ensures q f) w.0.taken w.1)
-          (λ w. sought-miss filed (l.invariant.1 q f) some e (c.same_binder-same.ensures q f) w.0.left w.1)
-          c.if-same.branch,
+      λ q f. elim c.if-same.branch [
+        | then-same w ↦ sought_hit filed (l.invariant.1 q f) some e (c.same_binder-same.ensures q f) w.if-same.true w.found-is
+        | else-same w ↦ sought_miss filed (l.invariant.1 q f) some e (c.same_binder-same.ensures q f) w.if-same.false w.found-is
+      ],
     )
 
 pub returns : goal.returns

@@ -1,5 +1,4 @@
 -- `lookups::find_let` meets its contract. The invariant: the walk stands at 0 or a term, `found` is the lowest match so far, and whatever else
-use mathlib.Core.Logic.{⊎_elim}
 use native.Mathlib.Omega.{arith}
 use Prim.Native.Nat.{◌+◌}
 use mathlib.Core.Path.{◌≡◌, sym, ◌∙◌}
@@ -7,12 +6,13 @@ use lib.ListN.{get_or}
 use mathlib.Core.Bool.{true, false}
 use Rattle.bundle.specs.Bundle.{term_of}
 use Rattle.scratch.specs.Stack.{halves}
-use Rattle.bundle.proofs.Filed.{sought_start, sought_less, sought-hit, sought-miss}
+use Rattle.bundle.proofs.Filed.{sought_start, sought_less, sought_hit, sought_miss}
 use Rattle.scratch.specs.Scratch.{bundle_in}
 use Rattle.scratch.proofs.ScratchFields.{sized_in}
 use Rattle.filing.proofs.Filed.{let_digest_lem, held_own, sought_end}
 use Rattle.filing.proofs.lookups.find_let.Invariants.{same}
 use Rattle.filing.proofs.lookups.find_let.Goals as goal
+use Rattle.filing.proofs.lookups.find_let.Goals.{then-same, else-same}
 
 pub loop-t-init : goal.loop-t-init
 loop-t-init c =
@@ -47,14 +47,14 @@ loop-t-preserved c =
     let some = c.loop-t-test.true in
     let e : c.wide-t-in-loop-t.result ≡ get_or a.index.now (2048 + l.t) 0 = c.wide-t-in-loop-t.ensures in (
       omega (arith, l.invariant.0, sought_less filed some e),
-      ⊎_elim
-          (λ w. sought-hit filed
-          {p = λ j. same (bundle_in a.words.now a.c) a.body a.stack.now a.from a.to (term_of (bundle_in a.words.now a.c) j)}
-          l.invariant.1 some e c.is_let-same.ensures w.0.taken w.1)
-          (λ w. sought-miss filed
-          {p = λ j. same (bundle_in a.words.now a.c) a.body a.stack.now a.from a.to (term_of (bundle_in a.words.now a.c) j)}
-          l.invariant.1 some e c.is_let-same.ensures w.0.left w.1)
-          c.if-same.branch,
+      elim c.if-same.branch [
+        | then-same w ↦ sought_hit filed
+            {p = λ j. same (bundle_in a.words.now a.c) a.body a.stack.now a.from a.to (term_of (bundle_in a.words.now a.c) j)}
+            l.invariant.1 some e c.is_let-same.ensures w.if-same.true w.found-is
+        | else-same w ↦ sought_miss filed
+            {p = λ j. same (bundle_in a.words.now a.c) a.body a.stack.now a.from a.to (term_of (bundle_in a.words.now a.c) j)}
+            l.invariant.1 some e c.is_let-same.ensures w.if-same.false w.found-is
+      ],
     )
 
 pub returns : goal.returns

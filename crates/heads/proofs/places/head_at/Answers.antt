@@ -28,13 +28,13 @@ returns-then-code-ne0 c =
 pub returns-then-number-lt6 : goal.returns-then-number-lt6
 returns-then-number-lt6 c =
     subst (HeadAt c.args.text.now c.args.i) (sym
-    c.head-then-number-lt6.ensures) (L.applied-at c.next_lexeme-first.ensures c.if-code-ne0.false
+    c.head-then-number-lt6.ensures) (L.applied_at c.next_lexeme-first.ensures c.if-code-ne0.false
     c.next_lexeme-word.ensures (λ k m. omega (arith, k, c.if-number-lt6.true)))
 
 pub returns-then-number-gt7 : goal.returns-then-number-gt7
 returns-then-number-gt7 c =
     subst (HeadAt c.args.text.now
-    c.args.i) (sym c.head-then-number-gt7.ensures) (L.applied-at
+    c.args.i) (sym c.head-then-number-gt7.ensures) (L.applied_at
     c.next_lexeme-first.ensures c.if-code-ne0.false
     c.next_lexeme-word.ensures (λ k m. omega (arith, m, c.if-number-gt7.true)))
 

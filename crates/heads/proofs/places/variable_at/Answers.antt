@@ -9,7 +9,7 @@ returns-then-first-ne0 c =
 
 pub returns : goal.returns
 returns c =
-    L.variable-goes c.args.variables
+    L.variable_goes c.args.variables
     c.next_lexeme-first.ensures
     c.requires.1 c.if-first-ne0.false
     c.next_lexeme-called.ensures c.next_lexeme-sorted.ensures c.next_lexeme-closed.ensures

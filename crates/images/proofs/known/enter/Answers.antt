@@ -11,7 +11,7 @@ use Rattle.logic.specs.Contexts.{as_image, moved_by}
 use Rattle.logic.proofs.Found.{found_fixes, found_replaces}
 use Rattle.images.specs.ContextRows.{as_mention}
 use Rattle.logic.proofs.EntryFacts.{lower_parent, fixes_number, replaces_kind, replaces_lists}
-use Rattle.images.proofs.ContextRows.{room_on, agrees_copied, images-on, sets-on}
+use Rattle.images.proofs.ContextRows.{room_on, agrees_copied, images_on, sets_on}
 use Rattle.images.proofs.known.enter.Goals as goal
 
 pub inherit-requires : goal.inherit-requires
@@ -115,7 +115,7 @@ returns-then-kind-eq-FIXES c =
     c.requires.5) in (
       s.ensures.lower.long_row ∙ i.ensures.0.long_row,
       s.ensures.lower.long_set ∙ i.ensures.0.long_set,
-      images-on b a.images.now a.scopes.now i.new.images i.new.scopes a.n a.k p.result low
+      images_on b a.images.now a.scopes.now i.new.images i.new.scopes a.n a.k p.result low
           c.requires.1
           c.requires.2 i.ensures.1 s.new.images s.new.scopes
           c.requires.3 i.ensures.0 _ s.ensures
@@ -127,7 +127,7 @@ returns-then-kind-eq-FIXES c =
           (rw (← c.context_field-kind.ensures) c.if-kind-eq-FIXES.true)
           (lower_parent b a.k
           c.requires.5) x))),
-      sets-on b a.images.now a.scopes.now i.new.images i.new.scopes a.n a.k p.result low
+      sets_on b a.images.now a.scopes.now i.new.images i.new.scopes a.n a.k p.result low
           c.requires.1
           c.requires.2 i.ensures.1 s.new.images s.new.scopes
           c.requires.3 i.ensures.0 _ s.ensures
@@ -159,7 +159,7 @@ returns-else-kind-eq-FIXES c =
     (c.context_field-kind.ensures ∙ e)) in (
       s.ensures.lower.long_row ∙ i.ensures.0.long_row,
       s.ensures.lower.long_set ∙ i.ensures.0.long_set,
-      images-on b a.images.now a.scopes.now i.new.images i.new.scopes a.n a.k p.result low
+      images_on b a.images.now a.scopes.now i.new.images i.new.scopes a.n a.k p.result low
           c.requires.1
           c.requires.2 i.ensures.1 s.new.images s.new.scopes
           c.requires.3 i.ensures.0 _ s.ensures
@@ -171,7 +171,7 @@ returns-else-kind-eq-FIXES c =
           (sym (found_replaces b a.k kind
           (lower_parent b a.k
           c.requires.5) x))),
-      sets-on b a.images.now a.scopes.now i.new.images i.new.scopes a.n a.k p.result low
+      sets_on b a.images.now a.scopes.now i.new.images i.new.scopes a.n a.k p.result low
           c.requires.1
           c.requires.2 i.ensures.1 s.new.images s.new.scopes
           c.requires.3 i.ensures.0 _ s.ensures

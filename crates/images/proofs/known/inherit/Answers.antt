@@ -2,7 +2,7 @@
 use native.Mathlib.Omega.{arith}
 use Rattle.bundle.specs.File.{bundle_at}
 use Rattle.bundle.proofs.Fields.{variables_length}
-use Rattle.images.proofs.ContextRows.{record_below, row_room, row_copied, parent_words, inherited, sets-copied}
+use Rattle.images.proofs.ContextRows.{record_below, row_room, row_copied, parent_words, inherited, sets_copied}
 use Rattle.images.proofs.known.inherit.Goals as goal
 
 pub overflow_mul-count : goal.overflow_mul-count
@@ -50,6 +50,6 @@ returns c =
           (λ j h. c.copy_row.ensures.2 j (rw (variables_length a.file.now a.b) at h)),
       row_copied b c.copy_row.new.images a.images.now a.k a.parent a.b.variables (variables_length a.file.now a.b)
           c.copy_row.ensures.1,
-      sets-copied b a.images.now a.scopes.now c.copy_row.new.images c.copy.new.area a.n a.k a.parent
+      sets_copied b a.images.now a.scopes.now c.copy_row.new.images c.copy.new.area a.n a.k a.parent
           c.requires.2 c.requires.1 c.copy.ensures,
     )

@@ -17,7 +17,7 @@ returns-then-class-eq6 c =
 pub returns-then-class-gt4 : goal.returns-then-class-gt4
 returns-then-class-gt4 c =
     let a = c.args in
-    X.lexes-stray a.text.now a.i c.skipped-start.result c.skipped-start.ensures c.if-start-text.false c.class_code-class.result
+    X.lexes_stray a.text.now a.i c.skipped-start.result c.skipped-start.ensures c.if-start-text.false c.class_code-class.result
     c.class_code-class.ensures c.if-class-gt4.true c.if-class-eq6.false
 
 pub overflow_sub-code : goal.overflow_sub-code
@@ -28,5 +28,5 @@ overflow_sub-code c =
 pub returns : goal.returns
 returns c =
     let a = c.args in
-    X.lexes-bracket a.text.now a.i c.skipped-start.result c.skipped-start.ensures c.if-start-text.false c.class_code-class.result
+    X.lexes_bracket a.text.now a.i c.skipped-start.result c.skipped-start.ensures c.if-start-text.false c.class_code-class.result
     c.class_code-class.ensures c.if-class-gt4.false

@@ -2,7 +2,7 @@
 use native.Mathlib.Omega.{arith}
 use Prim.Native.Nat.{◌-◌}
 use mathlib.Core.Path.{◌∙◌}
-use Rattle.lexing.proofs.SkipLaws.{skip_start, skip-on, skip-here, skip_end, skip_index}
+use Rattle.lexing.proofs.SkipLaws.{skip_start, skip_on, skip_here, skip_end, skip_index}
 use Rattle.lexing.proofs.lexemes.skipped.Goals as goal
 
 pub loop-j-init : goal.loop-j-init
@@ -22,13 +22,13 @@ skip_mode-requires c =
 pub returns-then-mode-eq2 : goal.returns-then-mode-eq2
 returns-then-mode-eq2 c =
     let a = c.args in
-    skip-here a.text.now a.i c.loop-j.mode c.loop-j.j c.loop-j.invariant c.loop-j-test.true c.class_code-class.result
+    skip_here a.text.now a.i c.loop-j.mode c.loop-j.j c.loop-j.invariant c.loop-j-test.true c.class_code-class.result
     c.wide-mode.result c.class_code-class.ensures (c.wide-mode.ensures ∙ c.skip_mode.ensures) c.if-mode-eq2.true
 
 pub loop-j-preserved : goal.loop-j-preserved
 loop-j-preserved c =
     let a = c.args in
-    skip-on a.text.now a.i c.loop-j.mode c.loop-j.j c.loop-j.invariant c.loop-j-test.true c.class_code-class.result
+    skip_on a.text.now a.i c.loop-j.mode c.loop-j.j c.loop-j.invariant c.loop-j-test.true c.class_code-class.result
     c.wide-mode.result c.class_code-class.ensures (c.wide-mode.ensures ∙ c.skip_mode.ensures) c.if-mode-eq2.false
 
 pub returns : goal.returns

@@ -21,7 +21,7 @@ loop-j-init c =
 pub returns-then-c-lt48 : goal.returns-then-c-lt48
 returns-then-c-lt48 c =
     let a = c.args in
-    N.nothing-below a.letter a.low a.high a.run.now c.loop-j.n c.loop-j.j c.loop-j.invariant c.loop-j-test.true
+    N.nothing_below a.letter a.low a.high a.run.now c.loop-j.n c.loop-j.j c.loop-j.invariant c.loop-j-test.true
     c.wide-c.result c.wide-c.ensures c.if-c-lt48.true
 
 pub returns-then-c-gt57 : goal.returns-then-c-gt57
@@ -33,19 +33,19 @@ returns-then-c-gt57 c =
 pub returns-then-n-high : goal.returns-then-n-high
 returns-then-n-high c =
     let a = c.args in
-    N.nothing-high a.letter a.low a.high a.run.now c.loop-j.n c.loop-j.j c.loop-j.invariant c.loop-j-test.true
+    N.nothing_high a.letter a.low a.high a.run.now c.loop-j.n c.loop-j.j c.loop-j.invariant c.loop-j-test.true
     c.wide-c.result c.wide-c.ensures c.if-c-lt48.false c.if-c-gt57.false c.if-n-high.true
 
 pub loop-j-preserved : goal.loop-j-preserved
 loop-j-preserved c =
     let a = c.args in
-    N.counting-on a.letter a.low a.high a.run.now c.loop-j.n c.loop-j.j c.loop-j.invariant c.loop-j-test.true
+    N.counting_on a.letter a.low a.high a.run.now c.loop-j.n c.loop-j.j c.loop-j.invariant c.loop-j-test.true
     c.wide-c.result c.wide-c.ensures c.if-c-lt48.false c.if-c-gt57.false c.if-n-high.false
 
 pub returns-then-n-low : goal.returns-then-n-low
 returns-then-n-low c =
     let a = c.args in
-    N.nothing-low a.letter a.low a.high a.run.now c.loop-j.n c.loop-j.j c.loop-j.invariant c.loop-j-test.false c.if-n-low.true
+    N.nothing_low a.letter a.low a.high a.run.now c.loop-j.n c.loop-j.j c.loop-j.invariant c.loop-j-test.false c.if-n-low.true
 
 pub returns : goal.returns
 returns c =

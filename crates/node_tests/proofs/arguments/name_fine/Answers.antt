@@ -1,6 +1,6 @@
 -- `arguments::name_fine` meets its contract.
 use native.Mathlib.Omega.{arith}
-use Rattle.node_tests.proofs.ArgumentLaws.{symbol_range, fine-variable, fine-none, fine-list}
+use Rattle.node_tests.proofs.ArgumentLaws.{symbol_range, fine_variable, fine_none, fine_list}
 use Rattle.node_tests.proofs.arguments.name_fine.Goals as goal
 
 pub returns-then-x-ne0 : goal.returns-then-x-ne0
@@ -8,14 +8,14 @@ returns-then-x-ne0 c =
     let a = c.args in
     let x = c.symbol_here-f in
     let y = c.variable_here-x in
-    fine-variable a.file.now a.b _ x.result x.ensures y.result y.ensures c.if-x-ne0.true
+    fine_variable a.file.now a.b _ x.result x.ensures y.result y.ensures c.if-x-ne0.true
 
 pub returns-then-f-eq0 : goal.returns-then-f-eq0
 returns-then-f-eq0 c =
     let a = c.args in
     let x = c.symbol_here-f in
     let y = c.variable_here-x in
-    fine-none a.file.now a.b _ x.result x.ensures y.result y.ensures c.if-x-ne0.false c.if-f-eq0.true
+    fine_none a.file.now a.b _ x.result x.ensures y.result y.ensures c.if-x-ne0.false c.if-f-eq0.true
 
 pub overflow_sub-f : goal.overflow_sub-f
 overflow_sub-f c =
@@ -28,5 +28,5 @@ returns c =
     let x = c.symbol_here-f in
     let y = c.variable_here-x in
     let a = c.args in
-    fine-list a.file.now a.b _ x.result x.ensures y.result y.ensures c.if-x-ne0.false c.if-f-eq0.false _ _
+    fine_list a.file.now a.b _ x.result x.ensures y.result y.ensures c.if-x-ne0.false c.if-f-eq0.false _ _
     c.symbol_field.ensures c.first_link.ensures

@@ -1,10 +1,11 @@
 -- `heads::all_declared` meets its contract. The invariant: all pairs pass where those that are left do. The measure is what is left of the text.
 use native.Mathlib.Omega.{arith}
 use Prim.Native.Nat.{◌-◌}
-use mathlib.Core.Path.{refl}
+use mathlib.Core.Path.{refl, ap}
+use mathlib.Core.Bool.{not}
 use Rattle.bracketing.specs.Nodes.{as_declared}
 use Rattle.node_tests.proofs.PartLaws.{part_further}
-use Rattle.node_tests.proofs.HeadLaws.{pass_end, pass-fails, pass_on}
+use Rattle.node_tests.proofs.HeadLaws.{pass_end, pass_fails, pass_on}
 use Rattle.node_tests.proofs.heads.all_declared.Goals as goal
 
 pub loop-b-init : goal.loop-b-init
@@ -14,14 +15,14 @@ pub part_at-requires : goal.part_at-requires
 part_at-requires c = c.loop-b.invariant.inside
 
 pub returns-then-not-part_at : goal.returns-then-not-part_at
-returns-then-not-part_at c = pass_end c.loop-b.invariant c.part_at.ensures c.if-not-part_at.true
+returns-then-not-part_at c = pass_end c.loop-b.invariant c.part_at.ensures (ap not c.if-not-part_at.true)
 
 pub as_declared-requires : goal.as_declared-requires
 as_declared-requires c = (c.requires.0, c.loop-b.invariant.inside)
 
 pub returns-then-not-as_declared : goal.returns-then-not-as_declared
 returns-then-not-as_declared c =
-    pass-fails c.loop-b.invariant c.part_at.ensures c.if-not-part_at.false c.as_declared.ensures c.if-not-as_declared.true
+    pass_fails c.loop-b.invariant c.part_at.ensures (ap not c.if-not-part_at.false) c.as_declared.ensures (ap not c.if-not-as_declared.true)
 
 pub after_formula-at-requires : goal.after_formula-at-requires
 after_formula-at-requires c = c.loop-b.invariant.inside
@@ -29,9 +30,9 @@ after_formula-at-requires c = c.loop-b.invariant.inside
 pub loop-b-smaller : goal.loop-b-smaller
 loop-b-smaller c =
     let r = c.after_formula-at.ensures in
-    omega (arith, r.inside, part_further _ c.loop-b.at c.part_at.ensures c.if-not-part_at.false r)
+    omega (arith, r.inside, part_further _ c.loop-b.at c.part_at.ensures (ap not c.if-not-part_at.false) r)
 
 pub loop-b-preserved : goal.loop-b-preserved
 loop-b-preserved c =
-    pass_on c.loop-b.invariant c.part_at.ensures c.if-not-part_at.false c.as_declared.ensures c.if-not-as_declared.false
+    pass_on c.loop-b.invariant c.part_at.ensures (ap not c.if-not-part_at.false) c.as_declared.ensures (ap not c.if-not-as_declared.false)
     c.after_formula-at.ensures

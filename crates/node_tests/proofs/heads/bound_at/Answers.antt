@@ -1,5 +1,5 @@
 -- `heads::bound_at` meets its contract.
-use Rattle.node_tests.proofs.HeadLaws.{bound-fits, bound-differs}
+use Rattle.node_tests.proofs.HeadLaws.{bound_fits, bound_differs}
 use Rattle.node_tests.proofs.heads.bound_at.Goals as goal
 
 pub returns-then-variable_sort-s : goal.returns-then-variable_sort-s
@@ -9,7 +9,7 @@ returns-then-variable_sort-s c =
     let j = c.after_name-j in
     let s = c.sort_at-s in
     let u = c.variable_sort in
-    bound-fits a.file.now a.b _ x.result x.ensures u.result u.ensures _ s.result j.ensures.there s.ensures c.if-variable_sort-s.true
+    bound_fits a.file.now a.b _ x.result x.ensures u.result u.ensures _ s.result j.ensures.there s.ensures c.if-variable_sort-s.true
 
 pub returns-else-variable_sort-s : goal.returns-else-variable_sort-s
 returns-else-variable_sort-s c =
@@ -18,4 +18,4 @@ returns-else-variable_sort-s c =
     let j = c.after_name-j in
     let s = c.sort_at-s in
     let u = c.variable_sort in
-    bound-differs a.file.now a.b _ x.result x.ensures u.result u.ensures _ s.result j.ensures.there s.ensures c.if-variable_sort-s.false
+    bound_differs a.file.now a.b _ x.result x.ensures u.result u.ensures _ s.result j.ensures.there s.ensures c.if-variable_sort-s.false

@@ -1,9 +1,10 @@
 -- `nodes::all_fine` meets its contract. The invariant: all nodes pass where those from here on do. The measure is what is left of the text.
 use native.Mathlib.Omega.{arith}
 use Prim.Native.Nat.{◌-◌}
-use mathlib.Core.Path.{refl}
+use mathlib.Core.Path.{refl, ap}
+use mathlib.Core.Bool.{not}
 use Rattle.bracketing.proofs.Fronts.{lies}
-use Rattle.node_tests.proofs.NodeLaws.{fine_over, fine-fails, fine-on}
+use Rattle.node_tests.proofs.NodeLaws.{fine_over, fine_fails, fine_on}
 use Rattle.node_tests.proofs.nodes.all_fine.Goals as goal
 
 pub loop-b-init : goal.loop-b-init
@@ -20,8 +21,8 @@ node_fine-requires c = let k = c.next_lexeme-l in (c.requires, lies _ _ k.result
 
 pub returns-then-not-node_fine : goal.returns-then-not-node_fine
 returns-then-not-node_fine c =
-    fine-fails c.loop-b.invariant c.next_lexeme-l.ensures c.if-l-eq10.false c.node_fine.ensures
-    c.if-not-node_fine.true
+    fine_fails c.loop-b.invariant c.next_lexeme-l.ensures c.if-l-eq10.false c.node_fine.ensures
+    (ap not c.if-not-node_fine.true)
 
 pub loop-b-smaller : goal.loop-b-smaller
 loop-b-smaller c =
@@ -30,5 +31,5 @@ loop-b-smaller c =
 
 pub loop-b-preserved : goal.loop-b-preserved
 loop-b-preserved c =
-    fine-on c.loop-b.invariant c.next_lexeme-l.ensures c.if-l-eq10.false c.node_fine.ensures
-    c.if-not-node_fine.false
+    fine_on c.loop-b.invariant c.next_lexeme-l.ensures c.if-l-eq10.false c.node_fine.ensures
+    (ap not c.if-not-node_fine.false)

@@ -1,7 +1,7 @@
 -- `bodies::cross_lists` meets its contract. The invariant: what is left of the lists to cross, on top of what is crossed, is the whole. The measure is what
 use native.Mathlib.Omega.{arith}
 use Rattle.bundle.proofs.Walks.{walk_length}
-use Rattle.pair_walk.proofs.CrossedLists.{along_start, along-here, along-on, along-end, along-uneven}
+use Rattle.pair_walk.proofs.CrossedLists.{along_start, along_here, along_on, along_end, along_uneven}
 use Rattle.pair_walk.proofs.bodies.cross_lists.Goals as goal
 
 pub loop-i-init : goal.loop-i-init
@@ -22,7 +22,7 @@ shape_of-agenda-then-j-eq0 c = c.loop-i.invariant.same_agenda
 pub returns-then-j-eq0 : goal.returns-then-j-eq0
 returns-then-j-eq0 c = let a = c.args in
     let l = c.loop-i in
-    along-uneven a.file.now a.b a.n a.places.now a.bound.now a.agenda.now a.h a.depth a.first a.second l.invariant
+    along_uneven a.file.now a.b a.n a.places.now a.bound.now a.agenda.now a.h a.depth a.first a.second l.invariant
     c.loop-i-test.true c.if-j-eq0.true
 
 pub link_field-x-requires : goal.link_field-x-requires
@@ -35,7 +35,7 @@ pub cross_pair-requires : goal.cross_pair-requires
 cross_pair-requires c = let a = c.args in
     let l = c.loop-i in
     let h = c.requires in
-    let here = along-here a.file.now a.b a.n a.places.now a.bound.now a.agenda.now a.h a.depth a.first a.second l.invariant
+    let here = along_here a.file.now a.b a.n a.places.now a.bound.now a.agenda.now a.h a.depth a.first a.second l.invariant
     c.loop-i-test.true c.if-j-eq0.false c.link_field-x.ensures c.link_field-y.ensures in (
       l.invariant.crossing,
       omega (arith, here.1, h.2, l.invariant.same_agenda),
@@ -49,7 +49,7 @@ cross_pair-requires c = let a = c.args in
 pub overflow_add-height : goal.overflow_add-height
 overflow_add-height c = let a = c.args in
     let l = c.loop-i in
-    let here = along-here a.file.now a.b a.n a.places.now a.bound.now a.agenda.now a.h a.depth a.first a.second l.invariant
+    let here = along_here a.file.now a.b a.n a.places.now a.bound.now a.agenda.now a.h a.depth a.first a.second l.invariant
     c.loop-i-test.true c.if-j-eq0.false c.link_field-x.ensures c.link_field-y.ensures in
     omega (
       arith,
@@ -61,7 +61,7 @@ overflow_add-height c = let a = c.args in
 pub overflow_add-deep : goal.overflow_add-deep
 overflow_add-deep c = let a = c.args in
     let l = c.loop-i in
-    let here = along-here a.file.now a.b a.n a.places.now a.bound.now a.agenda.now a.h a.depth a.first a.second l.invariant
+    let here = along_here a.file.now a.b a.n a.places.now a.bound.now a.agenda.now a.h a.depth a.first a.second l.invariant
     c.loop-i-test.true c.if-j-eq0.false c.link_field-x.ensures c.link_field-y.ensures in
     omega (
       arith,
@@ -87,7 +87,7 @@ pub loop-i-preserved : goal.loop-i-preserved
 loop-i-preserved c = let a = c.args in
     let l = c.loop-i in
     let r = c.cross_pair in
-    along-on a.file.now a.b a.n a.places.now a.bound.now a.agenda.now a.h a.depth a.first a.second l.invariant
+    along_on a.file.now a.b a.n a.places.now a.bound.now a.agenda.now a.h a.depth a.first a.second l.invariant
     c.loop-i-test.true c.if-j-eq0.false c.link_field-x.ensures c.link_field-y.ensures c.next_link-i.ensures c.next_link-j.ensures
     r.auto.places r.auto.bound r.ensures.0 r.ensures.1 r.ensures.2
 
@@ -103,6 +103,6 @@ shape_of-agenda c = c.loop-i.invariant.same_agenda
 pub returns : goal.returns
 returns c = let a = c.args in
     let l = c.loop-i in
-    let e = along-end a.file.now a.b a.n a.places.now a.bound.now a.agenda.now a.h a.depth a.first a.second l.invariant
+    let e = along_end a.file.now a.b a.n a.places.now a.bound.now a.agenda.now a.h a.depth a.first a.second l.invariant
     c.loop-i-test.false in
     (l.invariant.same_agenda, e.0, e.1, e.2)

@@ -8,7 +8,7 @@ use Rattle.bundle.specs.File.{bundle_at}
 use Rattle.bundle.proofs.Fields.{sized_at}
 use Rattle.logic.specs.Terms.{kind_of}
 use Rattle.pair_walk.specs.Agenda.{bound_as}
-use Rattle.pair_walk.proofs.ByKind.{bound-binder, met-binder, bound-let, met-let}
+use Rattle.pair_walk.proofs.ByKind.{bound_binder, met_binder, bound_let, met_let}
 use Rattle.pair_walk.proofs.Soundness.{sorts_known}
 use Rattle.pair_walk.proofs.CrossedLists.{entered_one}
 use Rattle.pair_walk.proofs.bodies.enter.Goals as goal
@@ -18,8 +18,8 @@ cross_pair-requires c = let a = c.args in
     let h = c.requires in
     let bundle = bundle_at a.file.now a.b in
     let binds = sym c.is_binder.ensures ∙ c.if-is_binder.true in
-    let one = ap length (bound-binder bundle a.kind binds a.l) in
-    let known = sorts_known (sized_at a.file.now a.b) (term_of bundle a.l).a (term_of bundle a.r).a (met-binder bundle a.kind binds a.l a.r h.3) in (
+    let one = ap length (bound_binder bundle a.kind binds a.l) in
+    let known = sorts_known (sized_at a.file.now a.b) (term_of bundle a.l).a (term_of bundle a.r).a (met_binder bundle a.kind binds a.l a.r h.3) in (
       h.1,
       omega (arith, h.4, one),
       rw c.term_field-x.ensures known.0,
@@ -32,7 +32,7 @@ cross_pair-requires c = let a = c.args in
 pub overflow_add-result : goal.overflow_add-result
 overflow_add-result c = let a = c.args in
     let h = c.requires in
-    let one = ap length (bound-binder (bundle_at a.file.now a.b) a.kind (sym c.is_binder.ensures ∙ c.if-is_binder.true) a.l) in
+    let one = ap length (bound_binder (bundle_at a.file.now a.b) a.kind (sym c.is_binder.ensures ∙ c.if-is_binder.true) a.l) in
     omega (
       arith,
       h.4,
@@ -49,7 +49,7 @@ returns-then-is_binder c = let a = c.args in
     let r = c.cross_pair in
     let e = entered_one a.b.variables a.n a.agenda.now r.new.agenda r.new.places r.new.bound a.h a.depth x.result
     y.result (bound_as bundle (kind_of a.kind) a.l) (bound_as bundle (kind_of a.kind) a.r)
-    (bound-binder bundle a.kind binds a.l ∙ rw (← x.ensures)) (bound-binder bundle a.kind binds a.r ∙ rw (← y.ensures)) r.ensures.1
+    (bound_binder bundle a.kind binds a.l ∙ rw (← x.ensures)) (bound_binder bundle a.kind binds a.r ∙ rw (← y.ensures)) r.ensures.1
     r.ensures.2 in
     (r.ensures.0, e.0, e.1, e.2)
 
@@ -61,14 +61,14 @@ cross_lists-requires c = let a = c.args in
     let x = c.term_field-x in
     let y = c.term_field-y in
     let is : bound_as bundle (kind_of a.kind) a.l ≡ items bundle x.result =
-    bound-let bundle a.kind h.2 plain a.l ∙ ap (items bundle) (sym x.ensures) in
+    bound_let bundle a.kind h.2 plain a.l ∙ ap (items bundle) (sym x.ensures) in
     let many = ap length is in (
       h.0,
       h.1,
       omega (arith, h.4, many),
       h.5,
       omega (arith, h.6, many),
-      rw (x.ensures, y.ensures) (met-let bundle a.kind h.2 plain a.l a.r h.3),
+      rw (x.ensures, y.ensures) (met_let bundle a.kind h.2 plain a.l a.r h.3),
     )
 
 pub returns : goal.returns
@@ -79,7 +79,7 @@ returns c = let a = c.args in
     let x = c.term_field-x in
     let y = c.term_field-y in
     let is : bound_as bundle (kind_of a.kind) a.l ≡ items bundle x.result =
-    bound-let bundle a.kind h.2 plain a.l ∙ ap (items bundle) (sym x.ensures) in
+    bound_let bundle a.kind h.2 plain a.l ∙ ap (items bundle) (sym x.ensures) in
     let are : bound_as bundle (kind_of a.kind) a.r ≡ items bundle y.result =
-    bound-let bundle a.kind h.2 plain a.r ∙ ap (items bundle) (sym y.ensures) in
+    bound_let bundle a.kind h.2 plain a.r ∙ ap (items bundle) (sym y.ensures) in
     rw (is, are) c.cross_lists.ensures

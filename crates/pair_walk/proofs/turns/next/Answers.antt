@@ -1,16 +1,17 @@
 -- `turns::next` meets its contract. The invariant: what is left to do on the agenda is the whole, and the arrays are those of the walk. The measure is the
 use native.Mathlib.Omega.{arith}
 use mathlib.Core.Path.{refl, sym, ◌∙◌}
-use mathlib.Core.Logic.{inl, inr, ⊎_elim}
+use mathlib.Core.Logic.{inl, inr}
 use Prim.Native.Nat.{◌-◌}
 use Rattle.bundle.specs.File.{bundle_at}
 use Rattle.pair_walk.specs.Agenda.{frames, crossed_by}
 use Rattle.pair_walk.proofs.FrameWords.{crossing_few}
 use Rattle.pair_walk.proofs.ByKind.{body_flag}
 use Rattle.pair_walk.proofs.Finishing.{finish_none}
-use Rattle.pair_walk.proofs.Turning.{one_none, both_none, leave-known, leave_fits, leave-before, leave-after, leave-on}
-use Rattle.pair_walk.proofs.Turning.{pending-known, take-turn, short-turn, closed_after, closed_on, bodies-known, bodies-turn}
+use Rattle.pair_walk.proofs.Turning.{one_none, both_none, leave_known, leave_fits, leave_before, leave_after, leave_on}
+use Rattle.pair_walk.proofs.Turning.{pending_known, take_turn, short_turn, closed_after, closed_on, bodies_known, bodies_turn}
 use Rattle.pair_walk.proofs.turns.next.Goals as goal
+use Rattle.pair_walk.proofs.turns.next.Goals.{then-i-ne0+else-j-ne0, else-i-ne0}
 
 pub loop-height-init : goal.loop-height-init
 loop-height-init c = (c.requires.1, omega arith, refl, refl, refl, λ free image. refl)
@@ -165,9 +166,9 @@ uncross-requires c = let a = c.args in
     let second = c.wide-j in
     let none = c.if-l-eq0.true in
     let last = c.wide-p in
-    let known = leave-known a.file.now a.b a.n a.most l.agenda l.places l.bound l.height l.deep a.left l.invariant.0 some top.ensures right.ensures
+    let known = leave_known a.file.now a.b a.n a.most l.agenda l.places l.bound l.height l.deep a.left l.invariant.0 some top.ensures right.ensures
     first.ensures second.ensures none last.ensures in
-    let placed = (leave-before a.file.now a.b a.n a.most l.agenda l.places l.bound l.height l.deep a.left l.invariant.0 some top.ensures right.ensures
+    let placed = (leave_before a.file.now a.b a.n a.most l.agenda l.places l.bound l.height l.deep a.left l.invariant.0 some top.ensures right.ensures
     first.ensures second.ensures none last.ensures).0 in
     let fits = leave_fits a.file.now a.b a.n a.most l.agenda l.places l.bound l.height l.deep a.left l.invariant.0 some top.ensures right.ensures
     first.ensures second.ensures none last.ensures in (
@@ -204,7 +205,7 @@ overflow_sub-deep c = let a = c.args in
     let second = c.wide-j in
     omega (
       arith,
-      (leave-before a.file.now a.b a.n a.most l.agenda l.places l.bound l.height l.deep a.left l.inv.0 some top.ensures
+      (leave_before a.file.now a.b a.n a.most l.agenda l.places l.bound l.height l.deep a.left l.invariant.0 some top.ensures
           right.ensures
           first.ensures second.ensures c.if-l-eq0.true c.wide-p.ensures).1,
     )
@@ -217,7 +218,7 @@ take-requires c = let a = c.args in
     let right = c.wide-r in
     let first = c.wide-i in
     let second = c.wide-j in
-    let known = pending-known a.file.now a.b a.n a.most l.agenda l.places l.bound l.height l.deep a.left l.invariant.0 some top.ensures right.ensures
+    let known = pending_known a.file.now a.b a.n a.most l.agenda l.places l.bound l.height l.deep a.left l.invariant.0 some top.ensures right.ensures
     first.ensures second.ensures c.if-l-eq0.false in (
       c.requires.0,
       omega (
@@ -252,7 +253,7 @@ returns-then-j-ne0 c = λ free image.
     let second = c.wide-j in
     let t = c.take in
     rw (← l.invariant.5 free image)
-    (take-turn a.file.now a.b a.n a.most l.agenda l.places l.bound l.height l.deep a.left l.invariant.0 some top.ensures
+    (take_turn a.file.now a.b a.n a.most l.agenda l.places l.bound l.height l.deep a.left l.invariant.0 some top.ensures
     right.ensures
     first.ensures second.ensures c.if-l-eq0.false t.new.agenda t.result (c.if-i-ne0.true, c.if-j-ne0.true)
     t.ensures.0 t.ensures.1 t.ensures.2 (omega (
@@ -280,9 +281,9 @@ returns-then-i-j c = λ free image.
     let first = c.wide-i in
     let second = c.wide-j in
     sym (l.invariant.5 free image)
-    ∙ short-turn a.file.now a.b a.n a.most l.agenda l.places l.bound l.height l.deep a.left l.invariant.0 some top.ensures
+    ∙ short_turn a.file.now a.b a.n a.most l.agenda l.places l.bound l.height l.deep a.left l.invariant.0 some top.ensures
     right.ensures
-    first.ensures second.ensures c.if-l-eq0.false (one_none first.result second.result (⊎_elim (λ w. inl (w.0.taken, w.1.left)) (λ w. inr w.left) c.if-i-ne0.branch) c.if-i-j.true) free
+    first.ensures second.ensures c.if-l-eq0.false (one_none first.result second.result (elim c.if-i-ne0.branch [ then-i-ne0+else-j-ne0 w ↦ inl (w.if-i-ne0.true, w.if-j-ne0.false) | else-i-ne0 w ↦ inr w.if-i-ne0.false ]) c.if-i-j.true) free
     image
 
 pub term_field-kind-requires : goal.term_field-kind-requires
@@ -300,14 +301,14 @@ into_bodies-requires c = let a = c.args in
     let first = c.wide-i in
     let second = c.wide-j in
     let kind = c.term_field-kind in
-    let known = bodies-known a.file.now a.b a.n a.most l.agenda l.places l.bound l.height l.deep a.left l.inv.0 some top.ensures right.ensures
+    let known = bodies_known a.file.now a.b a.n a.most l.agenda l.places l.bound l.height l.deep a.left l.invariant.0 some top.ensures right.ensures
     first.ensures second.ensures c.if-l-eq0.false (both_none first.result second.result c.if-i-j.false) kind.ensures in
     let few = crossing_few a.b.variables a.n l.agenda l.places l.bound (l.height - 1) l.deep known.0 in (
       c.requires.0,
       known.0,
       body_flag kind.result c.is_binder.ensures ∙ c.if-is_binder-kind.true,
       known.1,
-      omega (arith, known.2, l.inv.0.long),
+      omega (arith, known.2, l.invariant.0.long),
       c.requires.4,
       omega (
         arith,
@@ -342,8 +343,8 @@ returns-then-is_binder-kind c = λ free image.
     let second = c.wide-j in
     let kind = c.term_field-kind in
     let t = c.into_bodies in
-    rw (← l.inv.5 free image)
-    (bodies-turn a.file.now a.b a.n a.most l.agenda l.places l.bound l.height l.deep a.left l.inv.0 some top.ensures
+    rw (← l.invariant.5 free image)
+    (bodies_turn a.file.now a.b a.n a.most l.agenda l.places l.bound l.height l.deep a.left l.invariant.0 some top.ensures
     right.ensures
     first.ensures second.ensures c.if-l-eq0.false (both_none first.result second.result c.if-i-j.false) kind.ensures t.new.agenda
     t.new.places t.new.bound t.result (body_flag kind.result c.is_binder.ensures ∙ c.if-is_binder-kind.true) t.ensures.0
@@ -360,21 +361,21 @@ loop-height-preserved-then-l-eq0 c = let a = c.args in
     let none = c.if-l-eq0.true in
     let last = c.wide-p in
     let u = c.uncross in
-    let known = leave-known a.file.now a.b a.n a.most l.agenda l.places l.bound l.height l.deep a.left l.inv.0 some top.ensures right.ensures
+    let known = leave_known a.file.now a.b a.n a.most l.agenda l.places l.bound l.height l.deep a.left l.invariant.0 some top.ensures right.ensures
     first.ensures second.ensures none last.ensures in
-    let placed = (leave-before a.file.now a.b a.n a.most l.agenda l.places l.bound l.height l.deep a.left l.inv.0 some top.ensures right.ensures
+    let placed = (leave_before a.file.now a.b a.n a.most l.agenda l.places l.bound l.height l.deep a.left l.invariant.0 some top.ensures right.ensures
     first.ensures second.ensures none last.ensures).0 in
     let ps = crossed_by (frames l.agenda (l.height - 1)) in (
-      leave-after a.file.now a.b a.n a.most l.agenda l.places l.bound l.height l.deep a.left l.inv.0 some top.ensures
+      leave_after a.file.now a.b a.n a.most l.agenda l.places l.bound l.height l.deep a.left l.invariant.0 some top.ensures
           right.ensures
           first.ensures second.ensures none last.ensures u.new.places u.new.bound
           (u.ensures.2 ps known.left_place known.right_place placed),
-      omega (arith, l.inv.1),
-      l.inv.2,
-      u.ensures.0 ∙ l.inv.3,
-      u.ensures.1 ∙ l.inv.4,
-      λ free image. leave-on a.file.now a.b a.n a.most l.agenda l.places l.bound l.height l.deep a.left l.inv.0 some top.ensures right.ensures
-          first.ensures second.ensures none last.ensures free image ∙ l.inv.5 free image,
+      omega (arith, l.invariant.1),
+      l.invariant.2,
+      u.ensures.0 ∙ l.invariant.3,
+      u.ensures.1 ∙ l.invariant.4,
+      λ free image. leave_on a.file.now a.b a.n a.most l.agenda l.places l.bound l.height l.deep a.left l.invariant.0 some top.ensures right.ensures
+          first.ensures second.ensures none last.ensures free image ∙ l.invariant.5 free image,
     )
 
 pub loop-height-preserved : goal.loop-height-preserved

@@ -15,17 +15,16 @@ use Rattle.scratch.proofs.lists.half.Reads as half-reads
 use Rattle.pass_formulas.proofs.texts.pass_text.Goals as goal
 
 pub pass_formula-e-requires : goal.pass_formula-e-requires
-pass_formula-e-requires c =
-    (
-      c.requires.0,
-      record {
-        held = subst (λ (k : Counts). Held c.args.words.now c.file_terms.new.index k) c.requires.1
-            (record { ready = c.requires.2; indexed = c.file_terms.ensures });
-        places = let l : limits.links ≤ limits.links = omega arith in l;
-        height = omega arith;
-        here = c.past_blanks-start.ensures.inside;
-      },
-    )
+pass_formula-e-requires c = (
+  c.requires.0,
+  record {
+    held = subst (λ (k : Counts). Held c.args.words.now c.file_terms.new.index k) c.requires.1
+        (record { ready = c.requires.2; indexed = c.file_terms.ensures });
+    places = let l : limits.links ≤ limits.links = omega arith in l;
+    height = omega arith;
+    here = c.past_blanks-start.ensures.inside;
+  },
+)
 
 pub returns-then-e-eq0 : goal.returns-then-e-eq0
 returns-then-e-eq0 c = (c.pass_formula-e.ensures.0, λ ne. absurd (ne refl))

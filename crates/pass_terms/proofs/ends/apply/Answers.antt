@@ -6,7 +6,7 @@ use Rattle.bundle.specs.Bundle.{Bundle}
 use Rattle.logic.proofs.Headers.{whole_long}
 use Rattle.scratch.specs.Stack.{halves}
 use Rattle.expansion.specs.Placed.{place_application}
-use Rattle.pass_terms.proofs.Declarations.{whole-as, takes-accepts, result_as}
+use Rattle.pass_terms.proofs.Declarations.{whole_as, takes_accepts, result_as}
 use Rattle.pass_terms.proofs.PairsPut.{ready_by, indexed_by, application_keeps, pair_put, pair_kept}
 use Rattle.pass_terms.proofs.ends.apply.Goals as goal
 
@@ -14,17 +14,17 @@ pub counts-b-requires : goal.counts-b-requires
 counts-b-requires c = whole_long _ _ c.requires.0
 
 pub signature_of-s-requires : goal.signature_of-s-requires
-signature_of-s-requires c = (whole-as _ c.counts-b.ensures c.requires.0).within.symbols
+signature_of-s-requires c = (whole_as _ c.counts-b.ensures c.requires.0).within.symbols
 
 pub takes-requires : goal.takes-requires
 takes-requires c =
-    (whole-as _ c.counts-b.ensures c.requires.0, omega arith, omega (arith, c.requires.3, c.requires.4, c.takes-arg-2-1.given.0))
+    (whole_as _ c.counts-b.ensures c.requires.0, omega arith, omega (arith, c.requires.3, c.requires.4, c.requires.5))
 
 pub returns-then-not-takes : goal.returns-then-not-takes
 returns-then-not-takes c = (refl, λ ne. absurd (ne refl))
 
 pub result_sort-sort-requires : goal.result_sort-sort-requires
-result_sort-sort-requires c = whole-as _ c.counts-b.ensures c.requires.0
+result_sort-sort-requires c = whole_as _ c.counts-b.ensures c.requires.0
 
 pub place_application-p-requires : goal.place_application-p-requires
 place_application-p-requires c =
@@ -33,7 +33,7 @@ place_application-p-requires c =
       ready_by a.file.now a.words.now a.counts.now e c.requires.1,
       c.requires.2,
       c.requires.3,
-      omega (arith, c.requires.4, c.takes-arg-2-1.given.0),
+      omega (arith, c.requires.4, c.requires.5),
       indexed_by a.file.now a.words.now a.counts.now e c.requires.1,
     )
 
@@ -51,7 +51,7 @@ returns c =
       λ ne. record {
         end = (z.ended ne).0;
         kept = pair_kept z ne;
-        takes = takes-accepts a.file.now d a.symbol g (halves false a.stack.now a.from a.to) t.ensures
+        takes = takes_accepts a.file.now d a.symbol g (halves false a.stack.now a.from a.to) t.ensures
             c.if-not-takes.false;
         put = pair_put a.file.now a.words.now a.counts.now k.ensures (λ (B : Bundle). place_application B a.symbol ts)
             (application_keeps a.symbol ts) p.ensures.1 p.ensures.2 z ne

@@ -25,7 +25,6 @@ returns-in-Full c = record { long = refl; ended = λ ne. absurd (ne refl) }
 
 pub returns-else-height-number : goal.returns-else-height-number
 returns-else-height-number c =
-    let p = c.p-1.given in
     let a = c.args in
     let z = tests_none a.height c.in-Done.number a.sort c.if-height-number.false in
     let l = c.lay.ensures in

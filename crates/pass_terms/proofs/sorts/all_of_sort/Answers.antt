@@ -26,8 +26,7 @@ returns-then-sort-half c =
 
 pub loop-at-preserved : goal.loop-at-preserved
 loop-at-preserved c =
-    let l = c.loop-at in
-    (
+    let l = c.loop-at in (
       omega arith,
       l.invariant.1
           ∙ on c.args.stack.now l.at c.args.to _ c.loop-at-test.true c.requires.1 c.half.ensures.0

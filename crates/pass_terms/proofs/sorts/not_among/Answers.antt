@@ -3,7 +3,7 @@ use native.Mathlib.Omega.{arith}
 use Prim.Native.Nat.{◌-◌}
 use mathlib.Core.Path.{refl, sym, ap, ◌∙◌}
 use mathlib.Core.Bool.{false, not}
-use Rattle.pass_terms.proofs.PairSorts.{new-here, new-on, new_none}
+use Rattle.pass_terms.proofs.PairSorts.{new_here, new_on, new_none}
 use Rattle.pass_terms.proofs.sorts.not_among.Goals as goal
 
 pub loop-at-init : goal.loop-at-init
@@ -13,15 +13,14 @@ pub returns-then-x-half : goal.returns-then-x-half
 returns-then-x-half c =
     let l = c.loop-at in
     sym (ap not (l.invariant.1
-    ∙ new-here c.args.stack.now l.at c.args.to c.loop-at-test.true c.requires.1 c.half.ensures.0 c.args.x c.if-x-half.true))
+    ∙ new_here c.args.stack.now l.at c.args.to c.loop-at-test.true c.requires.1 c.half.ensures.0 c.args.x c.if-x-half.true))
 
 pub loop-at-preserved : goal.loop-at-preserved
 loop-at-preserved c =
-    let l = c.loop-at in
-    (
+    let l = c.loop-at in (
       omega arith,
       l.invariant.1
-          ∙ new-on c.args.stack.now l.at c.args.to c.loop-at-test.true c.requires.1 c.half.ensures.0 c.args.x c.if-x-half.false,
+          ∙ new_on c.args.stack.now l.at c.args.to c.loop-at-test.true c.requires.1 c.half.ensures.0 c.args.x c.if-x-half.false,
     )
 
 pub returns : goal.returns

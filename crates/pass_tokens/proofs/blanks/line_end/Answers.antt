@@ -1,6 +1,6 @@
 -- `blanks::line_end` meets its contract. The invariant: the comment goes on up to j.
 use Prim.Native.Nat.{◌-◌}
-use Rattle.pass_tokens.proofs.BlankLaws.{line_start, line_on, line-feed, line-return, line_past}
+use Rattle.pass_tokens.proofs.BlankLaws.{line_start, line_on, line_feed, line_return, line_past}
 use Rattle.pass_tokens.proofs.blanks.line_end.Goals as goal
 
 pub loop-j-init : goal.loop-j-init
@@ -8,11 +8,11 @@ loop-j-init c = line_start c.args.text.now c.args.i c.requires
 
 pub returns-then-c-eq10 : goal.returns-then-c-eq10
 returns-then-c-eq10 c =
-    line-feed c.args.text.now c.args.i c.loop-j.j c.loop-j.invariant c.loop-j-test.true c.if-c-eq10.true
+    line_feed c.args.text.now c.args.i c.loop-j.j c.loop-j.invariant c.loop-j-test.true c.if-c-eq10.true
 
 pub returns-then-c-eq13 : goal.returns-then-c-eq13
 returns-then-c-eq13 c =
-    line-return c.args.text.now c.args.i c.loop-j.j c.loop-j.invariant c.loop-j-test.true c.if-c-eq13.true
+    line_return c.args.text.now c.args.i c.loop-j.j c.loop-j.invariant c.loop-j-test.true c.if-c-eq13.true
 
 pub loop-j-preserved : goal.loop-j-preserved
 loop-j-preserved c =

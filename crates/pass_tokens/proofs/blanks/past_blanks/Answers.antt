@@ -4,6 +4,7 @@ use Prim.Native.Nat.{◌-◌}
 use mathlib.Core.Logic.{⊎_elim}
 use Rattle.pass_tokens.proofs.BlankLaws.{blanks_start, on_space, on_other, comment_on}
 use Rattle.pass_tokens.proofs.blanks.past_blanks.Goals as goal
+use Rattle.pass_tokens.proofs.blanks.past_blanks.Goals.{then-c-ne32+else-c, else-c-ne32}
 
 pub loop-j-init : goal.loop-j-init
 loop-j-init c = blanks_start c.args.text.now c.args.i c.requires
@@ -25,8 +26,10 @@ returns-then-c c = c.loop-j.invariant
 pub loop-j-preserved : goal.loop-j-preserved
 loop-j-preserved c =
     let a = c.args in
-    ⊎_elim (λ w. on_other a.text.now a.i c.loop-j.j c.loop-j.invariant c.loop-j-test.true w.1.left)
-    (λ w. on_space a.text.now a.i c.loop-j.j c.loop-j.invariant c.loop-j-test.true w.left) c.if-c-ne32.branch
+    elim c.if-c-ne32.branch [
+      | then-c-ne32+else-c w ↦ on_other a.text.now a.i c.loop-j.j c.loop-j.invariant c.loop-j-test.true w.if-c.false
+      | else-c-ne32 w ↦ on_space a.text.now a.i c.loop-j.j c.loop-j.invariant c.loop-j-test.true w.if-c-ne32.false
+    ]
 
 pub returns : goal.returns
 returns c = c.loop-j.invariant

@@ -31,7 +31,7 @@ returns-then-byte_at-ne40-2 c =
 
 pub returns : goal.returns
 returns c =
-    P.head-list c.args.symbols c.args.variables c.args.text.now c.args.i
+    P.head_list c.args.symbols c.args.variables c.args.text.now c.args.i
     c.past_blanks-from.result
     c.past_blanks-from.ensures
     c.word_at-head.result

@@ -1,7 +1,7 @@
 -- `words::numeral` meets its contract. The invariant: the digits up to j have the value n.
 use native.Mathlib.Omega.{arith}
 use Prim.Native.Nat.{◌-◌}
-use Rattle.pass_tokens.proofs.DigitLaws.{digits_start, digits-on, digits-end, no-digits}
+use Rattle.pass_tokens.proofs.DigitLaws.{digits_start, digits_on, digits_end, no_digits}
 use Rattle.pass_tokens.proofs.words.numeral.Goals as goal
 
 pub loop-j-init : goal.loop-j-init
@@ -9,11 +9,11 @@ loop-j-init c = digits_start c.args.text.now c.args.from c.args.high c.requires.
 
 pub returns-then-c-lt48 : goal.returns-then-c-lt48
 returns-then-c-lt48 c =
-    digits-end c.args.text.now c.args.from c.args.high c.loop-j.n c.loop-j.j c.loop-j.invariant
+    digits_end c.args.text.now c.args.from c.args.high c.loop-j.n c.loop-j.j c.loop-j.invariant
 
 pub returns-then-c-gt57 : goal.returns-then-c-gt57
 returns-then-c-gt57 c =
-    digits-end c.args.text.now c.args.from c.args.high c.loop-j.n c.loop-j.j c.loop-j.invariant
+    digits_end c.args.text.now c.args.from c.args.high c.loop-j.n c.loop-j.j c.loop-j.invariant
 
 pub overflow_mul-n : goal.overflow_mul-n
 overflow_mul-n c = omega (arith, c.loop-j.invariant.most, c.requires.1)
@@ -23,19 +23,19 @@ overflow_add-n c = omega (arith, c.loop-j.invariant.most, c.requires.1)
 
 pub returns-then-n-high : goal.returns-then-n-high
 returns-then-n-high c =
-    no-digits c.args.text.now c.args.from c.args.high c.loop-j.n c.loop-j.j c.loop-j.invariant
+    no_digits c.args.text.now c.args.from c.args.high c.loop-j.n c.loop-j.j c.loop-j.invariant
 
 pub returns-then-n-eq0 : goal.returns-then-n-eq0
 returns-then-n-eq0 c =
-    no-digits c.args.text.now c.args.from c.args.high c.loop-j.n c.loop-j.j c.loop-j.invariant
+    no_digits c.args.text.now c.args.from c.args.high c.loop-j.n c.loop-j.j c.loop-j.invariant
 
 pub loop-j-preserved : goal.loop-j-preserved
 loop-j-preserved c =
-    digits-on c.args.text.now c.args.from c.args.high c.loop-j.n c.loop-j.j c.loop-j.invariant
+    digits_on c.args.text.now c.args.from c.args.high c.loop-j.n c.loop-j.j c.loop-j.invariant
     c.loop-j-test.true c.wide-c.result
     c.wide-c.ensures c.if-c-lt48.false c.if-c-gt57.false c.if-n-high.false
     c.if-n-eq0.false
 
 pub returns : goal.returns
 returns c =
-    digits-end c.args.text.now c.args.from c.args.high c.loop-j.n c.loop-j.j c.loop-j.invariant
+    digits_end c.args.text.now c.args.from c.args.high c.loop-j.n c.loop-j.j c.loop-j.invariant

@@ -1,7 +1,7 @@
 -- `words::run_stops` meets its contract.
 use mathlib.Core.Path.{sym, ◌∙◌}
 use borrow.Author.Tests.{not-true}
-use Rattle.pass_tokens.proofs.RunLaws.{stops_past, stops-byte, stops-closing, stops-space}
+use Rattle.pass_tokens.proofs.RunLaws.{stops_past, stops_byte, stops_closing, stops_space}
 use Rattle.pass_tokens.proofs.words.run_stops.Goals as goal
 
 pub returns-then-j-text : goal.returns-then-j-text
@@ -9,13 +9,13 @@ returns-then-j-text c = λ x. stops_past c.args.text.now c.args.j c.if-j-text.tr
 
 pub returns-then-c-eq41 : goal.returns-then-c-eq41
 returns-then-c-eq41 c =
-    λ x. stops-closing c.args.text.now c.args.j c.if-j-text.false c.if-c-eq41.true
+    λ x. stops_closing c.args.text.now c.args.j c.if-j-text.false c.if-c-eq41.true
 
 pub returns-then-c-eq32 : goal.returns-then-c-eq32
 returns-then-c-eq32 c =
-    λ x. stops-space c.args.text.now c.args.j c.if-j-text.false c.if-c-eq32.true
+    λ x. stops_space c.args.text.now c.args.j c.if-j-text.false c.if-c-eq32.true
 
 pub returns : goal.returns
 returns c =
-    λ x. stops-byte c.args.text.now c.args.j c.if-j-text.false
+    λ x. stops_byte c.args.text.now c.args.j c.if-j-text.false
     (sym c.goes_on.ensures ∙ not-true c.goes_on.result x)

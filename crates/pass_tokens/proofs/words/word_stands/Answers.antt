@@ -2,7 +2,7 @@
 use native.Mathlib.Omega.{arith}
 use Prim.Native.Nat.{◌-◌}
 use mathlib.Core.Bool.{false≢true}
-use Rattle.pass_tokens.proofs.RunLaws.{match_start, match-on, matched}
+use Rattle.pass_tokens.proofs.RunLaws.{match_start, match_on, matched}
 use Rattle.pass_tokens.proofs.words.word_stands.Goals as goal
 
 pub returns-then-text-start : goal.returns-then-text-start
@@ -23,7 +23,7 @@ returns-then-text-start-2 c = λ x. absurd (false≢true x)
 
 pub loop-k-preserved : goal.loop-k-preserved
 loop-k-preserved c =
-    match-on c.args.text.now c.args.start c.args.spelled.now c.loop-k.k c.loop-k.invariant c.loop-k-test.true
+    match_on c.args.text.now c.args.start c.args.spelled.now c.loop-k.k c.loop-k.invariant c.loop-k-test.true
     c.if-text-start-2.false
 
 pub overflow_add-start-2 : goal.overflow_add-start-2

@@ -7,7 +7,7 @@ use Rattle.bundle.specs.File.{Whole, counts_of}
 use Rattle.logic.specs.Checks.{header_fault}
 use Rattle.logic.proofs.Headers.{header_exactly}
 use Rattle.expansion.specs.Expansion.{long_enough}
-use Rattle.reader.proofs.DeclarationTests.{header_here, section-here, not-bare, all_hold}
+use Rattle.reader.proofs.DeclarationTests.{header_here, section_here, not_bare, all_hold}
 use Rattle.reader.proofs.checks.declarations_fault.Goals as goal
 
 -- k says whether the areas are long enough, and n is what the header's tests find
@@ -41,7 +41,7 @@ sections_fault-early-requires c =
 pub returns-then-early-ne0 : goal.returns-then-early-ne0
 returns-then-early-ne0 c =
     let a = c.args in
-    section-here a.file.now a.out a.words a.sets (none a.file.now a.out a.words a.sets c.long_enough-enough.ensures c.header_fault-number.ensures c.if-number-ne0.false) _ c.counts-b.ensures _ c.sections_fault-early.ensures
+    section_here a.file.now a.out a.words a.sets (none a.file.now a.out a.words a.sets c.long_enough-enough.ensures c.header_fault-number.ensures c.if-number-ne0.false) _ c.counts-b.ensures _ c.sections_fault-early.ensures
     c.if-early-ne0.true
 
 pub is_declarations-requires : goal.is_declarations-requires
@@ -52,7 +52,7 @@ is_declarations-requires c =
 pub returns-then-not-is_declarations : goal.returns-then-not-is_declarations
 returns-then-not-is_declarations c =
     let a = c.args in
-    not-bare a.file.now a.out a.words a.sets (none a.file.now a.out a.words a.sets c.long_enough-enough.ensures c.header_fault-number.ensures c.if-number-ne0.false) _ c.counts-b.ensures _ c.sections_fault-early.ensures
+    not_bare a.file.now a.out a.words a.sets (none a.file.now a.out a.words a.sets c.long_enough-enough.ensures c.header_fault-number.ensures c.if-number-ne0.false) _ c.counts-b.ensures _ c.sections_fault-early.ensures
     c.if-early-ne0.false c.is_declarations.result c.is_declarations.ensures
     c.if-not-is_declarations.true
 

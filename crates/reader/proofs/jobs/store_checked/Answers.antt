@@ -2,7 +2,7 @@
 use mathlib.Core.Path.{refl, ◌∙◌}
 use native.Mathlib.Omega.{arith}
 use Rattle.expansion.proofs.AreasAfter.{stored_refused}
-use Rattle.reader.proofs.Answering.{areas_long, declared_whole, copied-formed, copied-ready, refused-text, settled, refused_records}
+use Rattle.reader.proofs.Answering.{areas_long, declared_whole, copied_formed, copied_ready, refused_text, settled, refused_records}
 use Rattle.reader.proofs.Answering.{held_done, held_ready, term_small, stored_read}
 use Rattle.reader.proofs.jobs.store_checked.Goals as goal
 
@@ -14,7 +14,7 @@ text_fault-found-requires c =
 pub returns-then-found-ne0 : goal.returns-then-found-ne0
 returns-then-found-ne0 c =
     λ sets d. stored_refused c.text_fault-found.auto.area refl refl
-    (refused-text d c.args.text.now c.text_fault-found.result c.text_fault-found.ensures c.if-found-ne0.true)
+    (refused_text d c.args.text.now c.text_fault-found.result c.text_fault-found.ensures c.if-found-ne0.true)
 
 pub copy_job-requires : goal.copy_job-requires
 copy_job-requires c =
@@ -25,7 +25,7 @@ pub read_records-records-requires : goal.read_records-records-requires
 read_records-records-requires c =
     let d = c.requires.1 in
     let j = c.copy_job in
-    (declared_whole d, copied-ready d j.new.words j.ensures.1 j.ensures.0, copied-formed d j.new.words j.ensures.1)
+    (declared_whole d, copied_ready d j.new.words j.ensures.1 j.ensures.0, copied_formed d j.new.words j.ensures.1)
 
 -- `reads` is the formula of the text, which nothing refuses, and `held` says that its records are in the scratch
 pub store_file-requires : goal.store_file-requires

@@ -1,7 +1,7 @@
 -- `store_passed` meets its contract: the declarations copied, the pass over the text, and the job.
 use mathlib.Core.Path.{refl, ◌∙◌}
 use native.Mathlib.Omega.{arith}
-use Rattle.reader.proofs.Answering.{areas_long, declared_whole, copied-formed, copied-ready, held_ready, term_small, stored_read}
+use Rattle.reader.proofs.Answering.{areas_long, declared_whole, copied_formed, copied_ready, held_ready, term_small, stored_read}
 use Rattle.reader.proofs.Passed.{counts_start, whole_start, passed_settled, passed_held}
 use Rattle.reader.proofs.jobs.store_passed.Goals as goal
 
@@ -13,8 +13,8 @@ pass_text-term-requires c =
     let d = c.requires.1 in (
       whole_start d,
       counts_start _ d.counted,
-      copied-ready d c.copy_job.new.words c.copy_job.ensures.1 c.copy_job.ensures.0,
-      copied-formed d c.copy_job.new.words c.copy_job.ensures.1,
+      copied_ready d c.copy_job.new.words c.copy_job.ensures.1 c.copy_job.ensures.0,
+      copied_formed d c.copy_job.new.words c.copy_job.ensures.1,
     )
 
 pub returns-then-term-eq0 : goal.returns-then-term-eq0

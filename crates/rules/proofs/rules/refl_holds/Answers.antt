@@ -12,6 +12,7 @@ use Rattle.images.specs.LentReading.{settled_in}
 use Rattle.images.proofs.FreeWords.{known_room}
 use Rattle.logic.specs.Rules.{refl_holds_by}
 use Rattle.rules.proofs.rules.refl_holds.Goals as goal
+use Rattle.rules.proofs.rules.refl_holds.Goals.{then-left-right+else-is_settled, else-left-right}
 
 pub overflow_mul-n : goal.overflow_mul-n
 overflow_mul-n c = omega (arith, known_room (2 * c.args.n) c.args.s.context _ _ c.requires.2 c.requires.1.scopes)
@@ -39,7 +40,10 @@ unfolding refl_holds_by
 returns-then-term_field-ne1 c =
     let a = c.args in
     let n : (eqb a.s.left a.s.right && settled_in a.b.terms a.area.now a.scopes.now a.n (moved_at a.n a.s.context) a.s.left) ≡ false =
-    ⊎_elim (λ w. rw (eq-eqb _ _ w.0.taken, ← w.1.ensures, w.2.left)) (λ w. rw (ne_eqb _ _ w.left)) c.if-left-right.branch in
+    elim c.if-left-right.branch [
+      | then-left-right+else-is_settled w ↦ rw (eq-eqb _ _ w.if-left-right.true, ← w.is_settled.ensures, w.if-is_settled.false)
+      | else-left-right w ↦ rw (ne_eqb _ _ w.if-left-right.false)
+    ] in
     rw (le-leb _ _ c.requires.2, n, ← c.term_field.ensures, ne_eqb _ 1 c.if-term_field-ne1.true)
 
 pub image_of-image-requires : goal.image_of-image-requires
@@ -52,8 +56,10 @@ unfolding refl_holds_by
 returns c =
     let a = c.args in
     let n : (eqb a.s.left a.s.right && settled_in a.b.terms a.area.now a.scopes.now a.n (moved_at a.n a.s.context) a.s.left) ≡ false =
-    ⊎_elim (λ w. rw (eq-eqb _ _ w.0.taken, ← w.1.ensures, w.2.left)) (λ w. rw (ne_eqb _ _ w.left))
-    c.if-left-right.branch in
+    elim c.if-left-right.branch [
+      | then-left-right+else-is_settled w ↦ rw (eq-eqb _ _ w.if-left-right.true, ← w.is_settled.ensures, w.if-is_settled.false)
+      | else-left-right w ↦ rw (ne_eqb _ _ w.if-left-right.false)
+    ] in
     rw (
       le-leb _ _ c.requires.2,
       n,

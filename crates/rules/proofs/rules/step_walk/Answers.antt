@@ -1,4 +1,5 @@
 -- `rules::step_walk` meets its contract: the walk, where the rest of the rule's tests pass.
+use borrow.Author.Tests.{not-true, not-false}
 use Rattle.bundle.specs.File.{bundle_at}
 use Rattle.images.specs.LentReading.{step_in}
 use Rattle.rules.specs.StepWords.{as_step}
@@ -10,7 +11,7 @@ returns-then-not-lists c =
     let a = c.args in
     let bundle = bundle_at a.file.now a.b in
     let r = c.step_lists-lists in
-    let bad = c.if-not-lists.true in record {
+    let bad = not-true r.result.good c.if-not-lists.true in record {
       value = (λ cong. cong_bad (step_in bundle a.bed.now) bundle (as_step a.s) r.result (r.ensures.cong_lists cong) bad);
       passes_value = (λ other. let_bad (step_in bundle a.bed.now) bundle (as_step a.s) r.result (r.ensures.let_lists other) bad);
     }
@@ -20,7 +21,7 @@ returns c =
     let a = c.args in
     let bundle = bundle_at a.file.now a.b in
     let r = c.step_lists-lists in
-    let good = c.if-not-lists.false in record {
+    let good = not-false r.result.good c.if-not-lists.false in record {
       value = (λ cong. cong_good (step_in bundle a.bed.now) bundle (as_step a.s) r.result c.walk.result (r.ensures.cong_lists cong) good c.walk.ensures);
       passes_value = (λ other. let_good (step_in bundle a.bed.now) bundle (as_step a.s) r.result c.walk.result (r.ensures.let_lists other) good c.walk.ensures);
     }

@@ -25,8 +25,8 @@ module _ (word base last : ℕ) (hit : ℕ → Bool) (x m : ℕ) (so : Left word
     below i low = next.below i (omega arith) low
 
     -- the lowest bit taken out, where its variable is not hit
-    left-on : r < 64 → hit (base + 1 + r) ≡ false → Left word base last hit (without_bit x r) (m + 1)
-    left-on small here = record {
+    left_on : r < 64 → hit (base + 1 + r) ≡ false → Left word base last hit (without_bit x r) (m + 1)
+    left_on small here = record {
       lowest = λ i low. bit_without x r i ∙ out i low (ℕ_discrete i r);
       part = λ i e. so.part i (kept i (ℕ_discrete i r) (sym (bit_without x r i) ∙ e));
       apart = λ i low few e gone. go i low few e (ℕ_discrete i r) (sym (bit_without x r i) ∙ gone);
@@ -34,10 +34,10 @@ module _ (word base last : ℕ) (hit : ℕ → Bool) (x m : ℕ) (so : Left word
       where
         -- the lowest bit is at least m: those below m are out
         far : m ≤ r
-        far = not-below m r (λ l. false≢true (sym (so.lowest r l) ∙ next.here small))
+        far = not_below m r (λ l. false≢true (sym (so.lowest r l) ∙ next.here small))
           where
-            not-below : (m r : ℕ) → (r < m → ⊥) → m ≤ r
-            not-below m r ne = omega arith
+            not_below : (m r : ℕ) → (r < m → ⊥) → m ≤ r
+            not_below m r ne = omega arith
 
         out : (i : ℕ) → i < m + 1 → Dec (i ≡ r) → (not (eqb i r) && bit_at x i) ≡ false
         out i low (yes q) = rw (eq-eqb i r q)
@@ -109,7 +109,7 @@ loop-left-preserved c =
     let turns : 64 - l.left + 1 ≡ 64 - (l.left - 1) = omega arith in (
       omega arith,
       rw (c.without_bit-x.ensures, ← turns)
-          (left-on a.word a.base a.b.variables hit l.x (64 - l.left) l.invariant.1 r.result r.ensures (omega arith)
+          (left_on a.word a.base a.b.variables hit l.x (64 - l.left) l.invariant.1 r.result r.ensures (omega arith)
           (rw (← c.image_of-image.ensures, ← c.free_in_image.ensures, c.if-free_in_image.false))),
     )
 

@@ -25,12 +25,11 @@ loop-i-smaller c = let t = c.guess_turn-g.ensures in omega (arith, t.later, t.in
 
 -- src/guesses.rt:154:5
 pub loop-i-preserved : goal.loop-i-preserved
-loop-i-preserved c =
-    (
-      seeking_on _ _ _ _ _ _ _ _ c.loop-i.invariant.0 c.loop-i-test.true _ c.loop-i.g _ refl refl
-          c.guess_turn-g.ensures,
-      search rules,
-    )
+loop-i-preserved c = (
+  seeking_on _ _ _ _ _ _ _ _ c.loop-i.invariant.0 c.loop-i-test.true _ c.loop-i.g _ refl refl
+      c.guess_turn-g.ensures,
+  search rules,
+)
 
 -- src/guesses.rt:144:1
 pub shape_of-area : goal.shape_of-area

@@ -1,7 +1,7 @@
 -- `guesses::guess_turn` meets its contract.
 use mathlib.Core.Path.{sym, ◌∙◌}
 use Rattle.spots.proofs.RunLaws.{run_fits}
-use Rattle.spots.proofs.GuessLaws.{turned_word, turned-open, turned-empty, turned-close}
+use Rattle.spots.proofs.GuessLaws.{turned_word, turned_open, turned_empty, turned_close}
 use Rattle.scanning.proofs.guesses.guess_turn.Reads as reads
 use Rattle.scanning.proofs.guesses.guess_turn.Lts as lts
 use Rattle.lexing.proofs.runs.class_code.Reads as class-code-reads
@@ -30,18 +30,18 @@ returns-then-class-eq6 c =
 -- src/guesses.rt:126:9
 pub returns-then-class-eq3 : goal.returns-then-class-eq3
 returns-then-class-eq3 c =
-    turned-open _ _ _ _ c.args.g _ c.requires.0 _ c.lexeme_from-next-2.ensures c.requires.2
+    turned_open _ _ _ _ c.args.g _ c.requires.0 _ c.lexeme_from-next-2.ensures c.requires.2
     (sym c.class_code-class.ensures ∙ c.if-class-eq3.true) c.requires.1 _
     c.guess_inside-inside.ensures.stored _ c.guess_inside-inside.ensures.spot
 
 -- src/guesses.rt:133:9
 pub returns-then-depth-eq0 : goal.returns-then-depth-eq0
 returns-then-depth-eq0 c =
-    turned-empty _ _ _ _ c.args.g _ c.requires.0 _ c.lexeme_from-next-2.ensures (λ e. c.if-class-eq6.false (c.class_code-class.ensures ∙ e))
+    turned_empty _ _ _ _ c.args.g _ c.requires.0 _ c.lexeme_from-next-2.ensures (λ e. c.if-class-eq6.false (c.class_code-class.ensures ∙ e))
     (λ e. c.if-class-eq3.false (c.class_code-class.ensures ∙ e)) c.if-depth-eq0.true
 
 -- src/guesses.rt:106:1
 pub returns : goal.returns
 returns c =
-    turned-close _ _ _ _ c.args.g _ c.requires.0 _ c.lexeme_from-next-2.ensures (λ e. c.if-class-eq6.false (c.class_code-class.ensures ∙ e))
+    turned_close _ _ _ _ c.args.g _ c.requires.0 _ c.lexeme_from-next-2.ensures (λ e. c.if-class-eq6.false (c.class_code-class.ensures ∙ e))
     (λ e. c.if-class-eq3.false (c.class_code-class.ensures ∙ e)) c.requires.2 _ c.guess_behind-behind.ensures

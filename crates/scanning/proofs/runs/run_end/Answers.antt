@@ -1,6 +1,6 @@
 -- `runs::run_end` meets its contract. The invariant: so far all are symbol characters.
 use Prim.Native.Nat.{◌-◌}
-use Rattle.spots.proofs.RunLaws.{running_start, running_end, running-found, running-on}
+use Rattle.spots.proofs.RunLaws.{running_start, running_end, running_found, running_on}
 use Rattle.scanning.proofs.runs.run_end.Reads as reads
 use Rattle.scanning.proofs.runs.run_end.Lts as lts
 use Rattle.lexing.proofs.runs.class_code.Reads as class-code-reads
@@ -11,11 +11,11 @@ loop-j-init c = running_start _ _ c.requires
 
 pub loop-j-preserved : goal.loop-j-preserved
 loop-j-preserved c =
-    running-on _ _ c.loop-j.j c.loop-j.invariant c.loop-j-test.true _ c.class_code-class.ensures c.if-class.true
+    running_on _ _ c.loop-j.j c.loop-j.invariant c.loop-j-test.true _ c.class_code-class.ensures c.if-class.true
 
 pub returns-else-class : goal.returns-else-class
 returns-else-class c =
-    running-found _ _ c.loop-j.j c.loop-j.invariant c.loop-j-test.true _ c.class_code-class.ensures c.if-class.false
+    running_found _ _ c.loop-j.j c.loop-j.invariant c.loop-j-test.true _ c.class_code-class.ensures c.if-class.false
 
 pub returns : goal.returns
 returns c = running_end _ _ c.loop-j.j c.loop-j.invariant c.loop-j-test.false

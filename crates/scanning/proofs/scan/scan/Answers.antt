@@ -4,7 +4,7 @@ use native.Mathlib.Omega.{arith}
 use Prim.Native.Nat.{◌-◌}
 use mathlib.Core.Path.{refl}
 use Rattle.spots.specs.Judgement.{declared_by}
-use Rattle.spots.proofs.ScanLaws.{passing_start, passing-stop, passing-on, passing-read, passing-short}
+use Rattle.spots.proofs.ScanLaws.{passing_start, passing_stop, passing_on, passing_read, passing_short}
 use Rattle.scanning.proofs.scan.scan.Reads as reads
 use Rattle.scanning.proofs.scan.scan.Lts as lts
 use Rattle.scanning.proofs.runs.lexeme_from.Reads as lexeme-from-reads
@@ -29,26 +29,25 @@ turn-t-requires c =
 -- src/scan.rt:114:13
 pub returns-then-number-ne0 : goal.returns-then-number-ne0
 returns-then-number-ne0 c =
-    passing-stop (declared_by c.args.symbols c.args.variables) _ _ c.loop-i.p _ c.loop-i.invariant.0
+    passing_stop (declared_by c.args.symbols c.args.variables) _ _ c.loop-i.p _ c.loop-i.invariant.0
     c.loop-i-test.true _ _ c.turn-t.ensures c.if-number-ne0.true
 
 -- src/scan.rt:109:5
 pub loop-i-smaller : goal.loop-i-smaller
 loop-i-smaller c =
     let k = c.loop-i-test.true in
-    let n = (passing-on (declared_by c.args.symbols c.args.variables) _ _ c.loop-i.p _ c.loop-i.invariant.0 k _ _
+    let n = (passing_on (declared_by c.args.symbols c.args.variables) _ _ c.loop-i.p _ c.loop-i.invariant.0 k _ _
     c.turn-t.ensures c.if-number-ne0.false).1 in
     omega (arith, n, k)
 
 -- src/scan.rt:109:5
 pub loop-i-preserved : goal.loop-i-preserved
-loop-i-preserved c =
-    (
-      (passing-on (declared_by c.args.symbols c.args.variables) _ _ c.loop-i.p _ c.loop-i.invariant.0
-          c.loop-i-test.true _ _ c.turn-t.ensures
-          c.if-number-ne0.false).0,
-      search rules,
-    )
+loop-i-preserved c = (
+  (passing_on (declared_by c.args.symbols c.args.variables) _ _ c.loop-i.p _ c.loop-i.invariant.0
+      c.loop-i-test.true _ _ c.turn-t.ensures
+      c.if-number-ne0.false).0,
+  search rules,
+)
 
 -- src/scan.rt:121:9
 pub shape_of-area-then-spot-eq0 : goal.shape_of-area-then-spot-eq0
@@ -57,7 +56,7 @@ shape_of-area-then-spot-eq0 c = c.loop-i.invariant.1
 -- src/scan.rt:121:9
 pub returns-then-spot-eq0 : goal.returns-then-spot-eq0
 returns-then-spot-eq0 c =
-    passing-read (declared_by c.args.symbols c.args.variables) _ _ c.loop-i.p _ c.loop-i.invariant.0 c.loop-i-test.false c.if-spot-eq0.true
+    passing_read (declared_by c.args.symbols c.args.variables) _ _ c.loop-i.p _ c.loop-i.invariant.0 c.loop-i-test.false c.if-spot-eq0.true
 
 -- src/scan.rt:99:1
 pub shape_of-area : goal.shape_of-area
@@ -66,4 +65,4 @@ shape_of-area c = c.loop-i.invariant.1
 -- src/scan.rt:99:1
 pub returns : goal.returns
 returns c =
-    passing-short (declared_by c.args.symbols c.args.variables) _ _ c.loop-i.p _ c.loop-i.invariant.0 c.loop-i-test.false c.if-spot-eq0.false
+    passing_short (declared_by c.args.symbols c.args.variables) _ _ c.loop-i.p _ c.loop-i.invariant.0 c.loop-i-test.false c.if-spot-eq0.false

@@ -14,7 +14,7 @@ use Rattle.scanning.proofs.levels.push.Reads as push-reads
 use Rattle.scanning.proofs.runs.lexeme_from.Reads as lexeme-from-reads
 use Rattle.scanning.proofs.runs.run_end.Reads as run-end-reads
 use Rattle.scanning.proofs.tables.cell.Reads as cell-reads
-use Rattle.scanning.proofs.words.word.Reads as word-reads
+use Rattle.scanning.proofs.words.word.Reads as word_reads
 use Rattle.scanning.proofs.scan.turn.Goals as goal
 
 -- src/scan.rt:39:13

@@ -3,7 +3,7 @@ use native.Mathlib.Omega.{arith}
 use mathlib.Core.Path.{◌∙◌}
 use Rattle.grammar.specs.Bytes.{word_of}
 use Rattle.spots.specs.Runs.{part}
-use Rattle.spots.proofs.WordLaws.{met_word, met-name, met-unknown, met_refused}
+use Rattle.spots.proofs.WordLaws.{met_word, met_name, met_unknown, met_refused}
 use Rattle.spots.proofs.TraceLaws.{word_range}
 use Rattle.scanning.proofs.words.word.Reads as reads
 use Rattle.scanning.proofs.words.word.Lts as lts
@@ -29,14 +29,14 @@ cell-requires c =
 -- src/words.rt:48:17
 pub returns-then-known_as : goal.returns-then-known_as
 returns-then-known_as c =
-    met-name _ _ _ _ _ c.word_code-code.result c.word_code-code.ensures _ (c.wide-next.ensures ∙ c.cell.ensures) _
+    met_name _ _ _ _ _ c.word_code-code.result c.word_code-code.ensures _ (c.wide-next.ensures ∙ c.cell.ensures) _
     (c.wide-kind.ensures ∙ c.cell-then-code-eq9.ensures) _ c.known_as.ensures
     c.if-next-lt20.true c.if-code-eq9.true c.if-known_as.true
 
 -- src/words.rt:54:13
 pub returns-then-code-eq9 : goal.returns-then-code-eq9
 returns-then-code-eq9 c =
-    met-unknown _ _ _ _ _ c.word_code-code.result c.word_code-code.ensures _ (c.wide-next.ensures ∙ c.cell.ensures) _
+    met_unknown _ _ _ _ _ c.word_code-code.result c.word_code-code.ensures _ (c.wide-next.ensures ∙ c.cell.ensures) _
     (c.wide-kind.ensures ∙ c.cell-then-code-eq9.ensures) _ c.known_as.ensures
     c.if-next-lt20.true c.if-code-eq9.true c.if-known_as.false
 

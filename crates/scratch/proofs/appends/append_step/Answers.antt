@@ -4,7 +4,7 @@ use native.Mathlib.Omega.{arith}
 use lib.ListN.{length-set}
 use Rattle.bundle.specs.Limits.{limits, steps_at}
 use Rattle.scratch.proofs.ScratchFields.{limits_within}
-use Rattle.scratch.proofs.Appended.{written-5, step_appended}
+use Rattle.scratch.proofs.Appended.{written_5, step_appended}
 use Rattle.scratch.proofs.appends.append_step.Goals as goal
 
 pub steps_at-requires : goal.steps_at-requires
@@ -50,4 +50,4 @@ returns c =
       c.largest.ensures,
     )
     (step_appended a.words.now _ a.c p.0 p.1
-    (written-5 a.words.now (steps_at limits + 5 * a.c.steps) a.rule a.context a.left a.right a.premises (omega (arith, p.0.long))))
+    (written_5 a.words.now (steps_at limits + 5 * a.c.steps) a.rule a.context a.left a.right a.premises (omega (arith, p.0.long))))

@@ -1,7 +1,7 @@
 -- `images::image_in` meets its contract. The invariant: the image is that in the context where the walk has come to.
 use mathlib.Core.Path.{refl, sym, ◌∙◌}
 use Rattle.scratch.specs.Scratch.{bundle_in}
-use Rattle.logic.proofs.Walked.{image_zero, image_fixed, image_replaced, image-on, image-not-lower}
+use Rattle.logic.proofs.Walked.{image_zero, image_fixed, image_replaced, image_on, image_not_lower}
 use Rattle.scratch.proofs.images.image_in.Goals as goal
 
 pub loop-k-init : goal.loop-k-init
@@ -27,7 +27,7 @@ returns-then-parent-k c =
     let a = c.args in
     let l = c.loop-k in
     let p = c.context_field-parent in
-    sym (l.invariant ∙ image-not-lower (bundle_in a.words.now a.c) l.k a.x c.mention_in-m.ensures
+    sym (l.invariant ∙ image_not_lower (bundle_in a.words.now a.c) l.k a.x c.mention_in-m.ensures
     c.in-Absent.is p.ensures.0 c.if-parent-k.true)
 
 pub loop-k-smaller : goal.loop-k-smaller
@@ -38,7 +38,7 @@ loop-k-preserved c =
     let a = c.args in
     let l = c.loop-k in
     let p = c.context_field-parent in
-    l.invariant ∙ image-on (bundle_in a.words.now a.c) l.k a.x c.mention_in-m.ensures
+    l.invariant ∙ image_on (bundle_in a.words.now a.c) l.k a.x c.mention_in-m.ensures
     c.in-Absent.is p.ensures.0 c.if-parent-k.false
 
 pub returns : goal.returns

@@ -1,5 +1,4 @@
 -- `lists::push_halves` meets its contract. The invariant: the bundle so far with the pairs that are left appended is the entry's bundle with
-use mathlib.Core.Logic.{⊎_elim}
 use mathlib.Core.Path.{refl, sym, ap, ◌∙◌}
 use Prim.Native.Nat.{◌-◌}
 use native.Mathlib.Omega.{arith}
@@ -8,6 +7,7 @@ use Rattle.scratch.specs.Scratch.{bundle_in}
 use Rattle.scratch.proofs.Halves.{halves_none}
 use Rattle.scratch.proofs.Pushed.{add_none, push_more}
 use Rattle.scratch.proofs.lists.push_halves.Goals as goal
+use Rattle.scratch.proofs.lists.push_halves.Goals.{then-at-to, else-at-to}
 
 pub loop-at-init : goal.loop-at-init
 loop-at-init c = (c.requires.0, c.requires.1, c.requires.3, refl, refl, refl)
@@ -18,7 +18,7 @@ append_link-after-requires c =
       c.loop-at.invariant.0,
       omega arith,
       c.half-value.ensures.1,
-      ⊎_elim (λ w. omega arith) (λ w. omega arith) c.if-at-to.branch,
+      elim c.if-at-to.branch [ then-at-to w ↦ omega arith | else-at-to w ↦ omega arith ],
     )
 
 pub loop-at-preserved : goal.loop-at-preserved
@@ -31,8 +31,8 @@ loop-at-preserved c =
     c.loop-at-test.true
     c.requires.2
     c.half-value.ensures.0
-    (λ h. ⊎_elim (λ w. omega arith) (λ w. omega arith) c.if-at-to.branch)
-    (λ h. ⊎_elim (λ w. omega arith) (λ w. omega arith) c.if-at-to.branch)
+    (λ h. elim c.if-at-to.branch [ then-at-to w ↦ omega arith | else-at-to w ↦ omega arith ])
+    (λ h. elim c.if-at-to.branch [ then-at-to w ↦ omega arith | else-at-to w ↦ omega arith ])
     r.ensures.2 in
     (r.ensures.0, omega arith, omega (arith, more.0, l.invariant.2), r.ensures.1 ∙ l.invariant.3, more.1 ∙ l.invariant.4, r.ensures.3 ∙ l.invariant.5)
 

@@ -2,7 +2,7 @@
 use Rattle.bundle.specs.Limits.{limits}
 use Rattle.scratch.specs.Scratch.{word_in}
 use Rattle.bundle.proofs.Fields.{context_is}
-use Rattle.scratch.proofs.ScratchFields.{limits_within, contexts-fit}
+use Rattle.scratch.proofs.ScratchFields.{limits_within, contexts_fit}
 use Rattle.scratch.proofs.records.context_field.Goals as goal
 
 pub contexts_at-requires : goal.contexts_at-requires
@@ -13,7 +13,7 @@ field-requires c =
     let a = c.args in (
       c.requires.1,
       rw (c.contexts_at.ensures.0, c.largest.ensures)
-          (contexts-fit a.words.now a.c c.requires.0),
+          (contexts_fit a.words.now a.c c.requires.0),
     )
 
 pub returns : goal.returns

@@ -2,7 +2,7 @@
 use Rattle.bundle.specs.Limits.{limits}
 use Rattle.scratch.specs.Scratch.{word_in}
 use Rattle.bundle.proofs.Fields.{link_is}
-use Rattle.scratch.proofs.ScratchFields.{limits_within, links-fit}
+use Rattle.scratch.proofs.ScratchFields.{limits_within, links_fit}
 use Rattle.scratch.proofs.records.link_field.Goals as goal
 
 pub links_at-requires : goal.links_at-requires
@@ -13,7 +13,7 @@ field-requires c =
     let a = c.args in (
       c.requires.1,
       rw (c.links_at.ensures.0, c.largest.ensures)
-          (links-fit a.words.now a.c c.requires.0),
+          (links_fit a.words.now a.c c.requires.0),
     )
 
 pub returns : goal.returns

@@ -2,7 +2,7 @@
 use Rattle.bundle.specs.Limits.{limits}
 use Rattle.scratch.specs.Scratch.{word_in}
 use Rattle.bundle.proofs.Fields.{term_is}
-use Rattle.scratch.proofs.ScratchFields.{limits_within, terms-fit}
+use Rattle.scratch.proofs.ScratchFields.{limits_within, terms_fit}
 use Rattle.scratch.proofs.records.term_field.Goals as goal
 
 pub terms_at-requires : goal.terms_at-requires
@@ -13,7 +13,7 @@ field-requires c =
     let a = c.args in (
       c.requires.1,
       rw (c.terms_at.ensures.0, c.largest.ensures)
-          (terms-fit a.words.now a.c c.requires.0),
+          (terms_fit a.words.now a.c c.requires.0),
     )
 
 pub returns : goal.returns

@@ -3,7 +3,7 @@ use native.Mathlib.Omega.{arith}
 use Rattle.bundle.specs.Limits.{limits}
 use Rattle.scratch.specs.Scratch.{word_in}
 use Rattle.bundle.proofs.Fields.{variable_is}
-use Rattle.scratch.proofs.ScratchFields.{limits_within, variables-fit}
+use Rattle.scratch.proofs.ScratchFields.{limits_within, variables_fit}
 use Rattle.scratch.proofs.records.variable_sort.Goals as goal
 
 pub variables_at-requires : goal.variables_at-requires
@@ -12,7 +12,7 @@ variables_at-requires c = rw c.largest.ensures limits_within
 pub field-requires : goal.field-requires
 field-requires c =
     let a = c.args in
-    (omega arith, rw (c.variables_at.ensures.0, c.largest.ensures) (variables-fit a.words.now a.c c.requires))
+    (omega arith, rw (c.variables_at.ensures.0, c.largest.ensures) (variables_fit a.words.now a.c c.requires))
 
 pub returns : goal.returns
 returns c =

@@ -3,7 +3,7 @@ use native.Mathlib.Omega.{arith}
 use Prim.Native.Nat.{◌-◌}
 use mathlib.Core.Path.{refl, ◌∙◌}
 use lib.ListN.{length-set}
-use Rattle.sorting.proofs.SortsNoted.{sorts_none, sorts_on, sorts_all}
+use Rattle.sorting.proofs.SortsNoted.{sorts_none, sorts_on, sorts_all_lem}
 use Rattle.sorting.proofs.notes.note_sorts.Goals as goal
 
 pub loop-t-init : goal.loop-t-init
@@ -26,4 +26,4 @@ pub returns : goal.returns
 returns c =
     let l = c.loop-t in
     let a = c.args in
-    sorts_all a.file.now a.b l.sorts l.t l.invariant.2 (omega arith)
+    sorts_all_lem a.file.now a.b l.sorts l.t l.invariant.2 (omega arith)

@@ -68,15 +68,13 @@ returns-in-8 c = c.built_in-in-8.ensures ∙ rw c.in-8.is
 pub returns-in-1 : goal.returns-in-1
 returns-in-1 c =
     let a = c.args in
-    let ne : a.f ≡ 0 → ⊥ = c.in_default-1.rest.1 in
-    c.built_in-in-1.ensures ∙ sym (constants a.symbols a.f (omega arith) c.if-f-lt3.true)
+    c.built_in-in-1.ensures ∙ sym (constants a.symbols a.f (omega arith) (omega arith))
 
 -- 4 to 7
 pub returns-in-4-to-7 : goal.returns-in-4-to-7
 returns-in-4-to-7 c =
     let a = c.args in
-    let ne : a.f ≡ 3 → ⊥ = c.in_default-1.rest.0.0.1 in
-    c.built_in-in-4-to-7.ensures ∙ sym (connectives a.symbols a.f (omega arith) c.if-f-lt8.true)
+    c.built_in-in-4-to-7.ensures ∙ sym (connectives a.symbols a.f (omega arith) (omega arith))
 
 -- not declared
 pub returns-else-f-symbols : goal.returns-else-f-symbols
@@ -88,12 +86,13 @@ returns-else-f-symbols c =
 -- 0
 pub returns-in-0 : goal.returns-in-0
 unfolding symbol_kind signature
-returns-in-0 c = rw c.in-0.keys3
+returns-in-0 c =
+    let zero : c.args.f ≡ 0 = omega arith in
+    rw zero
 
 -- 9 to 32
 pub returns-in-0-2 : goal.returns-in-0-2
 unfolding signature
 returns-in-0-2 c =
     let a = c.args in
-    let ne : a.f ≡ 8 → ⊥ = c.in_default-1.rest.0.1 in
     rw (above a.symbols a.f (omega arith), le-leb a.f 32 (omega arith))

@@ -1,4 +1,5 @@
 -- `steps::count_fits` meets its contract: in each arm the rule is known.
+use native.Mathlib.Omega.{arith}
 use mathlib.Core.Logic.{⊎_elim, inl, inr}
 use Rattle.bundle.proofs.Walks.{walk_start, walk_start_le}
 use Rattle.logic.specs.Rules.{rule_of, count_fits}
@@ -29,5 +30,5 @@ returns-in-4 c = rw (c.in-4.is, ← single_length) c.is_single.ensures
 pub returns-in_default : goal.returns-in_default
 unfolding count_fits
 returns-in_default c =
-    let n = c.in_default.rest in
-    rw (rule_none _ n.0.0.0.1 (λ e. n.0.0.1 (inl e)) n.0.1 n.1 (λ e. n.0.0.1 (inr e)))
+    let n = c.in_default.in_default-own.rest in
+    rw (rule_none c.args.rule (omega arith) (λ e. n.0.0.1 (inl e)) (omega arith) (omega arith) (λ e. n.0.0.1 (inr e)))

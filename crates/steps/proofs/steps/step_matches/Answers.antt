@@ -39,6 +39,6 @@ returns-in-4 c g same =
 pub returns-in_default : goal.returns-in_default
 unfolding matches_by
 returns-in_default c g same =
-    let n = c.in_default.rest in
     let p = c.requires in
-    rw (rule_none _ p.1 (λ e. n.0.0.1 (inl e)) n.0.1 n.1 (λ e. n.0.0.1 (inr e)))
+    let n = c.in_default.in_default-own.rest in
+    rw (rule_none c.args.s.rule p.1 (λ e. n.0.0.1 (inl e)) (omega arith) (omega arith) (λ e. n.0.0.1 (inr e)))

@@ -1,4 +1,5 @@
 -- `steps::step_sides` meets its contract: in each arm the rule is known, or known to have no sides.
+use native.Mathlib.Omega.{arith}
 use mathlib.Core.Path.{sym}
 use Rattle.logic.specs.Rules.{rule_of, sides_by}
 use Rattle.images.specs.LentReading.{reading_in}
@@ -25,5 +26,4 @@ returns-in-4 c = rw (c.in-4.is, c.bind_sides.ensures)
 
 pub returns-in_default : goal.returns-in_default
 returns-in_default c =
-    let n = c.in_default.rest in
-    sym (no_sides _ _ _ _ n.0.1 n.1)
+    sym (no_sides _ _ _ _ (omega arith) (omega arith))

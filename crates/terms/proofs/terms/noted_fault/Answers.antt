@@ -10,7 +10,7 @@ use Rattle.bundle.proofs.Fields.{terms_length}
 use Rattle.bundle.proofs.Filed.{filed_none}
 use Rattle.bundle.proofs.LinkNotes.{zeros, noted_none, lower_up}
 use Rattle.logic.specs.Checks.{terms_fault}
-use Rattle.logic.proofs.Firsts.{rest_start, rest-on, rest-here, rest_end}
+use Rattle.logic.proofs.Firsts.{rest_start, rest_on, rest_here, rest_end}
 use Rattle.duplicates.specs.Digests.{term_digest}
 use Rattle.sorting.specs.Notes.{SortsFit}
 use Rattle.duplicates.proofs.Digests.{term_filed}
@@ -52,7 +52,7 @@ term_fault-number-requires c =
 
 pub returns-then-number-ne0 : goal.returns-then-number-ne0
 returns-then-number-ne0 c =
-    sym (c.loop-i.invariant.4 ∙ rest-here _ _ _ c.term_fault-number.ensures.0 c.loop-i-test.true c.if-number-ne0.true)
+    sym (c.loop-i.invariant.4 ∙ rest_here _ _ _ c.term_fault-number.ensures.0 c.loop-i-test.true c.if-number-ne0.true)
 
 pub bounds-next-i : goal.bounds-next-i
 bounds-next-i c =
@@ -72,7 +72,7 @@ loop-i-preserved c =
       length-set l.heads d.result l.i ∙ l.invariant.1,
       length-set l.next l.i _ ∙ l.invariant.2,
       term_filed b l.heads l.next l.i d.result l.invariant.0 l.invariant.3 (d.ensures.0 ∙ ap (term_digest b) w.ensures) heads-room next-room,
-      l.invariant.4 ∙ rest-on _ _ _ c.term_fault-number.ensures.0 c.loop-i-test.true none,
+      l.invariant.4 ∙ rest_on _ _ _ c.term_fault-number.ensures.0 c.loop-i-test.true none,
       lower_up c.args.file.now c.args.b (l.i - 1) (l.i + 1 - 1) _ (omega arith) noted.0,
       noted.1,
       search rules,

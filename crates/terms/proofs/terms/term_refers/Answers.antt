@@ -27,8 +27,8 @@ returns-then-is_binder c =
 pub returns-then-kind : goal.returns-then-kind
 unfolding kind_of refers_as passed
 returns-then-kind c =
-    let no-binder = sym c.is_binder.ensures ∙ c.if-is_binder.false in (
-      rw (kind_none c.args.w.kind c.if-kind-eq-VARIABLE.false no-binder c.if-kind.true),
+    let no_binder = sym c.is_binder.ensures ∙ c.if-is_binder.false in (
+      rw (kind_none c.args.w.kind c.if-kind-eq-VARIABLE.false no_binder c.if-kind.true),
       λ e. c.requires.1,
     )
 

@@ -47,7 +47,7 @@ pub returns : goal.returns
 unfolding sorted_as
 returns c =
     let k = c.args.w.kind in
-    let no-binder = sym c.is_binder.ensures ∙ c.if-is_binder.false in (
-      rw (kind_rest k c.if-kind-eq-APPLICATION.false no-binder c.if-kind-eq-LET.false) (nothing_asked (bundle_at c.args.file.now c.args.b) (as_term c.args.w) (eqb k 1)),
+    let no_binder = sym c.is_binder.ensures ∙ c.if-is_binder.false in (
+      rw (kind_rest k c.if-kind-eq-APPLICATION.false no_binder c.if-kind-eq-LET.false) (nothing_asked (bundle_at c.args.file.now c.args.b) (as_term c.args.w) (eqb k 1)),
       λ e. c.requires.2,
     )

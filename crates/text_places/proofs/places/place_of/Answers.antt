@@ -1,5 +1,4 @@
 -- `places::place_of` meets its contract. The invariant: line and start are those of byte j.
-use mathlib.Core.Logic.{⊎_elim}
 use Prim.Native.Nat.{◌-◌}
 use Rattle.text_places.proofs.PlaceLaws.{counted_start, counted_end, counted_on, counted_all}
 use Rattle.text_places.proofs.places.place_of.Goals as goal
@@ -13,7 +12,10 @@ loop-j-preserved c =
     let a = c.args in
     let t = c.loop-j-test.true in
     let e = c.ends_line in
-    elim c.if-ends_line.branch [ then-ends_line w ↦ ? | else-ends_line w ↦ ? ]
+    elim c.if-ends_line.branch [
+      | then-ends_line w ↦ rw (w.line-is, w.start-is) (counted_end a.text.now a.at c.loop-j.line c.loop-j.start c.loop-j.j c.loop-j.invariant t e.result e.ensures w.if-ends_line.true)
+      | else-ends_line w ↦ rw (w.line-is, w.start-is) (counted_on a.text.now a.at c.loop-j.line c.loop-j.start c.loop-j.j c.loop-j.invariant t e.result e.ensures w.if-ends_line.false)
+    ]
 
 pub returns : goal.returns
 returns c =
