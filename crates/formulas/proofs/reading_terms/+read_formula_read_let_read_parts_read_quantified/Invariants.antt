@@ -24,5 +24,4 @@ invariant-read_parts-loop-last l =
     (record { last = l.last; variable = l.variable; end = l.at })
 
 abbrev pub decreases-read_parts-loop-last : goal.decreases-read_parts-loop-last
-decreases-read_parts-loop-last l =
-    length l.text - l.at
+decreases-read_parts-loop-last l = length l.text - l.at

@@ -20,7 +20,8 @@ pub pass_applied-loop-c-init : goal.pass_applied-loop-c-init
 pass_applied-loop-c-init t c = P.applying_first c.args.file.now c.args.text.now c.requires.1 c.past_blanks-at.ensures c.byte_at-c.ensures
 
 pub pass_applied-pass_formula-e-requires : goal.pass_applied-pass_formula-e-requires
-pass_applied-pass_formula-e-requires t c = let v = c.loop-c.invariant in
+pass_applied-pass_formula-e-requires t c =
+    let v = c.loop-c.invariant in
     (omega (arith, c.decreases, v.from, v.asks.here), (c.requires.0, v.asks))
 
 pub pass_applied-shape_of-words-then-e-eq0 : goal.pass_applied-shape_of-words-then-e-eq0
@@ -39,11 +40,13 @@ pub pass_applied-past_blanks-at-requires-in-loop-c : goal.pass_applied-past_blan
 pass_applied-past_blanks-at-requires-in-loop-c t c = (c.pass_formula-e.ensures.1 c.if-e-eq0.false).inside
 
 pub pass_applied-loop-c-smaller : goal.pass_applied-loop-c-smaller
-pass_applied-loop-c-smaller t c = let g = c.pass_formula-e.ensures.1 c.if-e-eq0.false in
+pass_applied-loop-c-smaller t c =
+    let g = c.pass_formula-e.ensures.1 c.if-e-eq0.false in
     omega (arith, g.further, c.past_blanks-at-in-loop-c.ensures.after, c.past_blanks-at-in-loop-c.ensures.inside)
 
 pub pass_applied-loop-c-preserved : goal.pass_applied-loop-c-preserved
-pass_applied-loop-c-preserved t c = let g = c.pass_formula-e.ensures.1 c.if-e-eq0.false in
+pass_applied-loop-c-preserved t c =
+    let g = c.pass_formula-e.ensures.1 c.if-e-eq0.false in
     P.applying_on c.args.file.now c.args.text.now c.loop-c.invariant c.pass_formula-e.ensures.0 g c.past_blanks-at-in-loop-c.ensures c.byte_at-c-in-loop-c.ensures
 
 pub pass_applied-shape_of-words-then-top-height : goal.pass_applied-shape_of-words-then-top-height
@@ -71,13 +74,14 @@ pass_applied-overflow_add-at t c = omega (
 )
 
 pub pass_applied-apply-requires : goal.pass_applied-apply-requires
-pass_applied-apply-requires t c = let v = c.loop-c.invariant in (
-  c.requires.0,
-  v.asks.held,
-  subst (λ (n : ℕ). n ≤ 4294967295) (sym c.equal_on-f.ensures) (P.equal_on_small c.args.symbol c.half-first.result c.requires.2),
-  v.above,
-  v.asks.height,
-)
+pass_applied-apply-requires t c =
+    let v = c.loop-c.invariant in (
+      c.requires.0,
+      v.asks.held,
+      subst (λ (n : ℕ). n ≤ 4294967295) (sym c.equal_on-f.ensures) (P.equal_on_small c.args.symbol c.half-first.result c.requires.2),
+      v.above,
+      v.asks.height,
+    )
 
 pub pass_applied-shape_of-words : goal.pass_applied-shape_of-words
 pass_applied-shape_of-words t c = c.apply.ensures.0 ∙ c.loop-c.invariant.long
@@ -86,10 +90,7 @@ pub pass_applied-returns : goal.pass_applied-returns
 pass_applied-returns t c = (
   c.apply.ensures.0 ∙ c.loop-c.invariant.long,
   λ ne m is. P.applied_gives c.args.file.now c.args.text.now c.args.symbol c.equal_on-f.result c.equal_on-f.ensures c.loop-c.invariant c.loop-c-test.false c.if-top-height.false
-      c.half-first.ensures.0 (omega (
-        arith,
-        c.if-first-gt1.false,
-      ))
+      c.half-first.ensures.0 (omega (arith, c.if-first-gt1.false))
       (c.apply.ensures.1 ne) m is,
 )
 
@@ -108,13 +109,14 @@ pub pass_bound-returns-then-not-is_new : goal.pass_bound-returns-then-not-is_new
 pass_bound-returns-then-not-is_new t c = (refl, λ ne. absurd (ne refl))
 
 pub pass_bound-pass_formula-e-requires : goal.pass_bound-pass_formula-e-requires
-pass_bound-pass_formula-e-requires t c = let x = c.bound_in-x.ensures in (
-  omega (arith, c.decreases, (x.listed c.if-from-eq0.false).0, x.inside),
-  (
-    c.requires.0,
-    P.asks_at c.requires.1 x.inside,
-  ),
-)
+pass_bound-pass_formula-e-requires t c =
+    let x = c.bound_in-x.ensures in (
+      omega (arith, c.decreases, (x.listed c.if-from-eq0.false).0, x.inside),
+      (
+        c.requires.0,
+        P.asks_at c.requires.1 x.inside,
+      ),
+    )
 
 pub pass_bound-shape_of-words-then-e-eq0 : goal.pass_bound-shape_of-words-then-e-eq0
 pass_bound-shape_of-words-then-e-eq0 t c = c.pass_formula-e.ensures.0
@@ -146,7 +148,8 @@ pub pass_bracketed-head_in-head-requires : goal.pass_bracketed-head_in-head-requ
 pass_bracketed-head_in-head-requires t c = (c.requires.0, c.requires.1.here)
 
 pub pass_bracketed-pass_applied-requires : goal.pass_bracketed-pass_applied-requires
-pass_bracketed-pass_applied-requires t c = let h = c.head_in-head.ensures in
+pass_bracketed-pass_applied-requires t c =
+    let h = c.head_in-head.ensures in
     let v = h.symbol c.if-code-eq4.true in
     (omega (arith, c.decreases, v.0, h.inside), (c.requires.0, P.asks_at c.requires.1 h.inside, h.small))
 
@@ -154,15 +157,17 @@ pub pass_bracketed-shape_of-words-then-code-eq4 : goal.pass_bracketed-shape_of-w
 pass_bracketed-shape_of-words-then-code-eq4 t c = c.pass_applied.ensures.0
 
 pub pass_bracketed-returns-then-code-eq4 : goal.pass_bracketed-returns-then-code-eq4
-pass_bracketed-returns-then-code-eq4 t c = let v = c.head_in-head.ensures.symbol c.if-code-eq4.true in (
-  c.pass_applied.ensures.0,
-  λ ne. P.gives_from c.args.file.now c.args.text.now (omega (arith, v.0)) (ap (λ (l :
-      List Lexeme). opens ∷ l) (sym v.1.1))
-      (c.pass_applied.ensures.1 ne v.1.0 v.1.2),
-)
+pass_bracketed-returns-then-code-eq4 t c =
+    let v = c.head_in-head.ensures.symbol c.if-code-eq4.true in (
+      c.pass_applied.ensures.0,
+      λ ne. P.gives_from c.args.file.now c.args.text.now (omega (arith, v.0)) (ap (λ (l :
+          List Lexeme). opens ∷ l) (sym v.1.1))
+          (c.pass_applied.ensures.1 ne v.1.0 v.1.2),
+    )
 
 pub pass_bracketed-pass_quantified-requires : goal.pass_bracketed-pass_quantified-requires
-pass_bracketed-pass_quantified-requires t c = let h = c.head_in-head.ensures in
+pass_bracketed-pass_quantified-requires t c =
+    let h = c.head_in-head.ensures in
     let v = h.binder c.if-code-eq5.true in
     let n = P.binder_number v.1.0 v.1.3 in
     (omega (arith, c.decreases, v.0, h.inside), (c.requires.0, P.asks_at c.requires.1 h.inside, n.0, n.1))
@@ -171,15 +176,17 @@ pub pass_bracketed-shape_of-words-then-code-eq5 : goal.pass_bracketed-shape_of-w
 pass_bracketed-shape_of-words-then-code-eq5 t c = c.pass_quantified.ensures.0
 
 pub pass_bracketed-returns-then-code-eq5 : goal.pass_bracketed-returns-then-code-eq5
-pass_bracketed-returns-then-code-eq5 t c = let v = c.head_in-head.ensures.binder c.if-code-eq5.true in (
-  c.pass_quantified.ensures.0,
-  λ ne. P.quantifier_gives c.args.file.now c.args.text.now (omega
-      (arith, v.0)) v.1.2 v.1.4
-      (c.pass_quantified.ensures.1 ne v.1.0 v.1.3),
-)
+pass_bracketed-returns-then-code-eq5 t c =
+    let v = c.head_in-head.ensures.binder c.if-code-eq5.true in (
+      c.pass_quantified.ensures.0,
+      λ ne. P.quantifier_gives c.args.file.now c.args.text.now (omega
+          (arith, v.0)) v.1.2 v.1.4
+          (c.pass_quantified.ensures.1 ne v.1.0 v.1.3),
+    )
 
 pub pass_bracketed-pass_let-requires : goal.pass_bracketed-pass_let-requires
-pass_bracketed-pass_let-requires t c = let h = c.head_in-head.ensures in
+pass_bracketed-pass_let-requires t c =
+    let h = c.head_in-head.ensures in
     let v = h.letting c.if-code-eq6.true in
     (omega (arith, c.decreases, v.0, h.inside), (c.requires.0, P.asks_at c.requires.1 h.inside))
 
@@ -187,12 +194,13 @@ pub pass_bracketed-shape_of-words-then-code-eq6 : goal.pass_bracketed-shape_of-w
 pass_bracketed-shape_of-words-then-code-eq6 t c = c.pass_let.ensures.0
 
 pub pass_bracketed-returns-then-code-eq6 : goal.pass_bracketed-returns-then-code-eq6
-pass_bracketed-returns-then-code-eq6 t c = let v = c.head_in-head.ensures.letting c.if-code-eq6.true in (
-  c.pass_let.ensures.0,
-  λ ne. P.gives_from c.args.file.now c.args.text.now
-      (omega (arith, v.0)) (ap (λ (l : List Lexeme). opens ∷ l) (sym v.1.1))
-      (c.pass_let.ensures.1 ne v.1.0 v.1.2),
-)
+pass_bracketed-returns-then-code-eq6 t c =
+    let v = c.head_in-head.ensures.letting c.if-code-eq6.true in (
+      c.pass_let.ensures.0,
+      λ ne. P.gives_from c.args.file.now c.args.text.now
+          (omega (arith, v.0)) (ap (λ (l : List Lexeme). opens ∷ l) (sym v.1.1))
+          (c.pass_let.ensures.1 ne v.1.0 v.1.2),
+    )
 
 pub pass_bracketed-returns : goal.pass_bracketed-returns
 pass_bracketed-returns t c = (refl, λ ne. absurd (ne refl))
@@ -206,7 +214,8 @@ pass_formula-overflow_add-i t c = omega (
 )
 
 pub pass_formula-pass_bracketed-requires : goal.pass_formula-pass_bracketed-requires
-pass_formula-pass_bracketed-requires t c = let l = (opens_at c.args.text.now c.args.i (sym c.byte_at-c.ensures ∙ c.if-c-eq40.true)).0 in
+pass_formula-pass_bracketed-requires t c =
+    let l = (opens_at c.args.text.now c.args.i (sym c.byte_at-c.ensures ∙ c.if-c-eq40.true)).0 in
     (omega (arith, c.decreases, l), (c.requires.0, P.asks_at c.requires.1 (omega (arith, l))))
 
 pub pass_formula-shape_of-words-then-c-eq40 : goal.pass_formula-shape_of-words-then-c-eq40
@@ -243,7 +252,8 @@ pub pass_let-loop-c-init : goal.pass_let-loop-c-init
 pass_let-loop-c-init t c = P.letting_first c.args.file.now c.args.text.now c.requires.1 c.past_blanks-at.ensures c.byte_at-c.ensures
 
 pub pass_let-pass_bound-e-requires : goal.pass_let-pass_bound-e-requires
-pass_let-pass_bound-e-requires t c = let v = c.loop-c.invariant in
+pass_let-pass_bound-e-requires t c =
+    let v = c.loop-c.invariant in
     (omega (arith, c.decreases, v.from, v.asks.here), (c.requires.0, v.asks, v.above))
 
 pub pass_let-shape_of-words-then-e-eq0 : goal.pass_let-shape_of-words-then-e-eq0
@@ -262,11 +272,13 @@ pub pass_let-past_blanks-at-requires-in-loop-c : goal.pass_let-past_blanks-at-re
 pass_let-past_blanks-at-requires-in-loop-c t c = (c.pass_bound-e.ensures.1 c.if-e-eq0.false).inside
 
 pub pass_let-loop-c-smaller : goal.pass_let-loop-c-smaller
-pass_let-loop-c-smaller t c = let g = c.pass_bound-e.ensures.1 c.if-e-eq0.false in
+pass_let-loop-c-smaller t c =
+    let g = c.pass_bound-e.ensures.1 c.if-e-eq0.false in
     omega (arith, g.further, c.past_blanks-at-in-loop-c.ensures.after, c.past_blanks-at-in-loop-c.ensures.inside)
 
 pub pass_let-loop-c-preserved : goal.pass_let-loop-c-preserved
-pass_let-loop-c-preserved t c = let g = c.pass_bound-e.ensures.1 c.if-e-eq0.false in
+pass_let-loop-c-preserved t c =
+    let g = c.pass_bound-e.ensures.1 c.if-e-eq0.false in
     P.letting_on c.args.file.now c.args.text.now c.loop-c.invariant c.pass_bound-e.ensures.0 g c.past_blanks-at-in-loop-c.ensures c.byte_at-c-in-loop-c.ensures
 
 pub pass_let-overflow_add-at : goal.pass_let-overflow_add-at
@@ -283,7 +295,8 @@ pass_let-past_blanks-from-requires t c = omega (
 )
 
 pub pass_let-pass_formula-e-requires : goal.pass_let-pass_formula-e-requires
-pass_let-pass_formula-e-requires t c = let v = c.loop-c.invariant in
+pass_let-pass_formula-e-requires t c =
+    let v = c.loop-c.invariant in
     let b = c.past_blanks-from.ensures in
     (omega (arith, c.decreases, v.from, b.after, b.inside), (c.requires.0, P.asks_at v.asks b.inside))
 
@@ -297,7 +310,8 @@ pass_let-returns-then-e-eq0-2 t c = (
 )
 
 pub pass_let-place_named-requires : goal.pass_let-place_named-requires
-pass_let-place_named-requires t c = let v = c.loop-c.invariant in
+pass_let-place_named-requires t c =
+    let v = c.loop-c.invariant in
     let g = c.pass_formula-e.ensures.1 c.if-e-eq0-2.false in (
       c.requires.0,
       (λ ne. g.put.held),
@@ -333,13 +347,14 @@ pass_quantified-past_blanks-from-requires t c = omega (
 )
 
 pub pass_quantified-pass_formula-body-requires : goal.pass_quantified-pass_formula-body-requires
-pass_quantified-pass_formula-body-requires t c = let b = c.past_blanks-from.ensures in (
-  omega (arith, c.decreases, c.past_blanks-at.ensures.after, b.after, b.inside),
-  (
-    c.requires.0,
-    P.asks_at c.requires.1 b.inside,
-  ),
-)
+pass_quantified-pass_formula-body-requires t c =
+    let b = c.past_blanks-from.ensures in (
+      omega (arith, c.decreases, c.past_blanks-at.ensures.after, b.after, b.inside),
+      (
+        c.requires.0,
+        P.asks_at c.requires.1 b.inside,
+      ),
+    )
 
 pub pass_quantified-closed_truth-requires : goal.pass_quantified-closed_truth-requires
 pass_quantified-closed_truth-requires t c = P.within_or c.pass_formula-body.result _ (λ ne. (c.pass_formula-body.ensures.1 ne).inside)
@@ -370,30 +385,32 @@ pub pass_quantified-returns-then-after-eq0 : goal.pass_quantified-returns-then-a
 pass_quantified-returns-then-after-eq0 t c = (refl, λ ne. absurd (ne refl))
 
 pub pass_quantified-pass_quantified-body-requires : goal.pass_quantified-pass_quantified-body-requires
-pass_quantified-pass_quantified-body-requires t c = let x = c.sorted_in-x.ensures.listed in (
-  omega (
-    arith,
-    c.decreases,
-    c.past_blanks-at.ensures.after,
-    (x.listed c.if-after-eq0.false).0,
-    x.inside,
-  ),
-  (
-    c.requires.0,
-    P.asks_at c.requires.1 x.inside,
-    c.requires.2,
-    c.requires.3,
-  ),
-)
+pass_quantified-pass_quantified-body-requires t c =
+    let x = c.sorted_in-x.ensures.listed in (
+      omega (
+        arith,
+        c.decreases,
+        c.past_blanks-at.ensures.after,
+        (x.listed c.if-after-eq0.false).0,
+        x.inside,
+      ),
+      (
+        c.requires.0,
+        P.asks_at c.requires.1 x.inside,
+        c.requires.2,
+        c.requires.3,
+      ),
+    )
 
 pub pass_quantified-place_bound-requires : goal.pass_quantified-place_bound-requires
-pass_quantified-place_bound-requires t c = let z = kind_binder c.args.kind c.requires.2 in (
-  c.requires.0,
-  (λ ne. (c.pass_quantified-body.ensures.1 ne z.0 z.1).put.held),
-  c.requires.2,
-  c.requires.3,
-  c.sorted_in-x.ensures.listed.small,
-)
+pass_quantified-place_bound-requires t c =
+    let z = kind_binder c.args.kind c.requires.2 in (
+      c.requires.0,
+      (λ ne. (c.pass_quantified-body.ensures.1 ne z.0 z.1).put.held),
+      c.requires.2,
+      c.requires.3,
+      c.sorted_in-x.ensures.listed.small,
+    )
 
 pub pass_quantified-shape_of-words : goal.pass_quantified-shape_of-words
 pass_quantified-shape_of-words t c = c.place_bound.ensures.0 ∙ c.pass_quantified-body.ensures.0
