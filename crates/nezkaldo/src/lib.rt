@@ -1,4 +1,4 @@
-// The library for other languages: `rt staticlib nezkaldo` writes target/staticlib/libnezkaldo.a; include/nezkaldo.h declares it for C.
+// The calls of the library for other languages, whose answers are one number each: crate nezkaldo_c exports them to C.
 #![tactic(auto)]
 
 ghost use Rattle.std.specs.Prelude.{◌≡◌, ◌+◌, ◌*◌, ◌≤◌, length};
@@ -19,8 +19,7 @@ fn pack(number: usize, place: usize) -> u64
 
 // Checks a file: the number of pairs of the last REFL walked, less than 2^32, where it is accepted, else number · 2^32 + record of the first check that
 // fails. The lent area then holds the free sets of the file's terms and zeros after them, or zeros.
-#[unsafe(no_mangle)]
-pub extern "C" fn nezkaldo_check(file: &[u8], free: &mut [u64]) -> u64
+pub fn nezkaldo_check(file: &[u8], free: &mut [u64]) -> u64
     ensures value { result ≡ packed (judge file.now (length free.old)) }
     ensures free_after { free.new ≡ area_after file.now (length free.old) }
 {
@@ -44,13 +43,7 @@ fn reply_number(reply: expansion::Answer) -> u64
 
 // Expands the lets of a job's rule: the file's length where it is written at the start of the output, else number · 2^32 + record of the first check that
 // fails. The scratch ends zero, and so do the bytes after the file; where the job is refused, all of the output.
-#[unsafe(no_mangle)]
-pub extern "C" fn nezkaldo_expand(
-    job: &[u8],
-    out: &mut [u8],
-    words: &mut [u32],
-    sets: &mut [u64],
-) -> u64
+pub fn nezkaldo_expand(job: &[u8], out: &mut [u8], words: &mut [u32], sets: &mut [u64]) -> u64
     ensures value { result ≡ packed_reply
         (expansion job.now (length out.old) (length words.old) (length sets.old)).answer }
     ensures out_after { out.new ≡ (expansion job.now (length out.old) (length words.old) (length sets.old)).out }
@@ -66,8 +59,7 @@ pub extern "C" fn nezkaldo_expand(
 // Reads a formula text beside declarations: the job's length where it is written at the start of the output, else number · 2^32 + record, or byte, of
 // what refuses them first. A byte of 2^32 or more is added as it stands. The scratch ends zero, and so do the bytes after the job; where the
 // declarations or the text are refused, all of the output.
-#[unsafe(no_mangle)]
-pub extern "C" fn nezkaldo_read(
+pub fn nezkaldo_read(
     declarations: &[u8],
     text: &[u8],
     out: &mut [u8],

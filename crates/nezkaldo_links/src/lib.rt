@@ -1,6 +1,5 @@
-// How many links the test of a CONG step reads (document 02, Req 03), for other languages: `rt staticlib nezkaldo_links` writes
-// target/staticlib/libnezkaldo_links.a; include/nezkaldo_links.h declares it for C. The call is in a library of its own: in the checker's, a second caller of
-// the walk would keep the compiler from putting it where steps are judged, and every check would be slower.
+// How many links the test of a CONG step reads, as one number for other languages: crate nezkaldo_links_c exports it to C. The call is in a library of its
+// own: in the checker's, a second caller of the walk would keep the compiler from putting it where steps are judged, and every check would be slower.
 #![tactic(auto)]
 
 ghost use Rattle.std.specs.Prelude.{◌≡◌, ◌≤◌};
@@ -27,8 +26,7 @@ fn walk_number(w: Walk) -> u64
 
 // The links that the test of a CONG step reads where it passes; 13 · 2^32 more than that where it fails. 12 · 2^32 for a number that is no CONG step's,
 // and n · 2^32 for a file whose header fails check n, of 1 to 3.
-#[unsafe(no_mangle)]
-pub extern "C" fn nezkaldo_links(file: &[u8], step: usize) -> u64
+pub fn nezkaldo_links(file: &[u8], step: usize) -> u64
     ensures { result ≡ links_number file.now step }
 {
     let number = header_fault(file, 0, 0);

@@ -4,6 +4,12 @@
 
 use bundle::Bundle;
 use expansion::Answer;
+use std::env::FillError;
+use std::fmt::InlineText;
+use std::fs::File;
+use std::io::Error;
+use std::os::fd::AsRawFd;
+use std::rt::{Env, Files};
 
 // The longest text; an area of one byte more shows whether a text is longer.
 const LONGEST: usize = 1048576;
@@ -42,20 +48,51 @@ fn read_input(declarations: &[u8]) {
     read_text(declarations, &text[..n]);
 }
 
-fn main() {
-    let mut path = io::buffer();
-    let length = os::arg(1, &mut path);
-    if os::errno() != 0 {
-        os::fail(b"read: the name of the file with the declarations");
-        return;
+// A line on standard error: what cannot be read, and why.
+fn complain(what: &[u8], why: &str) {
+    io::write_all(2, what);
+    io::write_all(2, b": ");
+    io::write_all(2, why.as_bytes());
+    io::write_all(2, b"\n");
+}
+
+// The system's own words for an error, to which std adds its number.
+fn complain_of(what: &[u8], error: Error) {
+    let said = InlineText::<128>::of(error);
+    let text = said.as_str();
+    match text.split_once(" (os error ") {
+        Some((words, _)) => complain(what, words),
+        None => complain(what, text),
     }
-    let file = os::open_read(&path[..length]);
-    if file < 0 {
-        os::fail(&path[..length]);
-        return;
-    }
+}
+
+// The file is closed before the text is read.
+fn read_declarations(file: File) {
     let mut declarations = io::large_buffer();
-    let n = io::read_full(file, &mut declarations);
-    libc::close(file);
+    let n = io::read_full(file.as_raw_fd(), &mut declarations);
+    drop(file);
     read_input(&declarations[..n]);
+}
+
+fn read_named(rt: &impl Files<File = File>, name: &[u8]) {
+    let Ok(text) = str::from_utf8(name) else {
+        complain(name, "the name is not UTF-8");
+        return;
+    };
+    match File::open(rt, text) {
+        Ok(file) => read_declarations(file),
+        Err(error) => complain_of(name, error),
+    }
+}
+
+// What is missing where there is no argument.
+const NAME: &[u8] = b"read: the name of the file with the declarations";
+
+fn main(rt: HostRuntime) {
+    let mut name = io::buffer();
+    match rt.arg(1, &mut name) {
+        Ok(length) => read_named(&rt, &name[..length]),
+        Err(FillError::NotPresent) => complain(NAME, "Invalid argument"),
+        Err(FillError::TooLong) => complain(NAME, "File name too long"),
+    }
 }

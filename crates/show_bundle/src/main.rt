@@ -8,6 +8,7 @@ use bundle::Bundle;
 use bundle::words::{claim_left, claim_right, counts};
 use judgement::Answer;
 use show_text::out;
+use std::rt::Env;
 
 // A line of the graph's text that is not the graph's is a comment.
 fn line_start(is_dot: bool) {
@@ -176,29 +177,13 @@ fn show_rule(file: &[u8], refusal: usize) {
     print_left(file, b, left);
 }
 
-// Whether the first argument is --dot.
-fn wants_dot() -> bool {
+// Whether the first argument is this one, of at most 8 bytes.
+fn has_argument(env: &impl Env, option: &[u8]) -> bool {
     let mut word = [0u8; 8];
-    let n = os::arg(1, &mut word);
-    (n == 5)
-        & (word[0] == b'-')
-        & (word[1] == b'-')
-        & (word[2] == b'd')
-        & (word[3] == b'o')
-        & (word[4] == b't')
-}
-
-// Whether it is --rule.
-fn wants_rule() -> bool {
-    let mut word = [0u8; 8];
-    let n = os::arg(1, &mut word);
-    (n == 6)
-        & (word[0] == b'-')
-        & (word[1] == b'-')
-        & (word[2] == b'r')
-        & (word[3] == b'u')
-        & (word[4] == b'l')
-        & (word[5] == b'e')
+    match env.arg(1, &mut word) {
+        Ok(n) => &word[..n] == option,
+        Err(_) => false,
+    }
 }
 
 fn graph_start(is_dot: bool) {
@@ -213,16 +198,16 @@ fn graph_end(is_dot: bool) {
     }
 }
 
-fn main() {
+fn main(rt: HostRuntime) {
     let mut input = io::large_buffer();
     let n = io::read_full(0, &mut input);
     let mut free = [0u64; Bundle::SET_WORDS * Bundle::TERMS];
     let answer = checker::check(&input[..n], &mut free);
-    if wants_rule() {
+    if has_argument(&rt, b"--rule") {
         show_rule(&input[..n], refusal_of(answer));
         return;
     }
-    let is_dot = wants_dot();
+    let is_dot = has_argument(&rt, b"--dot");
     graph_start(is_dot);
     show_file(&input[..n], answer, is_dot);
     graph_end(is_dot);
