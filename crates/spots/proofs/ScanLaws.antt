@@ -33,7 +33,7 @@ use Rattle.spots.proofs.PopLaws.{stands_sound}
 
 letter_of : (letter low high : ℕ) (w : List ℕ) → 1 ≤ low → ltb 0 (number_within letter low high w) ≡ true → get_or w 0 0 ≡ letter
 unfolding number_within number_after
-letter_of letter low high [] l h = absurd (false≢true (rw (borrow.Author.Tests.lt_leb low 0 (omega arith)) at h))
+letter_of letter low high [] l h = absurd (false≢true (rw (borrow.Author.Tests.lt-leb low 0 (omega arith)) at h))
 letter_of letter low high (c ∷ cs) l h = go (eqb c letter) refl h
   where
     go : (b : Bool) → eqb c letter ≡ b
@@ -41,7 +41,7 @@ letter_of letter low high (c ∷ cs) l h = go (eqb c letter) refl h
         (cond (b && is_numeral cs) (decimal 0 cs) 0) 0) ≡ true
         → c ≡ letter
     go true e h = eqb-true c letter e
-    go false e h = absurd (false≢true (rw (borrow.Author.Tests.lt_leb low 0 (omega arith)) at h))
+    go false e h = absurd (false≢true (rw (borrow.Author.Tests.lt-leb low 0 (omega arith)) at h))
 
 pub lettered : (symbols variables : ℕ) → Lettered (declared_by symbols variables)
 unfolding declared_by known_among

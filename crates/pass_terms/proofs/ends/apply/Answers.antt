@@ -18,7 +18,7 @@ signature_of-s-requires c = (whole_as _ c.counts-b.ensures c.requires.0).within.
 
 pub takes-requires : goal.takes-requires
 takes-requires c =
-    (whole_as _ c.counts-b.ensures c.requires.0, omega arith, omega (arith, c.requires.3, c.requires.4, c.requires.5))
+    (whole_as _ c.counts-b.ensures c.requires.0, omega arith, omega (arith, c.requires.3, c.requires.4))
 
 pub returns-then-not-takes : goal.returns-then-not-takes
 returns-then-not-takes c = (refl, λ ne. absurd (ne refl))
@@ -33,7 +33,7 @@ place_application-p-requires c =
       ready_by a.file.now a.words.now a.counts.now e c.requires.1,
       c.requires.2,
       c.requires.3,
-      omega (arith, c.requires.4, c.requires.5),
+      omega (arith, c.requires.4),
       indexed_by a.file.now a.words.now a.counts.now e c.requires.1,
     )
 
