@@ -2,11 +2,10 @@
 use mathlib.Core.Path.{refl, sym, ◌∙◌}
 use mathlib.Core.Logic.{inl, inr}
 use Prim.Native.Nat.{◌-◌}
-use Rattle.logic.proofs.Exactly.{not_true_exactly}
 use Rattle.show_rules.proofs.strays.stray_in.Goals as goal
 
 pub returns-then-not-mentions : goal.returns-then-not-mentions
-returns-then-not-mentions c = inr (sym c.is_free.ensures ∙ c.if-is_free.true, c.mentions.ensures ((not_true_exactly _).0 c.if-not-mentions.true))
+returns-then-not-mentions c = inr (sym c.is_free.ensures ∙ c.if-is_free.true, c.mentions.ensures c.if-not-mentions.true)
 
 pub returns : goal.returns
 returns c = inl refl
