@@ -1,6 +1,6 @@
 /* Nezkaldo: a proved checker of rewriting derivations, a proved writer of them, and a proved reader of typed rules.
  *
- * Link with target/staticlib/libnezkaldo.a (built by `rt staticlib nezkaldo`, x86-64 Linux).
+ * Link with target/staticlib/libnezkaldo.a (built by `./build nezkaldo`, x86-64 Linux).
  * The calls allocate nothing, keep no state and may run in several threads at once on areas of their own. */
 #ifndef NEZKALDO_H
 #define NEZKALDO_H

@@ -1,6 +1,6 @@
 /* Nezkaldo: how many links of a file the test of a CONG step reads (document 02, Req 03).
  *
- * Link with target/staticlib/libnezkaldo_links.a (built by `rt staticlib nezkaldo_links`, x86-64 Linux). It stands beside libnezkaldo.a and needs nothing of
+ * Link with target/staticlib/libnezkaldo_links.a (built by `./build nezkaldo_links`, x86-64 Linux). It stands beside libnezkaldo.a and needs nothing of
  * it; both may be linked into one program. The call allocates nothing, keeps no state and may run in several threads at once. */
 #ifndef NEZKALDO_LINKS_H
 #define NEZKALDO_LINKS_H

@@ -195,7 +195,7 @@ fn run_compare(arguments: &Arguments) -> Result<ExitCode, String> {
 /// The library, or what to do where it is not there.
 fn library() -> Result<Library, String> {
     ffi::library().ok_or_else(|| {
-        "there is no proved library in this build. Run `rt staticlib nezkaldo` and `rt staticlib \
+        "there is no proved library in this build. Run `./build nezkaldo` and `./build \
          nezkaldo_links` in the repository's root, or set NEZKALDO_LIB_DIR to the folder of \
          libnezkaldo.a and libnezkaldo_links.a, and build again; or compare with --self."
             .into()

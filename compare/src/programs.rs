@@ -13,7 +13,7 @@ pub type Program<'a> = &'a dyn Fn(&[u8]) -> io::Result<Output>;
 /// What it leaves for declarations and a text.
 pub type TextProgram<'a> = &'a dyn Fn(&[u8], &[u8]) -> io::Result<Output>;
 
-/// Where `rt check` puts the programs.
+/// Where `./build` puts the programs.
 pub const FOLDER: &str = concat!(env!("CARGO_MANIFEST_DIR"), "/../target/bin");
 /// The crates of the programs check, expand and read.
 pub const CHECK: &str = "check_bundle";
@@ -44,7 +44,7 @@ pub fn text_program(
 fn place(folder: &Path, name: &str) -> Result<PathBuf, String> {
     folder.join(name).canonicalize().map_err(|error| {
         format!(
-            "there is no program {name} in {} ({error}). Run `rt check {name}` in the \
+            "there is no program {name} in {} ({error}). Run `./build {name}` in the \
              repository's root, or name its folder with --programs; or compare with --self.",
             folder.display()
         )
