@@ -206,7 +206,7 @@ fn read_gets_declarations_and_text() {
         assert!(said_of_read(&other).is_some(), "{name}");
     }
     let missing = programs::text_program(Path::new("/nowhere"), programs::READ).err().unwrap();
-    assert!(missing.contains("rt check read_text"), "{missing}");
+    assert!(missing.contains("./build read_text"), "{missing}");
 }
 
 /// A text that is too long for the program is not given to it.
@@ -240,7 +240,7 @@ fn other_programs_are_noticed() {
     let gone = |_: &[u8]| Err(ErrorKind::NotFound.into());
     assert!(said_of_check(&gone).unwrap().contains("cannot be run"));
     let missing = programs::program(Path::new("/nowhere"), programs::CHECK).err().unwrap();
-    assert!(missing.contains("rt check check_bundle"), "{missing}");
+    assert!(missing.contains("./build check_bundle"), "{missing}");
 }
 
 /// Input and output that are longer than a pipe holds.
