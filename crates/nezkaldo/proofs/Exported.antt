@@ -3,6 +3,7 @@
 --     tells_one                     each number from 2^32 on tells of exactly one number and record
 --     check_number                  what `nezkaldo_check` answers
 --     file_short                    a file that is written has at most 58,916 bytes
+--     written_word                  the number of a file that is written is its length
 --     expand_number                 what `nezkaldo_expand` answers
 --     read_number                   what `nezkaldo_read` answers
 --     expand_fits, read_fits        both answers fit a word of 64 bits
@@ -111,6 +112,10 @@ file_short f out words sets n e =
     let same : n ≡ length (file_of (expanded (bundle_of f))) = cc in
     omega arith
 
+written_word : (n : ℕ) → packed_reply (Written n) ≡ n
+unfolding packed_reply
+written_word n = refl
+
 pub expand_number : ExpandNumber
 unfolding packed_reply header_words
 expand_number f out words sets = go (expansion f out words sets).answer refl
@@ -119,7 +124,7 @@ expand_number f out words sets = go (expansion f out words sets).answer refl
     go (Written p) e =
         let short : p ≤ bytes_of limits = file_short f out words sets p e in
         record {
-          written = (λ l. (written_exactly f out words sets).0 (p, e), λ h. omega arith);
+          written = (λ l. (written_exactly f out words sets).0 (p, e), λ h. omega (arith, written_word p));
           long = λ l. (e, short);
           refused = λ n i. (
             λ t. absurd (omega (arith, t.number, t.sum)),
@@ -157,7 +162,7 @@ read_number f text out words sets short = go (reading f text out words sets).ans
     go (Written p) e =
         let low : p ≤ bytes_of limits = job_short f text out words sets p e in
         record {
-          written = (λ l. (read_exactly f text out words sets).0 (p, e), λ h. omega arith);
+          written = (λ l. (read_exactly f text out words sets).0 (p, e), λ h. omega (arith, written_word p));
           long = λ l. (e, low);
           refused = λ n i. (
             λ t. absurd (omega (arith, t.number, t.sum)),
@@ -191,7 +196,7 @@ read_number f text out words sets short = go (reading f text out words sets).ans
 fits_word : (a : Reply) → ((n : ℕ) → a ≡ Written n → n ≤ bytes_of limits) → ((n i : ℕ) → a ≡ Denied n i → (n ≤ last_number) × (i ≤ 9223372036854775807))
     → packed_reply a ≤ 18446744073709551615
 unfolding packed_reply header_words
-fits_word (Written n) short small = omega (arith, short n refl)
+fits_word (Written n) short small = omega (arith, short n refl, written_word n)
 fits_word (Denied n i) short small = omega (arith, (small n i refl).0, (small n i refl).1)
 
 pub expand_fits : (f : List ℕ) (out words sets : ℕ) → packed_reply (expansion f out words sets).answer ≤ 18446744073709551615
@@ -223,7 +228,7 @@ zeros_by o out words sets out' words' sets' r zeros short some left = go o.answe
   where
     go : (a : Reply) → o.answer ≡ a → Zeros out words sets out' words' sets' r
     go (Written n) e =
-        let same : r ≡ n = left.answer ∙ ap packed_reply e in
+        let same : r ≡ n = left.answer ∙ ap packed_reply e ∙ written_word n in
         let low : n < 4294967296 = short n e in
         record {
           scratch = left.scratch ∙ zeros.scratch;
