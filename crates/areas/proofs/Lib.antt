@@ -1,3 +1,3 @@
--- Laws that the functions' proofs share. Each file stands on those above it.
---     Zeros   zeros written into an area one by one
+-- Laws that the functions' proofs share.
+--     Zeros   zeros in the lent areas
 pub mod Zeros

@@ -1,7 +1,7 @@
 // Lent areas: how many are long enough, zeros, and how every call leaves them.
 #![tactic(auto)]
 
-ghost use Rattle.std.specs.Prelude.{◌≡◌, true, false, ◌++◌, ◌-◌, ◌≤◌, length, take, replicate};
+ghost use Rattle.std.specs.Prelude.{◌≡◌, ◌++◌, ◌-◌, ◌≤◌, length, take, replicate};
 ghost use Rattle.expansion.specs.Expansion.{long_enough};
 ghost use Rattle.expansion.specs.AreasAfter.{kept, Zeroed};
 
@@ -11,30 +11,20 @@ use expansion::Answer;
 // Words of 64 bits for the stack: as many as the free sets of all terms may take.
 const STACK: usize = Bundle::SET_WORDS * Bundle::TERMS;
 
-fn one(p: bool) -> usize
-    ensures { (result ≤ 1) × (p ≡ true → result ≡ 1) × (p ≡ false → result ≡ 0) }
-{
-    if p { 1 } else { 0 }
-}
-
 // How many of the three areas are long enough.
 pub fn long_enough(out: usize, words: usize, sets: usize) -> usize
     ensures { result ≡ long_enough out words sets }
 {
-    let output = one(Bundle::BYTES <= out);
-    let scratch = one(Bundle::WORDS <= words);
-    let stack = one(STACK <= sets);
+    let output = usize::from(Bundle::BYTES <= out);
+    let scratch = usize::from(Bundle::WORDS <= words);
+    let stack = usize::from(STACK <= sets);
     output + scratch + stack
 }
 
 pub fn zero_words(words: &mut [u32])
     ensures { words.new ≡ replicate (length words.old) 0 }
 {
-    let mut i = 0;
-    while i < words.len() {
-        words[i] = 0;
-        i += 1;
-    }
+    words.fill(0);
 }
 
 // Zeros from place `from` on.
@@ -42,11 +32,7 @@ pub fn zero_bytes(out: &mut [u8], from: usize)
     requires { from ≤ length out.old }
     ensures { out.new ≡ take from out.old ++ replicate (length out.old - from) 0 }
 {
-    let mut i = from;
-    while i < out.len() {
-        out[i] = 0;
-        i += 1;
-    }
+    out[from..].fill(0);
 }
 
 // The end of every call that writes a file: zeros after the file, or in all of the output where there is none, and in the scratch and the stack.

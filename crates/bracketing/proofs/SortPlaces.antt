@@ -1,4 +1,5 @@
 -- The sort of the formula at a place of a text.
+--     among_small                                         a variable is one of those that there are
 --     variable_is, symbol_is, signature_is                what a name names, by the counts
 --     result_named, sort_none, sort_some                  the sorts of a head and of a word alone, as code finds them
 --     none_here, name_at_lem                                  the name that a found lexeme is
@@ -8,22 +9,20 @@
 use Prim.Native.Nat.{ℕ, zero, suc, ◌≤◌, ◌<◌}
 use native.Mathlib.Omega.{arith}
 use mathlib.Core.Path.{◌≡◌, refl, sym, ap, ◌∙◌}
-use mathlib.Core.Bool.{Bool, true, false, cond, false≢true}
+use mathlib.Core.Bool.{Bool, true, false, cond, ◌&&◌, false≢true}
 use mathlib.Core.List.{List, []}
 use lib.ListN.{length}
-use borrow.Author.Tests.{ne_eqb}
-use Rattle.bundle.specs.declared.Bundle.{Bundle as Counts}
+use lib.Dec.{leb}
+use borrow.Author.Tests.{ne_eqb, leb-true}
 use Rattle.bundle.specs.Bundle.{Bundle, sort_of_variable}
 use Rattle.bundle.specs.Lists.{same_list}
-use Rattle.bundle.specs.File.{bundle_at}
-use Rattle.bundle.proofs.Fields.{symbols_length, variables_length}
 use Rattle.logic.specs.declared.Signature.{Signature}
 use Rattle.logic.specs.Symbols.{symbol_kind, kind_of_symbol, signature, signature_of, result_sort}
 use Rattle.grammar.specs.Bytes.{Word, constant, negation, connective, quantifier, letting, sort, name, bytes, twelve, word_among, word_of}
-use Rattle.logic.proofs.Tests.{same_list_lem}
+use Rattle.logic.proofs.Tests.{same_list_lem, and_right}
 use Rattle.grammar.proofs.Words.{among}
 use Rattle.lexing.specs.Codes.{word_code}
-use Rattle.lexing.specs.Counted.{variable_among, symbol_among}
+use Rattle.lexing.specs.Counted.{number_within, variable_among, symbol_among}
 use Rattle.lexing.specs.Lexes.{part, lexemes_at, Lexes}
 use Rattle.lexing.specs.declared.lexemes.Lexed.{Lexed}
 use Rattle.lexing.proofs.NumeralLaws.{counts_suffice}
@@ -38,42 +37,54 @@ use Rattle.bracketing.proofs.Fronts.{name_of_lem, Front, front, over, opening, c
 
 -- ---- what a name names
 
-module _ (f : List ℕ) (c : Counts) where
-  pub variable_is : (w : List ℕ) → variable_among c.variables w ≡ variable_called (bundle_at f c) w
-  variable_is w = sym ((counts_suffice (bundle_at f c) w).variable ∙ ap (λ (n : ℕ). variable_among n w) (variables_length f c))
+-- a variable is one of those that there are
+pub among_small : (variables : ℕ) (w : List ℕ) {x m : ℕ} → x ≡ variable_among variables w → variables ≤ m → x ≤ m
+unfolding number_within
+among_small variables w {x} {m} e l = rw e (go (leb 1 n && leb n variables) refl)
+  where
+    n : ℕ
+    n = number_after 118 w
 
-  pub symbol_is : (w : List ℕ) → symbol_among c.symbols w ≡ symbol_called (bundle_at f c) w
-  symbol_is w = sym ((counts_suffice (bundle_at f c) w).symbol ∙ ap (λ (n : ℕ). symbol_among n w) (symbols_length f c))
+    go : (p : Bool) → (leb 1 n && leb n variables) ≡ p → cond p n 0 ≤ m
+    go true e = omega (arith, leb-true n variables (and_right (leb 1 n) (leb n variables) e))
+    go false e = omega arith
 
-  pub signature_is : (x : ℕ) → signature (symbol_kind c.symbols x) ≡ signature_of (bundle_at f c) x
+module _ (b : Bundle) where
+  pub variable_is : (w : List ℕ) → variable_among (length b.variables) w ≡ variable_called b w
+  variable_is w = sym (counts_suffice b w).variable
+
+  pub symbol_is : (w : List ℕ) → symbol_among (length b.symbols) w ≡ symbol_called b w
+  symbol_is w = sym (counts_suffice b w).symbol
+
+  pub signature_is : (x : ℕ) → signature (symbol_kind (length b.symbols) x) ≡ signature_of b x
   unfolding signature_of kind_of_symbol
-  signature_is x = ap (λ (n : ℕ). signature (symbol_kind n x)) (sym (symbols_length f c))
+  signature_is x = refl
 
   -- the sort of a bracket with a head that is no let, and of a word alone
-  pub result_named : (w : List ℕ) (x : ℕ) (s : Signature) (r : ℕ) → x ≡ symbol_among c.symbols w → s ≡ signature (symbol_kind c.symbols x)
-      → r ≡ result_sort (bundle_at f c) s → r ≡ named_result (bundle_at f c) w
+  pub result_named : (w : List ℕ) (x : ℕ) (s : Signature) (r : ℕ) → x ≡ symbol_among (length b.symbols) w → s ≡ signature (symbol_kind (length b.symbols) x)
+      → r ≡ result_sort b s → r ≡ named_result b w
   unfolding named_result
   result_named w x s r e d g =
-      g ∙ ap (result_sort (bundle_at f c)) (d ∙ (signature_is x ∙ ap (signature_of (bundle_at f c)) (e ∙ symbol_is w)))
+      g ∙ ap (result_sort b) (d ∙ (signature_is x ∙ ap (signature_of b) (e ∙ symbol_is w)))
 
-  alone_none : (x y r : ℕ) → x ≡ 0 → r ≡ result_sort (bundle_at f c) (signature_of (bundle_at f c) y) → r ≡ alone_sort (bundle_at f c) x y
+  alone_none : (x y r : ℕ) → x ≡ 0 → r ≡ result_sort b (signature_of b y) → r ≡ alone_sort b x y
   unfolding alone_sort
   alone_none x y r z e = rw z e
 
-  alone_some : (x y r : ℕ) → (x ≡ 0 → ⊥) → r ≡ sort_of_variable (bundle_at f c) x → r ≡ alone_sort (bundle_at f c) x y
+  alone_some : (x y r : ℕ) → (x ≡ 0 → ⊥) → r ≡ sort_of_variable b x → r ≡ alone_sort b x y
   unfolding alone_sort
   alone_some zero y r nz e = absurd (nz refl)
   alone_some (suc x) y r nz e = e
 
-  pub sort_none : (w : List ℕ) (x r : ℕ) → x ≡ variable_among c.variables w → x ≡ 0 → r ≡ named_result (bundle_at f c) w → r ≡ named_sort (bundle_at f c) w
+  pub sort_none : (w : List ℕ) (x r : ℕ) → x ≡ variable_among (length b.variables) w → x ≡ 0 → r ≡ named_result b w → r ≡ named_sort b w
   unfolding named_result named_sort
   sort_none w x r e z g = alone_none _ _ r (sym (variable_is w) ∙ (sym e ∙ z)) g
 
-  pub sort_some : (w : List ℕ) (x r : ℕ) → x ≡ variable_among c.variables w → (x ≡ 0 → ⊥) → r ≡ sort_of_variable (bundle_at f c) x
-      → r ≡ named_sort (bundle_at f c) w
+  pub sort_some : (w : List ℕ) (x r : ℕ) → x ≡ variable_among (length b.variables) w → (x ≡ 0 → ⊥) → r ≡ sort_of_variable b x
+      → r ≡ named_sort b w
   unfolding named_sort
   sort_some w x r e nz g =
-      alone_some _ _ r (λ z. nz (e ∙ (variable_is w ∙ z))) (g ∙ ap (λ (v : ℕ). sort_of_variable (bundle_at f c) v) (e ∙ variable_is w))
+      alone_some _ _ r (λ z. nz (e ∙ (variable_is w ∙ z))) (g ∙ ap (λ (v : ℕ). sort_of_variable b v) (e ∙ variable_is w))
 
 module _ (text : List ℕ) (l : Lexed) where
   pub none_here : (l.code ≡ 9 → ⊥) → name_here text l ≡ []

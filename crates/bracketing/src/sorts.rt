@@ -1,7 +1,6 @@
 // What a lexeme names, and the sort of the formula at a place.
 ghost use Rattle.std.specs.Prelude.{◌≡◌, ◌≤◌, length};
-ghost use Rattle.bundle.specs.Limits.{Within};
-ghost use Rattle.bundle.specs.File.{Whole, bundle_at};
+ghost use Rattle.bundle.specs.Limits.{limits};
 ghost use Rattle.lexing.specs.Counted.{variable_among, symbol_among};
 ghost use Rattle.lexing.specs.Lexes.{lexemes_at};
 ghost use Rattle.bracketing.specs.Places.{Lies, name_here, named_sort, named_result};
@@ -10,46 +9,46 @@ ghost use Rattle.bracketing.specs.Nodes.{name_in, sort_in, sort_from};
 
 use super::brackets::{after_formula, after_lexeme};
 use bundle::Bundle;
-use bundle::records::variable_sort;
 use lexing::lexemes::{Lexed, next_lexeme};
 use lexing::names::{symbol_called, variable_called};
 use lexing::runs::is_word;
 use sorting::sorts::{result_sort, signature_of};
 
 // The variable that a lexeme names, 0 for none.
-pub fn variable_here(b: Bundle, text: &[u8], l: Lexed) -> usize
-    requires { Within b × Lies text.now l }
-    ensures { result ≡ variable_among b.variables (name_here text.now l) }
+pub fn variable_here(bundle: &Bundle, text: &[u8], l: Lexed) -> usize
+    requires { Lies text.now l }
+    ensures { (result ≡ variable_among (length bundle.now.variables) (name_here text.now l)) × (result ≤ limits.variables) }
 {
     let start = l.start;
     let end = l.end;
     if l.code != 9 {
         return 0;
     }
-    variable_called(b.variables, &text[start..end])
+    variable_called(bundle.variables(), &text[start..end])
 }
 
 // The symbol that a lexeme names, 0 for none.
-pub fn symbol_here(b: Bundle, text: &[u8], l: Lexed) -> usize
-    requires { Within b × Lies text.now l }
-    ensures { result ≡ symbol_among b.symbols (name_here text.now l) }
+pub fn symbol_here(bundle: &Bundle, text: &[u8], l: Lexed) -> usize
+    requires { Lies text.now l }
+    ensures { result ≡ symbol_among (length bundle.now.symbols) (name_here text.now l) }
 {
     let start = l.start;
     let end = l.end;
     if l.code != 9 {
         return 0;
     }
-    symbol_called(b.symbols, &text[start..end])
+    symbol_called(bundle.symbols(), &text[start..end])
 }
 
 // The variable after the bracket at byte i, 0 for none.
-pub fn variable_at(b: Bundle, text: &[u8], i: usize) -> usize
-    requires { Within b × (i ≤ length text.now) }
-    ensures { result ≡ variable_among b.variables (name_in (front_of (rest_of (lexemes_at text.now i)))) }
+pub fn variable_at(bundle: &Bundle, text: &[u8], i: usize) -> usize
+    requires { i ≤ length text.now }
+    ensures { (result ≡ variable_among (length bundle.now.variables) (name_in (front_of (rest_of (lexemes_at text.now i)))))
+        × (result ≤ limits.variables) }
 {
     let j = after_lexeme(text, i);
     let l = next_lexeme(text, j);
-    variable_here(b, text, l)
+    variable_here(bundle, text, l)
 }
 
 // The sort that the word at byte i says.
@@ -70,40 +69,40 @@ pub fn said_at(text: &[u8], i: usize) -> usize
 }
 
 // The sort of a bracket with this head, a let apart.
-fn result_here(file: &[u8], b: Bundle, text: &[u8], l: Lexed) -> usize
-    requires { Whole file.now b × Lies text.now l }
-    ensures { result ≡ named_result (bundle_at file.now b) (name_here text.now l) }
+fn result_here(bundle: &Bundle, text: &[u8], l: Lexed) -> usize
+    requires { Lies text.now l }
+    ensures { result ≡ named_result bundle.now (name_here text.now l) }
 {
-    let f = symbol_here(b, text, l);
-    result_sort(file, b, signature_of(b, f))
+    let f = symbol_here(bundle, text, l);
+    result_sort(bundle, signature_of(bundle, f))
 }
 
 // The sort of a word alone.
-fn sort_here(file: &[u8], b: Bundle, text: &[u8], l: Lexed) -> usize
-    requires { Whole file.now b × Lies text.now l }
-    ensures { result ≡ named_sort (bundle_at file.now b) (name_here text.now l) }
+fn sort_here(bundle: &Bundle, text: &[u8], l: Lexed) -> usize
+    requires { Lies text.now l }
+    ensures { result ≡ named_sort bundle.now (name_here text.now l) }
 {
-    let x = variable_here(b, text, l);
+    let x = variable_here(bundle, text, l);
     if x == 0 {
-        return result_here(file, b, text, l);
+        return result_here(bundle, text, l);
     }
-    variable_sort(file, b, x)
+    bundle.variable_sort(x)
 }
 
 // The sort of the formula at byte i: a let's is its body's.
-pub fn sort_at(file: &[u8], b: Bundle, text: &[u8], i: usize) -> usize
-    requires { Whole file.now b × (i ≤ length text.now) }
-    ensures { result ≡ sort_from (bundle_at file.now b) (lexemes_at text.now i) }
+pub fn sort_at(bundle: &Bundle, text: &[u8], i: usize) -> usize
+    requires { i ≤ length text.now }
+    ensures { result ≡ sort_from bundle.now (lexemes_at text.now i) }
 {
     let mut at = i;
     loop {
         let l = next_lexeme(text, at);
         if l.code != 0 {
-            return sort_here(file, b, text, l);
+            return sort_here(bundle, text, l);
         }
         let h = next_lexeme(text, l.end);
         if h.code != 7 {
-            return result_here(file, b, text, h);
+            return result_here(bundle, text, h);
         }
         at = after_formula(text, h.end);
     }

@@ -12,7 +12,7 @@ use native.Mathlib.Omega.{arith}
 use lib.ListN.{length}
 use lib.Dec.{eqb, leb, eqb-suc-zero}
 use borrow.Author.Tests.{leb-true, leb-false}
-use Rattle.bundle.specs.declared.Bundle.{Bundle as Counts}
+use Rattle.bundle.specs.declared.Counts.{Counts}
 use Rattle.bundle.specs.Bundle.{Bundle, link_of}
 use Rattle.bundle.specs.Links.{chain, items, next_of, starts_at}
 use Rattle.bundle.specs.Lists.{same_list}

@@ -13,12 +13,12 @@ use Prim.Native.Nat.{ℕ, ◌+◌, ◌*◌, ◌-◌, ◌≤◌, ◌<◌}
 use native.Mathlib.Nat.{mul-le-mul_left, mul-add, mul-one}
 use native.Mathlib.Omega.{arith}
 use lib.ListN.{length}
-use Rattle.bundle.specs.declared.Bundle.{Bundle as Counts}
+use Rattle.bundle.specs.declared.Counts.{Counts}
 use Rattle.bundle.specs.Words.{word_at}
 use Rattle.bundle.specs.Bundle.{Bundle, at, no_symbol, no_link, no_term, no_context, no_step, symbol_of, sort_of_variable, term_of, link_of, context_of, step_of}
 use Rattle.bundle.specs.Bundle.{symbol_field, link_field, term_field, context_field, step_field}
 use Rattle.bundle.specs.Limits.{symbols_at, variables_at, terms_at, links_at, contexts_at, steps_at}
-use Rattle.bundle.specs.File.{tab, record_by, symbol_from, link_from, term_from, context_from, step_from, bundle_by, bundle_at}
+use Rattle.bundle.specs.File.{tab, record_by, symbol_from, link_from, term_from, context_from, step_from, bundle_by, bundle_at, own_counts}
 use Rattle.bundle.proofs.Tab.{tab_length, tab_at, tab_ext, tab_more, at_field}
 
 -- a record of a section, by its place and by its number, ends where the section ends, or before
@@ -127,6 +127,9 @@ pub record Sized (b : Bundle) (c : Counts) : Type 0 where
   pub contexts : length b.contexts ≡ c.contexts
   pub steps : length b.steps ≡ c.steps
 
+pub own_sized : (b : Bundle) → Sized b (own_counts b)
+own_sized b = record { symbols = refl; variables = refl; terms = refl; links = refl; contexts = refl; steps = refl }
+
 pub sized : (word : ℕ → ℕ) (places c : Counts) → Sized (bundle_by word places c) c
 unfolding bundle_by
 sized word places c = record {
@@ -168,3 +171,15 @@ module _ (f : List ℕ) (c : Counts) where
 
   pub steps_length : length (bundle_at f c).steps ≡ c.steps
   steps_length = sized_at.steps
+
+  -- and its counts are those that its bundle has
+  pub own_counts_are : own_counts (bundle_at f c) ≡ c
+  unfolding bundle_by
+  own_counts_are = rw (
+    tab_length _ c.symbols,
+    tab_length _ c.variables,
+    tab_length _ c.terms,
+    tab_length _ c.links,
+    tab_length _ c.contexts,
+    tab_length _ c.steps,
+  )

@@ -5,7 +5,9 @@
 --     Parts        records read in a part of a file
 --     Chains       lists of links
 --     BundleWalks  what a walk over links knows
---     Walks        the same of a file
+--     RecordWords  records as their fields
+--     Ended        the end of a walk over items
+--     Walks        the same by the lengths of a bundle's own lists
 --     NumberLists  lists of records' numbers, along a walk
 --     LinkNotes    what is noted at links, along a walk that notes them
 --     ListPlaces   first, second and last items of a list, and lists of one item or two
@@ -16,6 +18,8 @@ pub mod Fields
 pub mod Parts
 pub mod Chains
 pub mod BundleWalks
+pub mod RecordWords
+pub mod Ended
 pub mod Walks
 pub mod NumberLists
 pub mod LinkNotes

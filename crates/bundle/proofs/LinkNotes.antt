@@ -10,9 +10,8 @@ use native.Mathlib.Omega.{arith}
 use native.Mathlib.Decide.{ℕ_discrete}
 use lib.ListN.{length, get_or, set, replicate}
 use lib.Seq.{get_or-set_same, get_or-set_other}
-use Rattle.bundle.specs.declared.Bundle.{Bundle as Counts}
 use Rattle.bundle.specs.Links.{items}
-use Rattle.bundle.specs.File.{bundle_at}
+use Rattle.bundle.specs.Bundle.{Bundle}
 use Rattle.bundle.specs.LinkNotes.{Zeros, Noted, LowerNoted}
 use Rattle.bundle.proofs.NumberLists.{each_up}
 
@@ -58,5 +57,5 @@ module _ (Good : ℕ → ℕ → Type 0) where
               let same : get_or (set w j v) p 0 ≡ get_or w p 0 = get_or-set_other w j p v 0 other in
               rw same (way.all (back e) p (rw same at noted))
 
-pub lower_up : (f : List ℕ) (c : Counts) (n m : ℕ) (w : List ℕ) → n ≤ m → LowerNoted f c n w → LowerNoted f c m w
-lower_up f c n m w h so = record { enough = so.enough; sound = λ p some. each_up n m (items (bundle_at f c) p) h (so.sound p some) }
+pub lower_up : (b : Bundle) (n m : ℕ) (w : List ℕ) → n ≤ m → LowerNoted b n w → LowerNoted b m w
+lower_up b n m w h so = record { enough = so.enough; sound = λ p some. each_up n m (items b p) h (so.sound p some) }

@@ -7,31 +7,30 @@ use mathlib.Core.Bool.{true, false, not, ◌&&◌, ◌||◌}
 use mathlib.Core.List.{List, [], ◌∷◌}
 use Prim.Native.Nat.{ℕ, ◌≤◌}
 use native.Mathlib.Omega.{arith}
+use lib.ListN.{length}
 use lib.Dec.{eqb, ltb, leb}
 use borrow.Author.Tests.{eqb-false, leb-true, le-leb, not-true}
-use Rattle.bundle.specs.declared.Bundle.{Bundle as Counts}
-use Rattle.bundle.specs.Bundle.{link_of}
+use Rattle.bundle.specs.Bundle.{Bundle, link_of}
 use Rattle.bundle.specs.Links.{items, next_of}
-use Rattle.bundle.specs.File.{bundle_at}
 use Rattle.bundle.specs.Lists.{numbers, each}
 use Rattle.bundle.proofs.Limits.{both}
 use Rattle.bundle.proofs.Walks.{walk_nil, walk_cons, walk_some, numbers_not}
 
-module _ (f : List ℕ) (c : Counts) (n : ℕ) (i : ℕ) where
-  pub each_nil : i ≡ 0 → each (numbers n) (items (bundle_at f c) i) ≡ true
+module _ (b : Bundle) (n : ℕ) (i : ℕ) where
+  pub each_nil : i ≡ 0 → each (numbers n) (items b i) ≡ true
   unfolding each
-  each_nil z = rw (walk_nil f c i z)
+  each_nil z = rw (walk_nil b i z)
 
   -- at a link with the item x: it is not 1 to n, or the walk goes on
-  pub each_here : (x : ℕ) → (i ≡ 0 → ⊥) → i ≤ c.links → x ≡ (link_of (bundle_at f c) i).value → (eqb x 0 || ltb n x) ≡ true
-      → each (numbers n) (items (bundle_at f c) i) ≡ false
+  pub each_here : (x : ℕ) → (i ≡ 0 → ⊥) → i ≤ length b.links → x ≡ (link_of b i).value → (eqb x 0 || ltb n x) ≡ true
+      → each (numbers n) (items b i) ≡ false
   unfolding each
-  each_here x ne few value bad = rw (walk_some f c i ne few, ← value, numbers_not, bad)
+  each_here x ne few value bad = rw (walk_some b i ne few, ← value, numbers_not, bad)
 
-  pub each_on : (x r : ℕ) → (i ≡ 0 → ⊥) → i ≤ c.links → x ≡ (link_of (bundle_at f c) i).value → r ≡ next_of (bundle_at f c).links i → (eqb x 0 || ltb n x) ≡ false
-      → each (numbers n) (items (bundle_at f c) i) ≡ each (numbers n) (items (bundle_at f c) r)
+  pub each_on : (x r : ℕ) → (i ≡ 0 → ⊥) → i ≤ length b.links → x ≡ (link_of b i).value → r ≡ next_of b.links i → (eqb x 0 || ltb n x) ≡ false
+      → each (numbers n) (items b i) ≡ each (numbers n) (items b r)
   unfolding each
-  each_on x r ne few value next good = rw (walk_cons f c i x r ne few value next, numbers_not, good)
+  each_on x r ne few value next good = rw (walk_cons b i x r ne few value next, numbers_not, good)
 
 pub each_up : (n m : ℕ) (xs : List ℕ) → n ≤ m → each (numbers n) xs ≡ true → each (numbers m) xs ≡ true
 unfolding each

@@ -5,9 +5,9 @@ use mathlib.Core.Path.{◌≡◌, ap, sym, ◌∙◌}
 use mathlib.Core.List.{List}
 use Prim.Native.Nat.{ℕ, ◌+◌, ◌*◌, ◌-◌, ◌≤◌, ◌<◌}
 use native.Mathlib.Omega.{arith}
-use lib.ListN.{length, get_or, take, drop}
+use lib.ListN.{get_or, take, drop}
 use lib.Seq.{get_or-take, get_or-drop}
-use Rattle.bundle.specs.declared.Bundle.{Bundle as Counts}
+use Rattle.bundle.specs.declared.Counts.{Counts}
 use Rattle.bundle.specs.Words.{word_at}
 use Rattle.bundle.specs.Bundle.{link_of, link_field, step_of, step_field}
 use Rattle.bundle.specs.Limits.{links_at, steps_at}

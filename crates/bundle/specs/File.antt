@@ -1,6 +1,6 @@
 -- The bundle that a memory of words stands for, and THE TIE: the bundle that a file stands for.
 use Rattle.std.specs.Prelude.{ℕ, zero, suc, ◌+◌, ◌*◌, ◌≡◌, List, [], ◌∷◌, ◌++◌, length}
-use Rattle.bundle.specs.declared.Bundle.{Bundle as Counts}
+use Rattle.bundle.specs.declared.Counts.{Counts}
 use Rattle.bundle.specs.Words.{word_at}
 use Rattle.bundle.specs.Bundle.{Symbol, Link, TermRecord, Context, Step, Bundle}
 use Rattle.bundle.specs.Limits.{header_words, left_word, right_word, symbols_at, variables_at, terms_at, links_at, contexts_at, steps_at, bytes_of, Within}
@@ -53,6 +53,18 @@ bundle_by word places c = record {
 -- THE TIE: the bundle that a file of these counts stands for. Its sections stand one right after another.
 abbrev pub bundle_at : List ℕ → Counts → Bundle
 bundle_at f c = bundle_by (word_at f) c c
+
+-- the numbers of records that a bundle has
+abbrev pub own_counts : Bundle → Counts
+own_counts b = record {
+  version = b.version;
+  symbols = length b.symbols;
+  variables = length b.variables;
+  terms = length b.terms;
+  links = length b.links;
+  contexts = length b.contexts;
+  steps = length b.steps;
+}
 
 -- Header: version; the counts S, V, T, L, C, P; the claim's left term; its right term
 unfoldable pub counts_of : List ℕ → Counts

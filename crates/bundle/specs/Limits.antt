@@ -1,6 +1,6 @@
 -- The limits of the counts, the places of the sections, and the length that the counts give. `Counts` are those of the code's `Bundle`.
 use Rattle.std.specs.Prelude.{ℕ, zero, suc, ◌+◌, ◌*◌, ◌≤◌, Bool, ◌&&◌, [], ◌∷◌, leb, get_or}
-use Rattle.bundle.specs.declared.Bundle.{Bundle as Counts}
+use Rattle.bundle.specs.declared.Counts.{Counts}
 
 -- S 64, V 256, T 1,024, L 2,048, C 256, P 1,024
 abbrev pub limits : Counts

@@ -1,34 +1,42 @@
 // The file format: limits, words, and readers of records and lists straight from a lent file.
-// Every reader is total: the number 0, or one past its section's last, reads zeros. All that a reader asks for is `Whole`: counts within
-// limits, length exact. What it gives is said of the bundle that the file stands for, `bundle_at`.
+// Every reader is total: the number 0, or one past its section's last, reads zeros. What it gives is said of the bundle that the file stands for, which is
+// what a clause sees of a `Bundle`.
 #![tactic(auto)]
 
-ghost use Rattle.std.specs.Prelude.{◌≡◌, ◌≤◌, ◌<◌};
+ghost use Rattle.std.specs.Prelude.{◌≡◌, ◌≤◌, ◌<◌, length};
+ghost use Rattle.bundle.specs.File.{Whole, bundle_at, own_counts};
 ghost use Rattle.bundle.specs.Limits.{limits, set_words, least_bytes, symbols_at, variables_at, terms_at, links_at, contexts_at, steps_at};
 ghost use Rattle.bundle.specs.Limits.{bytes_of, within_of, Within};
 ghost use Rattle.bundle.specs.Limits.{sections, extent_of};
 
 pub mod words; // words.rt: words of bytes, and the header
-pub mod halves; // halves.rt: words of 16 bits as numbers
 pub mod records; // records.rt: the fields of a record
-pub mod lists; // lists.rt: walks of lists of links
+pub mod items; // items.rt: the items of a list, one after another
+pub mod lists; // lists.rt: tests of lists of links
 pub mod notes; // notes.rt: walks that note links of long lists
-pub mod places; // places.rt: items of lists by their place
 pub mod digests; // digests.rt: digests, by which records are filed
 
-// A bundle's version, and the numbers of records of its sections: with the lent file it gives every record. The limits belong to it.
-#[derive(Clone, Copy)]
-pub struct Bundle {
-    pub version: usize,
-    pub symbols: usize,
-    pub variables: usize,
-    pub terms: usize,
-    pub links: usize,
-    pub contexts: usize,
-    pub steps: usize,
+use std::marker::Model;
+
+// A lent file whose counts are within the limits, and which is as long as they say, as the bundle that it stands for.
+#[derive(Drop)]
+pub struct Bundle<'a> {
+    file: &'a [u8],
+    counts: Counts,
 }
 
-impl Bundle {
+impl<'a> Model for Bundle<'a> {
+    ghost use Rattle.bundle.specs.Bundle.{Bundle};
+    ghost use Rattle.bundle.specs.File.{Whole, bundle_at};
+
+    ghost Value = { Bundle };
+
+    ghost view = { λ b. bundle_at b.file.now b.counts };
+
+    ghost invariant = { λ b. Whole b.file.now b.counts };
+}
+
+impl<'a> Bundle<'a> {
     // The limits of the counts.
     pub const SYMBOLS: usize = 64;
 
@@ -64,6 +72,91 @@ impl Bundle {
     // Words of 64 bits for a set of variables: a bit for each of VARIABLES.
     pub const SET_WORDS: usize = 4;
 
+    // The file as a bundle, by its counts.
+    pub fn of(file: &'a [u8], counts: Counts) -> Self
+        requires { Whole file.now counts }
+        ensures { result ≡ bundle_at file.now counts }
+    {
+        Bundle { file, counts }
+    }
+
+    // The file, and its counts.
+    pub fn file(&self) -> &'a [u8]
+        ensures { (Whole result.now (own_counts self.now)) × (bundle_at result.now (own_counts self.now) ≡ self.now) }
+    {
+        self.file
+    }
+
+    pub fn counts(&self) -> Counts
+        ensures { (result ≡ own_counts self.now) × Within result }
+    {
+        self.counts
+    }
+
+    // How many records each section has.
+    pub fn symbols(&self) -> usize
+        ensures { (result ≡ length self.now.symbols) × (result ≤ limits.symbols) }
+    {
+        self.counts.symbols
+    }
+
+    pub fn variables(&self) -> usize
+        ensures { (result ≡ length self.now.variables) × (result ≤ limits.variables) }
+    {
+        self.counts.variables
+    }
+
+    pub fn terms(&self) -> usize
+        ensures { (result ≡ length self.now.terms) × (result ≤ limits.terms) }
+    {
+        self.counts.terms
+    }
+
+    pub fn links(&self) -> usize
+        ensures { (result ≡ length self.now.links) × (result ≤ limits.links) }
+    {
+        self.counts.links
+    }
+
+    pub fn contexts(&self) -> usize
+        ensures { (result ≡ length self.now.contexts) × (result ≤ limits.contexts) }
+    {
+        self.counts.contexts
+    }
+
+    pub fn steps(&self) -> usize
+        ensures { (result ≡ length self.now.steps) × (result ≤ limits.steps) }
+    {
+        self.counts.steps
+    }
+
+    // The claim's left term, and its right term, as the header has them.
+    pub fn claim_left(&self) -> usize
+        ensures { (result ≡ self.now.left) × (result ≤ 4294967295) }
+    {
+        words::claim_left(self.file)
+    }
+
+    pub fn claim_right(&self) -> usize
+        ensures { (result ≡ self.now.right) × (result ≤ 4294967295) }
+    {
+        words::claim_right(self.file)
+    }
+}
+
+// A bundle's version, and the numbers of records of its sections: with the lent file it gives every record. The limits belong to it.
+#[derive(Clone, Copy)]
+pub struct Counts {
+    pub version: usize,
+    pub symbols: usize,
+    pub variables: usize,
+    pub terms: usize,
+    pub links: usize,
+    pub contexts: usize,
+    pub steps: usize,
+}
+
+impl Counts {
     // The bundle with every section at its limit: ties the constants above to `limits` in specs/.
     pub fn largest() -> Self
         ensures { result ≡ limits }

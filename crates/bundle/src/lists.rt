@@ -1,106 +1,109 @@
-// Walks of lists of links. A walk goes on while its link is not 0; it ends by itself, whatever the links are.
-ghost use Rattle.std.specs.Prelude.{◌≡◌};
-ghost use Rattle.bundle.specs.Links.{follows, next_of, starts_at, items};
-ghost use Rattle.bundle.specs.File.{Whole, bundle_at};
-ghost use Rattle.bundle.specs.Lists.{same_list, numbers, each, has, different};
+// Tests of lists of links.
+ghost use Rattle.std.specs.Prelude.{◌≡◌, length, eqb};
+ghost use Rattle.bundle.specs.Links.{items};
+ghost use Rattle.bundle.specs.Lists.{same_list, numbers, each, has, different, first_of, second_of, single, last_of};
 
 use super::Bundle;
-use super::records::link_field;
 
-// The first link of a list: 0, which starts the empty list, for a number that is no link's.
-pub fn first_link(b: Bundle, start: usize) -> usize
-    ensures { result ≡ starts_at b.links start }
-{
-    if start <= b.links { start } else { 0 }
-}
-
-// The link after link i, whose next is so: 0 where the list ends there.
-pub fn followed(links: usize, i: usize, next: usize) -> usize
-    ensures { result ≡ follows links i next }
-{
-    if (i < next) & (next <= links) {
-        next
-    } else {
-        0
-    }
-}
-
-// The link that follows link i, 0 where the list ends.
-pub fn next_link(file: &[u8], b: Bundle, i: usize) -> usize
-    requires { Whole file.now b }
-    ensures { result ≡ next_of (bundle_at file.now b).links i }
-{
-    followed(b.links, i, link_field(file, b, i, 1))
-}
-
-// Whether two lists are the same, item by item.
-pub fn same_list(file: &[u8], b: Bundle, first: usize, second: usize) -> bool
-    requires { Whole file.now b }
-    ensures { let bundle = bundle_at file.now b in
-        result ≡ same_list (items bundle first) (items bundle second) }
-{
-    let mut i = first_link(b, first);
-    let mut j = first_link(b, second);
-    while i != 0 {
-        if j == 0 {
-            return false;
+impl<'a> Bundle<'a> {
+    // Whether two lists are the same, item by item.
+    pub fn same_list(&self, first: usize, second: usize) -> bool
+        ensures { result ≡ same_list (items self.now first) (items self.now second) }
+    {
+        let mut others = self.items(second);
+        for x in self.items(first) {
+            let Some(y) = others.next() else {
+                return false;
+            };
+            if x != y {
+                return false;
+            }
         }
-        let x = link_field(file, b, i, 0);
-        let y = link_field(file, b, j, 0);
-        if x != y {
-            return false;
-        }
-        i = next_link(file, b, i);
-        j = next_link(file, b, j);
+        others.next().is_none()
     }
-    j == 0
-}
 
-// Whether each item of a list is a record's number in a section of n: 1 to n.
-pub fn all_numbers(file: &[u8], b: Bundle, list: usize, n: usize) -> bool
-    requires { Whole file.now b }
-    ensures { result ≡ each (numbers n) (items (bundle_at file.now b) list) }
-{
-    let mut i = first_link(b, list);
-    while i != 0 {
-        let x = link_field(file, b, i, 0);
-        if (x == 0) | (x > n) {
-            return false;
+    // Whether each item of a list is a record's number in a section of n: 1 to n.
+    pub fn all_numbers(&self, list: usize, n: usize) -> bool
+        ensures { result ≡ each (numbers n) (items self.now list) }
+    {
+        for x in self.items(list) {
+            if (x == 0) | (x > n) {
+                return false;
+            }
         }
-        i = next_link(file, b, i);
+        true
     }
-    true
-}
 
-// Whether x is in the list.
-pub fn has_item(file: &[u8], b: Bundle, list: usize, x: usize) -> bool
-    requires { Whole file.now b }
-    ensures { result ≡ has x (items (bundle_at file.now b) list) }
-{
-    let mut i = first_link(b, list);
-    while i != 0 {
-        let y = link_field(file, b, i, 0);
-        if x == y {
-            return true;
+    // Whether x is in the list.
+    pub fn has_item(&self, list: usize, x: usize) -> bool
+        ensures { result ≡ has x (items self.now list) }
+    {
+        for y in self.items(list) {
+            if x == y {
+                return true;
+            }
         }
-        i = next_link(file, b, i);
+        false
     }
-    false
-}
 
-// Whether no item is in the list twice.
-pub fn all_different(file: &[u8], b: Bundle, list: usize) -> bool
-    requires { Whole file.now b }
-    ensures { result ≡ different (items (bundle_at file.now b) list) }
-{
-    let mut i = first_link(b, list);
-    while i != 0 {
-        let x = link_field(file, b, i, 0);
-        let rest = next_link(file, b, i);
-        if has_item(file, b, rest, x) {
-            return false;
+    // Whether no item is in the list twice.
+    pub fn all_different(&self, list: usize) -> bool
+        ensures { result ≡ different (items self.now list) }
+    {
+        let mut i = self.first_link(list);
+        while i != 0 {
+            let x = self.link_field(i, 0);
+            let rest = self.next_link(i);
+            if self.has_item(rest, x) {
+                return false;
+            }
+            i = rest;
         }
-        i = rest;
+        true
     }
-    true
+
+    // The first item of a list, 0 for none: a link that is none reads zeros.
+    pub fn first_item(&self, list: usize) -> usize
+        ensures { result ≡ first_of (items self.now list) }
+    {
+        self.link_field(list, 0)
+    }
+
+    // The second item of a list, 0 for none.
+    pub fn second_item(&self, list: usize) -> usize
+        ensures { result ≡ second_of (items self.now list) }
+    {
+        let second = self.next_link(self.first_link(list));
+        self.link_field(second, 0)
+    }
+
+    // The last item of a list, 0 for none.
+    pub fn last_item(&self, list: usize) -> usize
+        ensures { result ≡ last_of (items self.now list) }
+    {
+        let mut last = 0;
+        for x in self.items(list) {
+            last = x;
+        }
+        last
+    }
+
+    // Whether a list has one item.
+    pub fn is_single(&self, list: usize) -> bool
+        ensures { result ≡ single (items self.now list) }
+    {
+        let first = self.first_link(list);
+        let next = self.next_link(first);
+        (first != 0) & (next == 0)
+    }
+
+    // Whether a list has two items.
+    pub fn is_pair(&self, list: usize) -> bool
+        ensures { result ≡ eqb (length (items self.now list)) 2 }
+    {
+        let first = self.first_link(list);
+        let second = self.next_link(first);
+        let third = self.next_link(second);
+        (second != 0) & (third == 0)
+    }
 }

@@ -4,7 +4,7 @@ ghost use Rattle.bundle.specs.Words.{joined_of, word_at};
 ghost use Rattle.bundle.specs.Limits.{least_bytes, header_words, left_word, right_word};
 ghost use Rattle.bundle.specs.File.{counts_of};
 
-use super::Bundle;
+use super::{Bundle, Counts};
 
 // Four bytes as one little-endian word. The bytes come by value, so their range is known.
 fn joined(a: u8, b: u8, c: u8, d: u8) -> u32
@@ -60,11 +60,11 @@ pub fn header_words(version: usize) -> usize
 }
 
 // The version and the counts that a file's header gives.
-pub fn counts(file: &[u8]) -> Bundle
+pub fn counts(file: &[u8]) -> Counts
     requires { least_bytes ≤ length file.now }
     ensures { result ≡ counts_of file.now }
 {
-    Bundle {
+    Counts {
         version: word_at(file, 0),
         symbols: word_at(file, 1),
         variables: word_at(file, 2),

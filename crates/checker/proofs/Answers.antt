@@ -1,48 +1,43 @@
 -- The answer and the lent area, from what the code finds wrong with a file.
---     header_there                  where it finds nothing, the file has a header
 --     answer_refused, area_zeros    something is wrong: refused with it, and the cleared area is what is to be left
---     answer_accepted, area_free    nothing is: accepted with the claim, and so is the area that holds the free sets
-use Prim.Native.Nat.{ℕ, ◌≤◌}
-use mathlib.Core.Path.{◌≡◌, sym, ◌∙◌}
+--     answer_accepted, area_free    nothing is: accepted with what is said of the file, and so is the area that holds the free sets
+use Prim.Native.Nat.{ℕ}
+use mathlib.Core.Path.{◌≡◌, sym, ap, ◌∙◌}
 use mathlib.Core.List.{List}
 use native.Mathlib.Omega.{arith}
 use lib.ListN.{length}
 use Rattle.bundle.specs.Limits.{set_words}
 use Rattle.bundle.specs.File.{bundle_of}
 use Rattle.sets.specs.Sets.{cleared}
-use Rattle.logic.specs.declared.Fault.{Fault}
+use Rattle.logic.specs.declared.checks.Failure.{Failure}
+use Rattle.logic.specs.Failures.{number_of}
+use Rattle.logic.specs.Tests.{Fault, fault}
 use Rattle.logic.specs.Free.{free_area}
-use Rattle.logic.specs.Rules.{last_pairs}
+use Rattle.judgement.specs.declared.Acceptance.{Acceptance}
 use Rattle.judgement.specs.declared.Answer.TheVariants.{Accepted, Refused}
-use Rattle.judgement.specs.Judge.{fault_of, judge, area_after}
-use Rattle.judgement.proofs.Accepting.{nothing_exactly, accepted_where, refused_where}
-use Rattle.sets.proofs.Cleared.{all_cleared}
+use Rattle.judgement.specs.Judge.{acceptance, fault_of, judge, area_after}
+use Rattle.judgement.proofs.Accepting.{accepted_where, refused_where}
 use Rattle.judgement.proofs.Demands.{area_left}
+use Rattle.sets.proofs.Cleared.{all_cleared}
+use Rattle.steps.proofs.Verdicts.{number_some}
 
--- r is what the code finds in f, where m words are lent
-module _ (f : List ℕ) (m : ℕ) (r : Fault) (found : r ≡ fault_of f m) where
-  -- ---- something is wrong
-
-  pub answer_refused : (r.number ≡ 0 → ⊥) → Refused r.number r.«record» ≡ judge f m
-  answer_refused ne = sym ((refused_where f m r.number r.«record»).1 (omega (arith, ne), sym found))
+-- r is what the code finds in f, where m words are lent: a failure
+module _ (f : List ℕ) (m : ℕ) (r : Failure) (found : fault (number_of r.check) r.«record» ≡ fault_of f m) where
+  pub answer_refused : Refused (number_of r.check) r.«record» ≡ judge f m
+  answer_refused = sym ((refused_where f m (number_of r.check) r.«record»).1 (omega (arith, number_some r.check), sym found))
 
   -- x is what stood in the area, y what does once it is cleared
-  pub area_zeros : (x y : List ℕ) → (r.number ≡ 0 → ⊥) → length x ≡ m → y ≡ cleared x 0 (length x) → y ≡ area_after f m
-  area_zeros x y ne long clear = clear ∙ all_cleared x ∙ rw long (sym ((area_left f m).refused _ _ (sym (answer_refused ne))))
+  pub area_zeros : (x y : List ℕ) → length x ≡ m → y ≡ cleared x 0 (length x) → y ≡ area_after f m
+  area_zeros x y long clear = clear ∙ all_cleared x ∙ rw long (sym ((area_left f m).refused _ _ (sym answer_refused)))
 
-  -- ---- nothing is
+-- or nothing
+module _ (f : List ℕ) (m : ℕ) (found : fault 0 0 ≡ fault_of f m) where
+  none : (fault_of f m).number ≡ 0
+  none = ap (λ (x : Fault). x.number) (sym found)
 
-  module _ (e : r.number ≡ 0) where
-    none : (fault_of f m).number ≡ 0
-    none = rw (← found) e
+  pub answer_accepted : (a : Acceptance) → a ≡ acceptance (bundle_of f) → Accepted a ≡ judge f m
+  answer_accepted a e = sym ((accepted_where f m a).1 (none, e))
 
-    pub header_there : 36 ≤ length f
-    header_there = ((nothing_exactly f m).0 none).header.long
-
-    pub answer_accepted : (left right pairs : ℕ) → left ≡ (bundle_of f).left → right ≡ (bundle_of f).right
-        → pairs ≡ last_pairs (bundle_of f) (length (bundle_of f).steps) → Accepted (record { left = left; right = right; pairs = pairs }) ≡ judge f m
-    answer_accepted left right pairs l q p = sym ((accepted_where f m _).1 (none, λ i. record { left = l i; right = q i; pairs = p i }))
-
-    pub area_free : (x : List ℕ) → x ≡ free_area (bundle_of f) set_words m → x ≡ area_after f m
-    unfolding area_after
-    area_free x sets = rw none sets
+  pub area_free : (x : List ℕ) → x ≡ free_area (bundle_of f) set_words m → x ≡ area_after f m
+  unfolding area_after
+  area_free x sets = rw none sets

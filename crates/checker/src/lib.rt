@@ -1,9 +1,10 @@
 // THE PUBLIC CHECK: is a bundle accepted, and if not, which check fails first.
 #![tactic(auto)]
 
-ghost use Rattle.std.specs.Prelude.{◌≡◌, ◌+◌, ◌*◌, ◌≤◌, length};
+ghost use Rattle.std.specs.Prelude.{◌≡◌, ◌+◌, ◌*◌, ◌≤◌, length, IfOk};
 ghost use Rattle.bundle.specs.Limits.{set_words};
-ghost use Rattle.bundle.specs.File.{Whole, bundle_at, bundle_of};
+ghost use Rattle.bundle.specs.File.{bundle_of};
+ghost use Rattle.logic.specs.Failures.{number_in, fault_in};
 ghost use Rattle.logic.specs.Tests.{first_failing, or_next};
 ghost use Rattle.logic.specs.Checks.{sections_fault};
 ghost use Rattle.logic.specs.Free.{free_area};
@@ -11,18 +12,16 @@ ghost use Rattle.sorting.specs.Notes.{Sorted};
 ghost use Rattle.free_variables.specs.FreeSets.{FreeSets};
 ghost use Rattle.images.specs.ContextRows.{Images, Scopes};
 ghost use Rattle.steps.specs.Verdicts.{Found};
-ghost use Rattle.judgement.specs.Judge.{claim_tests, lent_for, late_fault, fault_of, judge, area_after};
+ghost use Rattle.judgement.specs.Judge.{claim_tests, acceptance, lent_for, late_fault, fault_of, judge, area_after};
 
 use bundle::Bundle;
-use bundle::records::step_field;
-use bundle::words::{claim_left, claim_right, counts, word_at};
-use declarations::header::header_fault;
+use bundle::words::word_at;
+use declarations::header::opened;
 use free_variables::spread::spread;
 use free_variables::words_for;
 use judgement::{Acceptance, Answer};
-use logic::Fault;
+use logic::checks::{Check, Failure};
 use sorting::notes::note_sorts;
-use steps::Findings;
 
 // The words that a file's terms ask for: nothing of a file that is too short to say.
 fn lent_for(file: &[u8]) -> usize
@@ -34,163 +33,152 @@ fn lent_for(file: &[u8]) -> usize
     Bundle::SET_WORDS * word_at(file, 3)
 }
 
-// 15: what is wrong with the claim, 0 where nothing is.
-fn claim_fault(file: &[u8], b: Bundle) -> usize
-    requires { Whole file.now b }
-    ensures { result ≡ first_failing (claim_tests (bundle_at file.now b)) }
+// 15: whether the last step is the claim.
+fn claim_fault(bundle: &Bundle) -> Result<(), Check>
+    ensures { number_in result ≡ first_failing (claim_tests bundle.now) }
 {
-    let steps = b.steps;
-    let context = step_field(file, b, steps, 1);
-    let left = step_field(file, b, steps, 2);
-    let right = step_field(file, b, steps, 3);
-    let claimed_left = claim_left(file);
-    let claimed_right = claim_right(file);
+    let steps = bundle.steps();
+    let context = bundle.step_field(steps, 1);
+    let left = bundle.step_field(steps, 2);
+    let right = bundle.step_field(steps, 3);
+    let claimed_left = bundle.claim_left();
+    let claimed_right = bundle.claim_right();
     if (0 < steps) & (context == 0) & (left == claimed_left) & (right == claimed_right) {
-        0
+        Ok(())
     } else {
-        15
+        Err(Check::Claim)
     }
 }
 
 // The first of the checks 10 to 15 that fails, where the area holds the free sets, n words each, and there is room for what is known of contexts.
 fn late_fault_in(
-    file: &[u8],
-    b: Bundle,
+    bundle: &Bundle,
     sorts: &[usize],
     free: &[u64],
     n: usize,
     images: &mut [u16],
     scopes: &mut [u64],
-) -> Findings
-    requires { let bundle = bundle_at file.now b in
-        Whole file.now b × Sorted file.now b sorts.now × FreeSets free.now n bundle × (b.variables ≤ 64 * n) × (b.variables * (b.contexts + 1) ≤
-        length images.old) × (2 * n * (b.contexts + 1) ≤ length scopes.old) × Images bundle images.old 1 × Scopes bundle scopes.old n 1 × (n ≤ set_words) }
-    ensures { let bundle = bundle_at file.now b in
-        Found (late_fault bundle) bundle result }
+) -> Result<usize, Failure>
+    requires { Sorted bundle.now sorts.now × FreeSets free.now n bundle.now × (length bundle.now.variables ≤ 64 * n) × (length bundle.now.variables * (length bundle.now.contexts + 1) ≤
+        length images.old) × (2 * n * (length bundle.now.contexts + 1) ≤ length scopes.old) × Images bundle.now images.old 1 × Scopes bundle.now scopes.old n 1 × (n ≤ set_words) }
+    ensures { Found (late_fault bundle.now) bundle.now result }
 {
-    let in_contexts = contexts::contexts::contexts_fault(file, b, sorts, free, n, images, scopes);
-    if in_contexts.number != 0 {
-        return Findings {
-            fault: in_contexts,
-            pairs: 0,
-        };
-    }
-    let in_steps = steps::steps::steps_fault(file, b, free, n, images, scopes);
-    let bad_step = in_steps.fault;
-    if bad_step.number != 0 {
-        return in_steps;
-    }
-    let number = claim_fault(file, b);
-    Findings {
-        fault: Fault { number, record: 0 },
-        pairs: in_steps.pairs,
+    contexts::contexts::contexts_fault(bundle, sorts, free, n, images, scopes)?;
+    let pairs = steps::steps::steps_fault(bundle, free, n, images, scopes)?;
+    match claim_fault(bundle) {
+        Err(check) => Err(Failure { check, record: 0 }),
+        Ok(()) => Ok(pairs),
     }
 }
 
 // The same with room of its own, for files with many variables. Two places call this: so the compiler keeps it, and its room, apart, and no other file pays
 // for so much stack.
-fn late_fault_wide(file: &[u8], b: Bundle, sorts: &[usize], free: &[u64], n: usize) -> Findings
-    requires { Whole file.now b × Sorted file.now b sorts.now × FreeSets free.now n (bundle_at file.now b) × (n ≤ set_words) × (b.variables ≤ 64
+fn late_fault_wide(
+    bundle: &Bundle,
+    sorts: &[usize],
+    free: &[u64],
+    n: usize,
+) -> Result<usize, Failure>
+    requires { Sorted bundle.now sorts.now × FreeSets free.now n bundle.now × (n ≤ set_words) × (length bundle.now.variables ≤ 64
         * n) }
-    ensures { let bundle = bundle_at file.now b in
-        Found (late_fault bundle) bundle result }
+    ensures { Found (late_fault bundle.now) bundle.now result }
 {
-    if b.contexts < 8 {
+    if bundle.contexts() < 8 {
         let mut few_images = [0u16; Bundle::VARIABLES * 8];
         let mut few_scopes = [0u64; 2 * Bundle::SET_WORDS * 8];
-        return late_fault_in(file, b, sorts, free, n, &mut few_images, &mut few_scopes);
+        return late_fault_in(bundle, sorts, free, n, &mut few_images, &mut few_scopes);
     }
-    if b.contexts < 32 {
+    if bundle.contexts() < 32 {
         let mut some_images = [0u16; Bundle::VARIABLES * 32];
         let mut some_scopes = [0u64; 2 * Bundle::SET_WORDS * 32];
-        return late_fault_in(file, b, sorts, free, n, &mut some_images, &mut some_scopes);
+        return late_fault_in(bundle, sorts, free, n, &mut some_images, &mut some_scopes);
     }
     let mut images = [0u16; Bundle::VARIABLES * (Bundle::CONTEXTS + 1)];
     let mut scopes = [0u64; 2 * Bundle::SET_WORDS * (Bundle::CONTEXTS + 1)];
-    late_fault_in(file, b, sorts, free, n, &mut images, &mut scopes)
+    late_fault_in(bundle, sorts, free, n, &mut images, &mut scopes)
 }
 
 // The same with room of one of three sizes, the last for 64 variables in all contexts, or as above. The room is cleared first, so a file with few variables
 // and contexts gets little.
-fn late_fault(file: &[u8], b: Bundle, sorts: &[usize], free: &[u64], n: usize) -> Findings
-    requires { Whole file.now b × Sorted file.now b sorts.now × FreeSets free.now n (bundle_at file.now b) × (n ≤ set_words) × (b.variables ≤ 64
+fn late_fault(bundle: &Bundle, sorts: &[usize], free: &[u64], n: usize) -> Result<usize, Failure>
+    requires { Sorted bundle.now sorts.now × FreeSets free.now n bundle.now × (n ≤ set_words) × (length bundle.now.variables ≤ 64
         * n) }
-    ensures { let bundle = bundle_at file.now b in
-        Found (late_fault bundle) bundle result }
+    ensures { Found (late_fault bundle.now) bundle.now result }
 {
-    let rows = b.contexts + 1;
-    let places = b.variables * rows;
+    let rows = bundle.contexts() + 1;
+    let places = bundle.variables() * rows;
     let words = n * rows;
     if (places <= 512) & (words <= 40) {
         let mut few_images = [0u16; 512];
         let mut few_scopes = [0u64; 80];
-        return late_fault_in(file, b, sorts, free, n, &mut few_images, &mut few_scopes);
+        return late_fault_in(bundle, sorts, free, n, &mut few_images, &mut few_scopes);
     }
     if (places <= 8192) & (words <= 257) {
         let mut some_images = [0u16; 8192];
         let mut some_scopes = [0u64; 514];
-        return late_fault_in(file, b, sorts, free, n, &mut some_images, &mut some_scopes);
+        return late_fault_in(bundle, sorts, free, n, &mut some_images, &mut some_scopes);
     }
     if places > 16448 {
-        return late_fault_wide(file, b, sorts, free, n);
+        return late_fault_wide(bundle, sorts, free, n);
     }
     if words > 257 {
-        return late_fault_wide(file, b, sorts, free, n);
+        return late_fault_wide(bundle, sorts, free, n);
     }
     let mut more_images = [0u16; 16448];
     let mut more_scopes = [0u64; 514];
-    late_fault_in(file, b, sorts, free, n, &mut more_images, &mut more_scopes)
+    late_fault_in(bundle, sorts, free, n, &mut more_images, &mut more_scopes)
 }
 
-// What is wrong past the header, where the sorts of all terms are noted; number 0 where nothing is: the area then holds the free sets. While the file is
-// checked they have as many words as its variables ask for.
-fn sorted_fault(file: &[u8], b: Bundle, sorts: &[usize], free: &mut [u64]) -> Findings
-    requires { Whole file.now b × Sorted file.now b sorts.now × (set_words * b.terms ≤ length free.old) }
-    ensures fact { let bundle = bundle_at file.now b in
-        Found (or_next (sections_fault bundle) (late_fault bundle)) bundle result }
-    ensures free_after { result.fault.number ≡ 0 → free.new ≡ free_area (bundle_at file.now b) set_words (length free.old) }
+// What is wrong past the header, where the sorts of all terms are noted. Where nothing is, the area holds the free sets. While the file is checked they have
+// as many words as its variables ask for.
+fn sorted_fault(bundle: &Bundle, sorts: &[usize], free: &mut [u64]) -> Result<usize, Failure>
+    requires { Sorted bundle.now sorts.now × (set_words * length bundle.now.terms ≤ length free.old) }
+    ensures fact { Found (or_next (sections_fault bundle.now) (late_fault bundle.now)) bundle.now result }
+    ensures free_after { IfOk result (λ _. free.new ≡ free_area bundle.now set_words (length free.old)) }
 {
-    let early = terms::sections_fault(file, b, sorts);
-    if early.number != 0 {
-        return Findings {
-            fault: early,
-            pairs: 0,
-        };
-    }
-    let n = words_for(b.variables);
-    free_variables::free_sets(file, b, free, n);
-    let late = late_fault(file, b, sorts, free, n);
-    let later = late.fault;
-    if later.number != 0 {
-        return late;
-    }
-    spread(free, n, b.terms);
-    late
+    terms::sections_fault(bundle, sorts)?;
+    let n = words_for(bundle.variables());
+    free_variables::free_sets(bundle, free, n);
+    let pairs = late_fault(bundle, sorts, free, n)?;
+    spread(free, n, bundle.terms());
+    Ok(pairs)
 }
 
-// The first check that fails, number 0 where none does; the area then holds the free sets.
-fn fault_of(file: &[u8], free: &mut [u64]) -> Findings
-    ensures found { Found (fault_of file.now (length free.old)) (bundle_of file.now) result }
-    ensures free_after { result.fault.number ≡ 0 → free.new ≡ free_area (bundle_of file.now) set_words (length free.old) }
+// The same, with room for the sorts: a file with few terms gets little.
+fn noted_fault(bundle: &Bundle, free: &mut [u64]) -> Result<usize, Failure>
+    requires { set_words * length bundle.now.terms ≤ length free.old }
+    ensures fact { Found (or_next (sections_fault bundle.now) (late_fault bundle.now)) bundle.now result }
+    ensures free_after { IfOk result (λ _. free.new ≡ free_area bundle.now set_words (length free.old)) }
+{
+    if bundle.terms() < 256 {
+        let mut few = [0usize; 256];
+        note_sorts(bundle, &mut few);
+        return sorted_fault(bundle, &few, free);
+    }
+    let mut sorts = [0usize; Bundle::TERMS + 1];
+    note_sorts(bundle, &mut sorts);
+    sorted_fault(bundle, &sorts, free)
+}
+
+// What is said of a file of which no check fails; the area then holds the free sets.
+fn accepted(file: &[u8], free: &mut [u64]) -> Result<Acceptance, Failure>
+    ensures fault { fault_in result ≡ fault_of file.now (length free.old) }
+    ensures acceptance { IfOk result (λ a. a ≡ acceptance (bundle_of file.now)) }
+    ensures free_after { IfOk result (λ _. free.new ≡ free_area (bundle_of file.now) set_words (length free.old)) }
 {
     let lent = free.len();
     let required = lent_for(file);
-    let number = header_fault(file, lent, required);
-    if number != 0 {
-        return Findings {
-            fault: Fault { number, record: 0 },
-            pairs: 0,
-        };
+    match opened(file, lent, required) {
+        Err(check) => Err(Failure { check, record: 0 }),
+        Ok(bundle) => {
+            let pairs = noted_fault(&bundle, free)?;
+            Ok(Acceptance {
+                left: bundle.claim_left(),
+                right: bundle.claim_right(),
+                pairs,
+            })
+        }
     }
-    let b = counts(file);
-    if b.terms < 256 {
-        let mut few = [0usize; 256];
-        note_sorts(file, b, &mut few);
-        return sorted_fault(file, b, &few, free);
-    }
-    let mut sorts = [0usize; Bundle::TERMS + 1];
-    note_sorts(file, b, &mut sorts);
-    sorted_fault(file, b, &sorts, free)
 }
 
 // Checks a file. Where it is accepted, the lent area holds the free sets of its terms and zeros after them; where it is refused, zeros.
@@ -198,18 +186,13 @@ pub fn check(file: &[u8], free: &mut [u64]) -> Answer
     ensures value { result ≡ judge file.now (length free.old) }
     ensures free_after { free.new ≡ area_after file.now (length free.old) }
 {
-    let findings = fault_of(file, free);
-    let found = findings.fault;
-    if found.number != 0 {
-        sets::clear(free, 0, free.len());
-        return Answer::Refused {
-            number: found.number,
-            record: found.record,
-        };
+    match accepted(file, free) {
+        Ok(acceptance) => Answer::Accepted(acceptance),
+        Err(failure) => {
+            sets::clear(free, 0, free.len());
+            let number = failure.check.number();
+            let record = failure.record;
+            Answer::Refused { number, record }
+        }
     }
-    Answer::Accepted(Acceptance {
-        left: claim_left(file),
-        right: claim_right(file),
-        pairs: findings.pairs,
-    })
 }

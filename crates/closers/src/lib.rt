@@ -11,8 +11,8 @@ ghost use Rattle.expansion.specs.Nodes.{leaf};
 ghost use Rattle.expansion.specs.Visit.{visit, concluded, replacing, renaming, open_binder, close_application, close_binder};
 ghost use Rattle.placing.specs.Outcomes.{VisitOutcome, OpenOutcome, BinderOutcome, VisitIndexed, BinderIndexed};
 
-use bundle::Bundle;
 use bundle::digests::DIGESTS;
+use bundle::{Bundle, Counts};
 use logic::Image;
 use logic::kinds::{FIXES, REPLACES};
 use logic::rules::{BIND, CONG, REFL};
@@ -27,7 +27,7 @@ use scratch::images::image_in;
 // The step of a visit with no premises.
 fn conclude_alone(
     words: &mut [u32],
-    c: Bundle,
+    c: Counts,
     rule: usize,
     context: usize,
     left: usize,
@@ -43,7 +43,7 @@ fn conclude_alone(
 // The step of a visit with one premise.
 fn conclude_one(
     words: &mut [u32],
-    c: Bundle,
+    c: Counts,
     rule: usize,
     context: usize,
     left: usize,
@@ -67,7 +67,7 @@ fn conclude_one(
 // The step of a visit whose premises are the steps of the pairs from `from` to before `to`.
 pub fn conclude(
     words: &mut [u32],
-    c: Bundle,
+    c: Counts,
     rule: usize,
     context: usize,
     left: usize,
@@ -94,7 +94,7 @@ pub fn conclude(
 // A context that replaces the variables of a list by the results of the pairs from `from` to before `to`.
 pub fn open_let(
     words: &mut [u32],
-    c: Bundle,
+    c: Counts,
     variables: usize,
     parent: usize,
     stack: &[u64],
@@ -116,7 +116,7 @@ pub fn open_let(
 }
 
 // A context that replaces the variables of a list by one term.
-fn open_one(words: &mut [u32], c: Bundle, variables: usize, parent: usize, term: usize) -> Recorded
+fn open_one(words: &mut [u32], c: Counts, variables: usize, parent: usize, term: usize) -> Recorded
     requires { Ready words.old c × (variables ≤ 4294967295) × (parent ≤ 4294967295) × (term ≤ 4294967295) }
     ensures { (length words.new ≡ length words.old)
         × OpenOutcome (replacing (bundle_in words.old c) variables parent (term ∷ [])) words.new result }
@@ -136,7 +136,7 @@ fn open_one(words: &mut [u32], c: Bundle, variables: usize, parent: usize, term:
 // REFL from the term, which is variable x, to the image of x.
 pub fn close_variable(
     words: &mut [u32],
-    c: Bundle,
+    c: Counts,
     context: usize,
     term: usize,
     x: usize,
@@ -154,7 +154,7 @@ pub fn close_variable(
 
 pub fn close_application(
     words: &mut [u32],
-    c: Bundle,
+    c: Counts,
     context: usize,
     term: usize,
     symbol: usize,
@@ -188,7 +188,7 @@ pub fn close_application(
 // The contexts of a quantifier over x whose new variable is y, with the term t: y fixed, then x replaced by t.
 fn open_renaming(
     words: &mut [u32],
-    c: Bundle,
+    c: Counts,
     x: usize,
     y: usize,
     t: usize,
@@ -220,7 +220,7 @@ fn open_renaming(
 // The new variable, its term and the contexts of a quantifier over x. Its result binds the new variable.
 pub fn open_quantifier(
     words: &mut [u32],
-    c: Bundle,
+    c: Counts,
     x: usize,
     context: usize,
     index: &mut [u16; DIGESTS + Bundle::TERMS + 1],
@@ -257,7 +257,7 @@ pub fn open_quantifier(
 // The result of a quantifier's visit, and BIND, whose premise is the step.
 pub fn close_quantifier(
     words: &mut [u32],
-    c: Bundle,
+    c: Counts,
     context: usize,
     term: usize,
     kind: usize,

@@ -1,22 +1,17 @@
 -- Pairs of terms that meet, by what code reads of them.
 --     bound_meets_lem     at a variable that is bound on the left
 --     free_meets_lem, image_differs     at one that is free there: the right one is its image, or is not
---     nil_sorts, nil_length     two lists, where the first has ended
+--     none_sorts, none_length   two lists, where the first has ended
 --     variable_pair, application_pair, binder_pair, let_pair, other_pair     a pair by the kind of the left one
 use mathlib.Core.Path.{◌≡◌, refl, sym, ap, ◌∙◌}
 use mathlib.Core.Bool.{Bool, true, false, not, ◌&&◌}
-use mathlib.Core.List.{List, []}
-use Prim.Native.Nat.{ℕ, zero, suc, ◌≤◌}
-use native.Mathlib.Omega.{arith}
+use mathlib.Core.List.{List, [], ◌∷◌}
+use Prim.Native.Nat.{ℕ}
 use lib.ListN.{length}
-use lib.Dec.{eqb, eqb-suc-zero, eqb-zero-suc}
+use lib.Dec.{eqb, eqb-zero-suc}
 use borrow.Author.Tests.{ne_eqb}
-use Rattle.bundle.specs.declared.Bundle.{Bundle as Counts}
 use Rattle.bundle.specs.Bundle.{Bundle, TermRecord, term_of}
-use Rattle.bundle.specs.Links.{items, next_of}
-use Rattle.bundle.specs.File.{bundle_at}
-use Rattle.bundle.specs.Lists.{each, has}
-use Rattle.bundle.proofs.Walks.{walk_nil, walk_some}
+use Rattle.bundle.specs.Lists.{same_list, each, has}
 use Rattle.logic.specs.declared.Image.{Image}
 use Rattle.logic.specs.Terms.{Kind, kind_of, is_binder, variable, application, letting}
 use Rattle.logic.specs.ReflWalk.{Crossed, lefts, rights, image_is, bound_meets, free_meets, variable_meets}
@@ -48,21 +43,18 @@ module _ (free : ℕ → ℕ → Bool) (image : ℕ → Image) (b : Bundle) (ps 
     unfolding variable_meets free_meets
     image_differs di dg is = rw (out, ← di, ← dg, is)
 
--- ---- lists of variables, where one of them has ended
+-- ---- lists of which the first has ended
 
-some : (n : ℕ) → suc n ≡ 0 → ⊥
-some n e = omega arith
+module _ (b : Bundle) where
+  pub none_sorts : (ys : List ℕ) → all_sorts_meet b [] ys ≡ same_list [] ys
+  unfolding all_sorts_meet same_list
+  none_sorts [] = refl
+  none_sorts (y ∷ ys) = refl
 
-module _ (f : List ℕ) (c : Counts) where
-  pub nil_sorts : (j : ℕ) → j ≤ c.links → all_sorts_meet (bundle_at f c) [] (items (bundle_at f c) j) ≡ eqb j 0
-  unfolding all_sorts_meet
-  nil_sorts zero h = rw (walk_nil f c 0 refl)
-  nil_sorts (suc j) h = rw (walk_some f c (suc j) (some j) h, eqb-suc-zero j)
-
-  pub nil_length : (j : ℕ) → j ≤ c.links → eqb 0 (length (items (bundle_at f c) j)) ≡ eqb j 0
-  nil_length zero h = rw (walk_nil f c 0 refl)
-  nil_length (suc j) h =
-      rw (walk_some f c (suc j) (some j) h) (eqb-zero-suc (length (items (bundle_at f c) (next_of (bundle_at f c).links (suc j)))) ∙ sym (eqb-suc-zero j))
+pub none_length : (ys : List ℕ) → eqb 0 (length ys) ≡ same_list [] ys
+unfolding same_list
+none_length [] = refl
+none_length (y ∷ ys) = eqb-zero-suc (length ys)
 
 -- ---- a record's kind, from the tests of the code; p is what the function of that kind answers
 

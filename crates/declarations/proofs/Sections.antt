@@ -3,7 +3,7 @@
 use mathlib.Core.Path.{◌≡◌, refl, sym, ap, ◌∙◌}
 use Prim.Native.Nat.{ℕ, zero, suc}
 use Rattle.bundle.specs.Bundle.{Bundle}
-use Rattle.logic.specs.declared.Fault.{Fault}
+use Rattle.logic.specs.Tests.{Fault}
 use Rattle.logic.specs.Tests.{or_else, or_next}
 use Rattle.logic.specs.Checks.{links_fault, symbols_fault, variables_fault}
 use Rattle.logic.proofs.Firsts.{or_else_on, or_else_here}

@@ -1,7 +1,7 @@
 -- The sections that come before the terms.
 use Rattle.std.specs.Prelude.{ℕ}
 use Rattle.bundle.specs.Bundle.{Bundle}
-use Rattle.logic.specs.declared.Fault.{Fault}
+use Rattle.logic.specs.Tests.{Fault}
 use Rattle.logic.specs.Tests.{or_else, or_next}
 use Rattle.logic.specs.Checks.{link_fault, symbol_fault, variable_fault, links_fault, symbols_fault, variables_fault}
 use Rattle.declarations.specs.declared.Section.{Section}

@@ -2,15 +2,14 @@
 ghost use Rattle.std.specs.Prelude.{◌≡◌, cond, leb};
 ghost use Rattle.bundle.specs.Links.{items};
 ghost use Rattle.bundle.specs.Lists.{each};
-ghost use Rattle.bundle.specs.File.{Whole, bundle_at};
+ghost use Rattle.logic.specs.Failures.{number_of, number_in};
 ghost use Rattle.logic.specs.Symbols.{item_sort, is_sort};
 ghost use Rattle.logic.specs.Checks.{good_next};
 ghost use Rattle.declarations.specs.Sections.{record_fault};
 
 use super::Section;
 use bundle::Bundle;
-use bundle::lists::{first_link, next_link};
-use bundle::records::{link_field, symbol_field, variable_sort};
+use logic::checks::Check;
 
 // Whether the next of link i of so many is 0, or above i and a link.
 fn good_next(links: usize, i: usize, next: usize) -> bool
@@ -27,50 +26,44 @@ fn is_sort(s: usize) -> bool
 }
 
 // Whether each item of a list is a sort.
-fn all_sorts(file: &[u8], b: Bundle, list: usize) -> bool
-    requires { Whole file.now b }
-    ensures { let bundle = bundle_at file.now b in
-        result ≡ each (is_sort bundle) (items bundle list) }
+fn all_sorts(bundle: &Bundle, list: usize) -> bool
+    ensures { result ≡ each (is_sort bundle.now) (items bundle.now list) }
 {
-    let mut i = first_link(b, list);
-    while i != 0 {
-        let s = link_field(file, b, i, 0);
+    for s in bundle.items(list) {
         if !is_sort(s) {
             return false;
         }
-        i = next_link(file, b, i);
     }
     true
 }
 
-// The number of a check, or 0 where it is passed.
-fn unless(passed: bool, number: usize) -> usize
-    ensures { result ≡ cond passed 0 number }
+// The check, where it is not passed.
+fn unless(passed: bool, check: Check) -> Result<(), Check>
+    ensures { number_in result ≡ cond passed 0 (number_of check) }
 {
-    if passed { 0 } else { number }
+    if passed { Ok(()) } else { Err(check) }
 }
 
 // What is wrong with record i of a section.
-pub fn record_fault(file: &[u8], b: Bundle, section: Section, i: usize) -> usize
-    requires { Whole file.now b }
-    ensures { result ≡ record_fault (bundle_at file.now b) section i }
+pub fn record_fault(bundle: &Bundle, section: Section, i: usize) -> Result<(), Check>
+    ensures { number_in result ≡ record_fault bundle.now section i }
 {
     match section {
         Section::Links => {
-            let next = link_field(file, b, i, 1);
-            unless(good_next(b.links, i, next), 5)
+            let next = bundle.link_field(i, 1);
+            unless(good_next(bundle.links(), i, next), Check::Next)
         }
         Section::Symbols => {
-            let result = symbol_field(file, b, i, 0);
-            let sorts = symbol_field(file, b, i, 1);
+            let result = bundle.symbol_field(i, 0);
+            let sorts = bundle.symbol_field(i, 1);
             unless(
-                is_sort(result) & (sorts <= b.links) & all_sorts(file, b, sorts),
-                6,
+                is_sort(result) & (sorts <= bundle.links()) & all_sorts(bundle, sorts),
+                Check::Declared,
             )
         }
         Section::Variables => {
-            let sort = variable_sort(file, b, i);
-            unless(is_sort(sort), 6)
+            let sort = bundle.variable_sort(i);
+            unless(is_sort(sort), Check::Declared)
         }
     }
 }

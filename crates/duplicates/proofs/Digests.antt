@@ -1,12 +1,13 @@
 -- Terms filed by their digests.
 --     same_digest                  terms with the same record have the same digest
---     mix_none, mix_on, mix_full   the first items of a list, along a walk
+--     mix_on, mix_end              the first items of a list, along a walk
 --     term_filed                   once term i is filed, the terms below i + 1 are
 --     same, new_at_end, not_new    a walk that found none with the record of term i; one that found one
 use mathlib.Core.Path.{◌≡◌, refl, sym, ap}
 use mathlib.Core.Bool.{Bool, true, false, not}
 use mathlib.Core.List.{List, [], ◌∷◌}
 use Prim.Native.Nat.{ℕ, zero, suc, ◌+◌, ◌≤◌, ◌<◌, ◌-◌}
+use native.Mathlib.Numerals.{add-one}
 use native.Mathlib.Omega.{arith}
 use lib.ListN.{length, get_or, set}
 use lib.Seq.{get_or-set_same, get_or-set_other}
@@ -22,19 +23,14 @@ use Rattle.duplicates.specs.Digests.{mix_items, mix_field, term_digest, FiledBel
 
 -- ---- the first items of a list, along a walk
 
-pub mix_none : (n d : ℕ) → mix_items n d [] ≡ d
+pub mix_on : (n m d x : ℕ) (xs : List ℕ) → m + 1 ≡ n → mix_items n d (x ∷ xs) ≡ mix_items m (mix d x) xs
 unfolding mix_items
-mix_none zero d = refl
-mix_none (suc n) d = refl
+mix_on n m d x xs e = rw (← e, add-one m)
 
-pub mix_on : (n d x : ℕ) (xs : List ℕ) → (n ≡ 0 → ⊥) → mix_items n d (x ∷ xs) ≡ mix_items (n - 1) (mix d x) xs
+pub mix_end : (n d : ℕ) (xs : List ℕ) → (0 < n → xs ≡ []) → mix_items n d xs ≡ d
 unfolding mix_items
-mix_on zero d x xs ne = absurd (ne refl)
-mix_on (suc n) d x xs ne = let e : suc n - 1 ≡ n = omega arith in rw e
-
-pub mix_full : (n d : ℕ) (xs : List ℕ) → n ≡ 0 → mix_items n d xs ≡ d
-unfolding mix_items
-mix_full n d xs e = rw e
+mix_end zero d xs end = refl
+mix_end (suc n) d xs end = rw (end (omega arith))
 
 -- ---- the same record, the same digest
 

@@ -1,6 +1,6 @@
 -- What is answered where a formula, or the parts of one, have been read, against the records without limits.
 use Rattle.std.specs.Prelude.{ℕ, ◌≤◌, ◌<◌, ◌≡◌, true, List, length}
-use Rattle.bundle.specs.declared.Bundle.{Bundle as Counts}
+use Rattle.bundle.specs.declared.Counts.{Counts}
 use Rattle.bundle.specs.Bundle.{Bundle}
 use Rattle.scratch.specs.Scratch.{bundle_in, Ready}
 use Rattle.filing.specs.Filing.{Indexed}

@@ -2,8 +2,7 @@
 #![tactic(auto)]
 
 ghost use Rattle.std.specs.Prelude.{◌≡◌, true, false, ◌∷◌, ℕ, ◌≤◌, ◌<◌, length};
-ghost use Rattle.bundle.specs.declared.Bundle.{Bundle as Counts};
-ghost use Rattle.bundle.specs.File.{Whole, bundle_at};
+ghost use Rattle.bundle.specs.declared.Counts.{Counts};
 ghost use Rattle.logic.specs.Symbols.{signature_of, result_sort};
 ghost use Rattle.logic.specs.Terms.{Binder, binder, number_of, is_binder};
 ghost use Rattle.scratch.specs.Scratch.{bundle_in};
@@ -16,9 +15,8 @@ ghost use Rattle.lexing.specs.Counted.{variable_among};
 ghost use Rattle.heads.specs.HeadSymbols.{symbol_for};
 ghost use Rattle.endings.specs.ReadOutcomes.{ending, Held, TermHeld, PartsHeld, TermOutcome, TermInside, Closed};
 
-use bundle::Bundle;
 use bundle::digests::DIGESTS;
-use bundle::records::variable_sort;
+use bundle::{Bundle, Counts};
 use heads::places::part_end;
 use heads::words::symbol_for;
 use lexing::names::variable_called;
@@ -29,7 +27,7 @@ use sorting::sorts::{result_sort, signature_of};
 #[derive(Clone, Copy)]
 pub enum ReadTerm {
     Done {
-        counts: Bundle,
+        counts: Counts,
         term: usize,
         sort: usize,
         end: usize,
@@ -41,7 +39,7 @@ pub enum ReadTerm {
 #[derive(Clone, Copy)]
 pub enum ReadParts {
     Done {
-        counts: Bundle,
+        counts: Counts,
         height: usize,
         sort: usize,
         end: usize,
@@ -68,53 +66,50 @@ fn ended(p: Recorded, sort: usize, end: usize) -> ReadTerm
 }
 
 // The result sort of symbol f.
-fn symbol_sort(file: &[u8], b: Bundle, f: usize) -> usize
-    requires { Whole file.now b }
-    ensures { result ≡ result_sort (bundle_at file.now b) (signature_of (bundle_at file.now b) f) }
+fn symbol_sort(bundle: &Bundle, f: usize) -> usize
+    ensures { result ≡ result_sort bundle.now (signature_of bundle.now f) }
 {
-    let s = signature_of(b, f);
-    result_sort(file, b, s)
+    let s = signature_of(bundle, f);
+    result_sort(bundle, s)
 }
 
 // A word alone: a variable, or a symbol with no arguments.
 pub fn place_word(
-    file: &[u8],
-    b: Bundle,
+    bundle: &Bundle,
     run: &[u8],
     words: &mut [u32],
     stack: &[u64],
     index: &mut [u16; DIGESTS + Bundle::TERMS + 1],
-    c: Bundle,
+    c: Counts,
     height: usize,
     end: usize,
 ) -> ReadTerm
-    requires { Whole file.now b × Held words.old index.old c × (height ≤ length stack.now) }
+    requires { Held words.old index.old c × (height ≤ length stack.now) }
     ensures { (length words.new ≡ length words.old) × TermHeld words.new index.new result
         × TermOutcome
-        (fileTerm (alone_term (variable_among b.variables run.now) (symbol_for b.symbols (word_of run.now) 0))
+        (fileTerm (alone_term (variable_among (length bundle.now.variables) run.now) (symbol_for (length bundle.now.symbols) (word_of run.now) 0))
         (bundle_in words.old c))
-        (alone_sort (bundle_at file.now b) (variable_among b.variables run.now)
-        (symbol_for b.symbols (word_of run.now) 0))
+        (alone_sort bundle.now (variable_among (length bundle.now.variables) run.now)
+        (symbol_for (length bundle.now.symbols) (word_of run.now) 0))
         end words.new result }
 {
-    let variables = b.variables;
-    let symbols = b.symbols;
+    let variables = bundle.variables();
+    let symbols = bundle.symbols();
     let x = variable_called(variables, run);
     if x != 0 {
-        let sort = variable_sort(file, b, x);
+        let sort = bundle.variable_sort(x);
         let p = place_variable(words, c, x, index);
         return ended(p, sort, end);
     }
     let f = symbol_for(symbols, run, 0);
-    let sort = symbol_sort(file, b, f);
+    let sort = symbol_sort(bundle, f);
     let p = place_application(words, c, f, stack, height, height, index);
     ended(p, sort, end)
 }
 
 // The symbol that a word stands for, at the terms of its parts: the upper halves of the pairs from `height` on.
 pub fn apply_parts(
-    file: &[u8],
-    b: Bundle,
+    bundle: &Bundle,
     run: &[u8],
     words: &mut [u32],
     stack: &[u64],
@@ -122,14 +117,14 @@ pub fn apply_parts(
     height: usize,
     parts: ReadParts,
 ) -> ReadTerm
-    requires { Whole file.now b × PartsHeld words.old index.old stack.now height parts }
+    requires { PartsHeld words.old index.old stack.now height parts }
     ensures { (length words.new ≡ length words.old) × TermHeld words.new index.new result
         × (parts ≡ ReadParts.Full → result ≡ ReadTerm.Full)
         × ((c : Counts) (top s e : ℕ) → parts ≡ ReadParts.Done c top s e
         → TermOutcome
-        (place_application (bundle_in words.old c) (symbol_for b.symbols (word_of run.now) s) (halves true stack.now height top))
-        (result_sort (bundle_at file.now b)
-        (signature_of (bundle_at file.now b) (symbol_for b.symbols (word_of run.now) s)))
+        (place_application (bundle_in words.old c) (symbol_for (length bundle.now.symbols) (word_of run.now) s) (halves true stack.now height top))
+        (result_sort bundle.now
+        (signature_of bundle.now (symbol_for (length bundle.now.symbols) (word_of run.now) s)))
         e words.new result) }
 {
     match parts {
@@ -140,9 +135,9 @@ pub fn apply_parts(
             sort: first,
             end,
         } => {
-            let symbols = b.symbols;
+            let symbols = bundle.symbols();
             let f = symbol_for(symbols, run, first);
-            let sort = symbol_sort(file, b, f);
+            let sort = symbol_sort(bundle, f);
             let p = place_application(words, counts, f, stack, height, top, index);
             ended(p, sort, end)
         }

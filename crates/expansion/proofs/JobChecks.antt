@@ -18,7 +18,7 @@ use Rattle.bundle.specs.Bundle.{Bundle}
 use Rattle.bundle.specs.Limits.{header_words, Within}
 use Rattle.bundle.specs.File.{bundle_of}
 use Rattle.bundle.proofs.Limits.{within_all, within_true}
-use Rattle.logic.specs.declared.Fault.{Fault}
+use Rattle.logic.specs.Tests.{Fault}
 use Rattle.logic.specs.Lists.{All}
 use Rattle.logic.specs.Tests.{fault}
 use Rattle.logic.specs.Terms.{tree}

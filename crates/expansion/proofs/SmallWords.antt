@@ -13,7 +13,7 @@ use mathlib.Core.List.{List, [], ◌∷◌, ◌++◌}
 use native.Mathlib.Omega.{arith}
 use lib.ListN.{length, get_or, length-append}
 use lib.Dec.{eqb, ltb}
-use Rattle.bundle.specs.declared.Bundle.{Bundle as Counts}
+use Rattle.bundle.specs.declared.Counts.{Counts}
 use Rattle.bundle.specs.Bundle.{Bundle, Link, TermRecord, Context, Step, at, no_term, no_context, sort_of_variable, context_of}
 use Rattle.bundle.specs.Words.{word_at}
 use Rattle.bundle.specs.Limits.{Within}

@@ -4,7 +4,7 @@ use Rattle.bundle.specs.Bundle.{Bundle}
 use Rattle.bundle.specs.Lists.{numbers}
 use Rattle.bundle.specs.Limits.{set_words, limits, words_of, bytes_of, header_words, within_of}
 use Rattle.bundle.specs.File.{bundle_of}
-use Rattle.logic.specs.declared.Fault.{Fault}
+use Rattle.logic.specs.Tests.{Fault}
 use Rattle.logic.specs.Tests.{passed, up_to, Test, test, first_failing, fault, or_else, or_next}
 use Rattle.logic.specs.Free.{free_at}
 use Rattle.logic.specs.Checks.{tables_fault}

@@ -1,13 +1,15 @@
 -- Words stored as bytes, one list of words after another.
 --     stored_none, stored_on     no word stored, and words after words
---     word_stored                four stores of a byte store a word
-use mathlib.Core.Path.{◌≡◌, refl, ap, ◌∙◌}
+--     four_bytes, word_stored    the bytes of a word, and a word stored by them
+use mathlib.Core.Path.{◌≡◌, refl, ◌∙◌}
 use mathlib.Core.List.{List, [], ◌∷◌, ◌++◌, append_assoc, append-nil}
-use Prim.Native.Nat.{ℕ, suc, ◌+◌, ◌*◌, ◌/◌, ◌%◌, ◌≤◌}
-use native.Mathlib.Nat.{div-one}
+use Prim.Native.Nat.{ℕ, ◌+◌, ◌-◌, ◌*◌, ◌≤◌}
 use native.Mathlib.Omega.{arith}
-use lib.ListN.{length, set, take, drop, length-append}
-use lib.Seq.{length-take-le, take_at, sets-eq, length-sets}
+use lib.ListN.{length}
+use borrow.Author.Rules.{rules}
+use borrow.Rule.Slice.PartMut.{put_mid}
+use Rattle.std.specs.Int.{to_le_bytes, w32}
+use Rattle.std.proofs.lemmas.Slice.{take-put_mid, overwrites}
 use Rattle.bundle.specs.Words.{encode}
 use Rattle.files.specs.Stores.{WordsStored}
 
@@ -26,18 +28,16 @@ stored_on {xs = xs} {ys = ys} v w = record {
   bytes = w.bytes ∙ rw (v.bytes, encode_append xs ys, append_assoc);
 }
 
-pub word_stored : (o : List ℕ) (p x : ℕ) → 4 * (p + 1) ≤ length o
-    → WordsStored o p (p + 1) (x ∷ [])
-    (set (set (set (set o (4 * p) (x / 1 % 256)) (4 * p + 1) (x / 256 % 256)) (4 * p + 2) (x / 65536 % 256)) (4 * p + 3) (x / 16777216 % 256))
+-- four bytes, the lowest first
+pub four_bytes : (x : ℕ) → to_le_bytes w32 x ≡ encode (x ∷ [])
 unfolding encode
-word_stored o p x h =
-    let e1 : 4 * p + 1 ≡ suc (4 * p) = omega arith in
-    let e2 : 4 * p + 2 ≡ suc (suc (4 * p)) = omega arith in
-    let e3 : 4 * p + 3 ≡ suc (suc (suc (4 * p))) = omega arith in
-    let bytes = encode (x ∷ []) in
-    let long : length (take (4 * p) o ++ bytes) ≡ 4 * (p + 1) = rw (length-append, length-take-le (4 * p) o (omega arith)) (omega arith) in
-    rw (e1, e2, e3, div-one x)
-    (record {
-      long = length-sets o (4 * p) bytes;
-      bytes = ap (take (4 * (p + 1))) (sets-eq bytes o (4 * p) (omega arith)) ∙ take_at (take (4 * p) o ++ bytes) (drop (4 * p + 4) o) (4 * (p + 1)) long;
-    })
+four_bytes x = refl
+
+-- they are written over those of word p
+pub word_stored : (o ys : List ℕ) (p x : ℕ) → 4 * (p + 1) ≤ length o → ys ≡ encode (x ∷ [])
+    → WordsStored o p (p + 1) (x ∷ []) (put_mid (4 * p) (4 * p + 4 - 4 * p) o ys)
+unfolding encode
+word_stored o ys p x h e =
+    let four : length ys ≡ 4 = rw e in
+    let long : length (put_mid (4 * p) (4 * p + 4 - 4 * p) o ys) ≡ length o = search (rules, overwrites) in
+    record { long = long; bytes = take-put_mid (4 * p) (4 * p + 4 - 4 * p) o ys (4 * (p + 1)) (omega arith) (omega arith) ∙ rw e }

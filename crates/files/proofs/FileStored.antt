@@ -11,7 +11,7 @@ use native.Mathlib.Nat.{mul-suc}
 use native.Mathlib.Omega.{arith}
 use lib.ListN.{length, get_or, take, drop, length-drop}
 use lib.Seq.{take-suc, take-add, drop-drop, get_or-drop}
-use Rattle.bundle.specs.declared.Bundle.{Bundle as Counts}
+use Rattle.bundle.specs.declared.Counts.{Counts}
 use Rattle.bundle.specs.Bundle.{Bundle}
 use Rattle.bundle.specs.Words.{encode}
 use Rattle.bundle.specs.Limits.{limits, header_length, header_words, symbols_at, variables_at, terms_at, links_at, contexts_at, steps_at, bytes_of}

@@ -9,7 +9,7 @@ use mathlib.Core.List.{List}
 use native.Mathlib.Nat.{not-suc-le-zero, le_of_suc-le-suc, eq-or-lt_of_le}
 use native.Mathlib.Omega.{arith}
 use lib.ListN.{length, get_or}
-use Rattle.bundle.specs.declared.Bundle.{Bundle as Counts}
+use Rattle.bundle.specs.declared.Counts.{Counts}
 use Rattle.bundle.specs.Words.{word_at}
 use Rattle.bundle.specs.Limits.{limits, header_length, header_words, symbols_at, variables_at, terms_at, links_at, contexts_at, steps_at, Within}
 use Rattle.bundle.specs.Limits.{sections, extent_of, place_of}

@@ -5,22 +5,13 @@ ghost use Rattle.files.specs.Stores.{WordsStored};
 
 use bundle::words::{as_word, word_at};
 
-fn byte_of(x: u32, divisor: u32) -> u8
-    requires { 1 ≤ divisor }
-    ensures { result ≡ x / divisor % 256 }
-{
-    (x / divisor % 256) as u8
-}
-
 // Copies `count` words of the file from word `from` on to the words from place `to` on.
 pub fn copy_section(file: &[u8], from: usize, words: &mut [u32], to: usize, count: usize)
     requires { (4 * (from + count) ≤ length file.now) × (to + count ≤ length words.old) }
     ensures { words.new ≡ copied words.old to file.now from count }
 {
-    let mut i = 0;
-    while i < count {
+    for i in 0..count {
         words[to + i] = as_word(word_at(file, from + i));
-        i += 1;
     }
 }
 
@@ -30,10 +21,7 @@ fn put_word(out: &mut [u8], place: usize, x: u32)
     ensures { WordsStored out.old place (place + 1) (x ∷ []) out.new }
 {
     let at = 4 * place;
-    out[at] = byte_of(x, 1);
-    out[at + 1] = byte_of(x, 256);
-    out[at + 2] = byte_of(x, 65536);
-    out[at + 3] = byte_of(x, 16777216);
+    out[at..at + 4].copy_from_slice(&x.to_le_bytes());
 }
 
 // Stores `count` words from place `from` on as bytes, from word `place` of the output on.
@@ -41,9 +29,7 @@ pub fn store_section(words: &[u32], from: usize, count: usize, out: &mut [u8], p
     requires { (from + count ≤ length words.now) × (4 * (place + count) ≤ length out.old) }
     ensures { WordsStored out.old place (place + count) (take count (drop from words.now)) out.new }
 {
-    let mut i = 0;
-    while i < count {
+    for i in 0..count {
         put_word(out, place + i, words[from + i]);
-        i += 1;
     }
 }

@@ -10,9 +10,9 @@ ghost use Rattle.scratch.specs.Scratch.{bundle_in, Roomy};
 ghost use Rattle.scratch.specs.Stack.{halves};
 ghost use Rattle.filing.specs.Filing.{mix_all, root_digest, let_digest, lookup_digest, Indexed};
 
-use bundle::Bundle;
 use bundle::digests::{DIGESTS, mixed};
-use bundle::lists::first_link;
+use bundle::items::starting;
+use bundle::{Bundle, Counts};
 use logic::kinds::{APPLICATION, LET};
 use scratch::lists::{half, next_link};
 use scratch::records::{link_field, term_field};
@@ -42,12 +42,12 @@ pub fn mixed_halves(d: usize, stack: &[u64], upper: bool, from: usize, to: usize
 }
 
 // A digest and the items of a list.
-fn mixed_items(words: &[u32], c: Bundle, d: usize, list: usize) -> usize
+fn mixed_items(words: &[u32], c: Counts, d: usize, list: usize) -> usize
     requires { Roomy words.now c × (d < digests) }
     ensures { (result ≡ mix_all d (items (bundle_in words.now c) list)) × (result < digests) }
 {
     let mut sum = d;
-    let mut i = first_link(c, list);
+    let mut i = starting(c.links, list);
     while i != 0 {
         let x = link_field(words, c, i, 0);
         sum = mixed(sum, x);
@@ -57,7 +57,7 @@ fn mixed_items(words: &[u32], c: Bundle, d: usize, list: usize) -> usize
 }
 
 // The digest of a let, by its lists of variables and of bound terms and its body.
-fn let_digest(words: &[u32], c: Bundle, variables: usize, bound: usize, body: usize) -> usize
+fn let_digest(words: &[u32], c: Counts, variables: usize, bound: usize, body: usize) -> usize
     requires { Roomy words.now c }
     ensures { (result ≡ let_digest (items (bundle_in words.now c) variables) (items (bundle_in words.now c) bound) body)
         × (result < digests) }
@@ -81,7 +81,7 @@ pub fn pairs_digest(body: usize, stack: &[u64], from: usize, to: usize) -> usize
 }
 
 // The digest of the record of term t.
-fn digest(words: &[u32], c: Bundle, t: usize) -> usize
+fn digest(words: &[u32], c: Counts, t: usize) -> usize
     requires { Roomy words.now c }
     ensures { (result ≡ lookup_digest (bundle_in words.now c) (term_of (bundle_in words.now c) t)) × (result < digests) }
 {
@@ -110,7 +110,7 @@ pub fn file_term(index: &mut [u16; DIGESTS + Bundle::TERMS + 1], d: usize, t: us
 }
 
 // Files all terms, where none is filed yet.
-pub fn file_terms(words: &[u32], c: Bundle, index: &mut [u16; DIGESTS + Bundle::TERMS + 1])
+pub fn file_terms(words: &[u32], c: Counts, index: &mut [u16; DIGESTS + Bundle::TERMS + 1])
     requires { Roomy words.now c × TablesFormed (bundle_in words.now c) × (index.old ≡ replicate (digests + limits.terms + 1) 0) }
     ensures { Indexed (bundle_in words.now c) index.new }
 {

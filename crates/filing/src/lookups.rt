@@ -9,15 +9,14 @@ ghost use Rattle.scratch.specs.Scratch.{bundle_in, Roomy};
 ghost use Rattle.scratch.specs.Stack.{halves};
 ghost use Rattle.filing.specs.Filing.{mix_all, root_digest, let_digest, Indexed};
 
-use bundle::Bundle;
 use bundle::digests::DIGESTS;
-use bundle::halves::wide;
+use bundle::{Bundle, Counts};
 use logic::kinds::{APPLICATION, LET, VARIABLE};
 use scratch::lists::same_halves;
 use scratch::records::term_field;
 
 // Whether term t is the variable y.
-fn is_variable(words: &[u32], c: Bundle, t: usize, y: usize) -> bool
+fn is_variable(words: &[u32], c: Counts, t: usize, y: usize) -> bool
     requires { Roomy words.now c }
     ensures { result ≡ same_variable y (term_of (bundle_in words.now c) t) }
 {
@@ -29,7 +28,7 @@ fn is_variable(words: &[u32], c: Bundle, t: usize, y: usize) -> bool
 // d is the digest of the variable.
 pub fn find_variable(
     words: &[u32],
-    c: Bundle,
+    c: Counts,
     index: &[u16; DIGESTS + Bundle::TERMS + 1],
     d: usize,
     y: usize,
@@ -38,11 +37,11 @@ pub fn find_variable(
     ensures { result ≡ seek (same_variable y) (bundle_in words.now c).terms }
 {
     let mut found = 0;
-    let mut t = wide(index[d]);
+    let mut t = usize::from(index[d]);
     while t != 0 {
         let same = is_variable(words, c, t, y);
         found = if same { t } else { found };
-        t = wide(index[DIGESTS + t]);
+        t = usize::from(index[DIGESTS + t]);
     }
     found
 }
@@ -50,7 +49,7 @@ pub fn find_variable(
 // Whether term t is the symbol at the results of the pairs from `from` to before `to`.
 fn is_application(
     words: &[u32],
-    c: Bundle,
+    c: Counts,
     t: usize,
     symbol: usize,
     stack: &[u64],
@@ -76,7 +75,7 @@ fn is_application(
 // d is the digest of the application.
 pub fn find_application(
     words: &[u32],
-    c: Bundle,
+    c: Counts,
     index: &[u16; DIGESTS + Bundle::TERMS + 1],
     d: usize,
     symbol: usize,
@@ -90,17 +89,17 @@ pub fn find_application(
         (bundle_in words.now c).terms }
 {
     let mut found = 0;
-    let mut t = wide(index[d]);
+    let mut t = usize::from(index[d]);
     while t != 0 {
         let same = is_application(words, c, t, symbol, stack, from, to);
         found = if same { t } else { found };
-        t = wide(index[DIGESTS + t]);
+        t = usize::from(index[DIGESTS + t]);
     }
     found
 }
 
 // Whether term t has this kind, which is a binder's, this variable and this body.
-fn same_binder(words: &[u32], c: Bundle, t: usize, kind: usize, y: usize, body: usize) -> bool
+fn same_binder(words: &[u32], c: Counts, t: usize, kind: usize, y: usize, body: usize) -> bool
     requires { Roomy words.now c }
     ensures { (q : Binder) → kind ≡ number_of (binder q) → result ≡ same_binder q y body (term_of (bundle_in words.now c) t) }
 {
@@ -113,7 +112,7 @@ fn same_binder(words: &[u32], c: Bundle, t: usize, kind: usize, y: usize, body: 
 // d is the digest of the binder.
 pub fn find_binder(
     words: &[u32],
-    c: Bundle,
+    c: Counts,
     index: &[u16; DIGESTS + Bundle::TERMS + 1],
     d: usize,
     kind: usize,
@@ -124,11 +123,11 @@ pub fn find_binder(
     ensures { (q : Binder) → kind ≡ number_of (binder q) → result ≡ seek (same_binder q y body) (bundle_in words.now c).terms }
 {
     let mut found = 0;
-    let mut t = wide(index[d]);
+    let mut t = usize::from(index[d]);
     while t != 0 {
         let same = same_binder(words, c, t, kind, y, body);
         found = if same { t } else { found };
-        t = wide(index[DIGESTS + t]);
+        t = usize::from(index[DIGESTS + t]);
     }
     found
 }
@@ -137,7 +136,7 @@ pub fn find_binder(
 // bound term in its upper.
 fn is_let(
     words: &[u32],
-    c: Bundle,
+    c: Counts,
     t: usize,
     body: usize,
     stack: &[u64],
@@ -163,7 +162,7 @@ fn is_let(
 // d is the digest of the let.
 pub fn find_let(
     words: &[u32],
-    c: Bundle,
+    c: Counts,
     index: &[u16; DIGESTS + Bundle::TERMS + 1],
     d: usize,
     body: usize,
@@ -178,11 +177,11 @@ pub fn find_let(
         (bundle_in words.now c).terms }
 {
     let mut found = 0;
-    let mut t = wide(index[d]);
+    let mut t = usize::from(index[d]);
     while t != 0 {
         let same = is_let(words, c, t, body, stack, from, to);
         found = if same { t } else { found };
-        t = wide(index[DIGESTS + t]);
+        t = usize::from(index[DIGESTS + t]);
     }
     found
 }

@@ -11,9 +11,8 @@ use mathlib.Core.Path.{◌≡◌, refl, sym, ap, ◌∙◌, subst}
 use mathlib.Core.Bool.{Bool, true, false, cond, true≢false, false≢true}
 use mathlib.Core.List.{List, [], ◌∷◌, map}
 use lib.ListN.{length}
-use Rattle.bundle.specs.declared.Bundle.{Bundle as Counts}
+use Rattle.bundle.specs.declared.Counts.{Counts}
 use Rattle.bundle.specs.Bundle.{Bundle}
-use Rattle.bundle.specs.File.{bundle_at}
 use Rattle.logic.specs.Symbols.{truth_sort, signature_of, result_sort}
 use Rattle.logic.specs.Terms.{Binder, binder, number_of, Term, Terms, app, bind, let_in, none, more}
 use Rattle.scratch.specs.Scratch.{bundle_in}
@@ -161,15 +160,12 @@ module _ {text : List ℕ} {i : ℕ} {r : Head} (at : HeadAt text i r) where
 
   -- ---- a word alone
 
-  module _ (f : List ℕ) (k : Counts) where
-    abbrev D : Bundle
-    D = bundle_at f k
-
+  module _ (D : Bundle) where
     abbrev its_variable : ℕ
-    its_variable = variable_among k.variables its_word
+    its_variable = variable_among (length D.variables) its_word
 
     abbrev its_symbol : ℕ → ℕ
-    its_symbol s = symbol_for k.symbols (word_of its_word) s
+    its_symbol s = symbol_for (length D.symbols) (word_of its_word) s
 
     pub word_reads : {b : Bundle} {h n : ℕ} {w : List ℕ} {res : ReadTerm} → r.kind ≡ 0
         → TermOutcome (file (alone_term its_variable (its_symbol 0)) b) (alone_sort D its_variable (its_symbol 0)) r.inside w res
@@ -178,12 +174,12 @@ module _ {text : List ℕ} {i : ℕ} {r : Head} (at : HeadAt text i r) where
     word_reads {b} {h} {n} {w} {res} e o = word_only e _
         (λ v rest s.
         let same : its_word ≡ v = name_is its_word v s.word in
-        let x : its_variable ≡ variable_called D v = ap (variable_among k.variables) same ∙ variable_called_lem f k v in
-        let g : its_symbol 0 ≡ symbol_called D v = ap (λ m. symbol_for k.symbols m 0) s.word ∙ symbol_called_lem f k v in
+        let x : its_variable ≡ variable_called D v = ap (variable_among (length D.variables)) same ∙ variable_called_lem D v in
+        let g : its_symbol 0 ≡ symbol_called D v = ap (λ m. symbol_for (length D.symbols) m 0) s.word ∙ symbol_called_lem D v in
         outcome_of_lem (alone_term (variable_called D v) (symbol_called D v)) b (with_numbers x g) s.inside)
         (λ v rest s.
-        let x : its_variable ≡ 0 = constant_none k.variables v its_word s.word in
-        let g : its_symbol 0 ≡ cond v 1 2 = ap (λ m. symbol_for k.symbols m 0) s.word in
+        let x : its_variable ≡ 0 = constant_none (length D.variables) v its_word s.word in
+        let g : its_symbol 0 ≡ cond v 1 2 = ap (λ m. symbol_for (length D.symbols) m 0) s.word in
         outcome_of_lem (alone_term 0 (cond v 1 2)) b
         (subst (λ (z : ℕ). TermOutcome (file (alone_term 0 (cond v 1 2)) b) z r.inside w res) (constant_sort D v) (with_numbers x g)) s.inside)
       where
@@ -217,12 +213,12 @@ module _ {text : List ℕ} {i : ℕ} {r : Head} (at : HeadAt text i r) where
         where
           go : (φ : Bracketed) (rest : List Lexeme) → HeadInside text r φ rest
               → ReadOutcome text (plain D (bracketed φ)) (head_sort D (bracketed φ)) rest b h (suc n) w2 res
-          go (denies φ) rest s = applied (gave _ rest s.inside) 3 (ap (λ m. symbol_for k.symbols m (head_sort D φ)) s.word)
+          go (denies φ) rest s = applied (gave _ rest s.inside) 3 (ap (λ m. symbol_for (length D.symbols) m (head_sort D φ)) s.word)
           go (connects c φ ψ) rest s =
-              applied (gave _ rest s.inside) (connective_symbol c (head_sort D φ)) (ap (λ m. symbol_for k.symbols m (head_sort D φ)) s.word)
+              applied (gave _ rest s.inside) (connective_symbol c (head_sort D φ)) (ap (λ m. symbol_for (length D.symbols) m (head_sort D φ)) s.word)
           go (applies g φ φs) rest s =
               let o = gave (record { called = []; formula = φ } ∷ arguments φs) rest s.inside in
-              let z = applied o (symbol_called D g) (ap (λ m. symbol_for k.symbols m (head_sort D φ)) s.word ∙ symbol_called_lem f k g) in
+              let z = applied o (symbol_called D g) (ap (λ m. symbol_for (length D.symbols) m (head_sort D φ)) s.word ∙ symbol_called_lem D g) in
               subst (λ (ts : Terms). ReadOutcome text (app (symbol_called D g) (more (plain D φ) ts)) (result_sort D (signature_of D (symbol_called D g))) rest b h
               (suc n) w2 res) (terms_arguments D φs) z
           go (quantifies q x xs φ) rest s = absurd (omega (arith, e, s.kind))
@@ -299,10 +295,7 @@ application_leaves {text} {w} {st} {h} {i} {j} {w1} {st1} {ix1} {w2} {ix2} {part
 
 -- ---- the variables of a quantifier
 
-module _ (f : List ℕ) (k : Counts) {text : List ℕ} {i : ℕ} {item : Item} (at : VariableAt text k.variables i item) where
-  abbrev E : Bundle
-  E = bundle_at f k
-
+module _ (E : Bundle) {text : List ℕ} {i : ℕ} {item : Item} (at : VariableAt text (length E.variables) i item) where
   -- their list's end: the body follows
   pub last_quantified : {b : Bundle} {h n q : ℕ} {w : List ℕ} {body res : ReadTerm} → item.last ≡ true → Reads E text b h item.end n w body
       → Closed text body res → ReadsQuantified E text b h i n q w res
@@ -333,7 +326,7 @@ module _ (f : List ℕ) (k : Counts) {text : List ℕ} {i : ℕ} {item : Item} (
     next_quantified en e gave p [] φ rest is l = absurd (true≢false (sym (at.means [] (spell φ (closes ∷ rest)) l).last ∙ e))
     next_quantified en e gave p (declares x s ∷ xs) φ rest is l =
         let m = at.means (declares x s ∷ xs) (spell φ (closes ∷ rest)) l in
-        at_levels en (bound p (variable_called E x) is (m.variable ∙ variable_called_lem f k x) (gave p xs φ rest is m.after))
+        at_levels en (bound p (variable_called E x) is (m.variable ∙ variable_called_lem E x) (gave p xs φ rest is m.after))
 
     pub next_leaves : {w st : List ℕ} {h : ℕ} {st1 ix1 ix2 : List ℕ} → item.last ≡ false → (p : Binder) → q ≡ number_of (binder p)
         → Leaves text w st h item.end w1 st1 ix1 body → length w2 ≡ length w1 → TermHeld w2 ix2 res → Leaves text w st h i w2 st1 ix2 res

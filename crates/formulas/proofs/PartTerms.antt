@@ -9,10 +9,7 @@ use mathlib.Core.Bool.{Bool, true, false, cond, ◌&&◌, false≢true}
 use mathlib.Core.List.{List, [], ◌∷◌, map}
 use lib.ListN.{length}
 use lib.Dec.{eqb, leb}
-use Rattle.bundle.specs.declared.Bundle.{Bundle as Counts}
 use Rattle.bundle.specs.Bundle.{Bundle}
-use Rattle.bundle.specs.File.{bundle_at}
-use Rattle.bundle.proofs.Fields.{symbols_length, variables_length}
 use Rattle.logic.specs.Symbols.{truth_sort, signature_of, result_sort, kind_of_symbol, symbol_kind, signature}
 use Rattle.logic.specs.Terms.{Term, Terms, none, more}
 use Rattle.grammar.specs.Bytes.{Word, constant, negation, connective, quantifier, letting, sort, name, bytes, twelve, word_of}
@@ -48,12 +45,11 @@ terms_count D (p ∷ ps) = ap suc (terms_count D ps)
 
 -- ---- names
 
-module _ (f : List ℕ) (k : Counts) where
-  pub variable_called_lem : (w : List ℕ) → variable_among k.variables w ≡ variable_called (bundle_at f k) w
-  variable_called_lem w = ap (λ (n : ℕ). variable_among n w) (sym (variables_length f k)) ∙ sym (counts_suffice (bundle_at f k) w).variable
+pub variable_called_lem : (D : Bundle) (w : List ℕ) → variable_among (length D.variables) w ≡ variable_called D w
+variable_called_lem D w = sym (counts_suffice D w).variable
 
-  pub symbol_called_lem : (w : List ℕ) → symbol_among k.symbols w ≡ symbol_called (bundle_at f k) w
-  symbol_called_lem w = ap (λ (n : ℕ). symbol_among n w) (sym (symbols_length f k)) ∙ sym (counts_suffice (bundle_at f k) w).symbol
+pub symbol_called_lem : (D : Bundle) (w : List ℕ) → symbol_among (length D.symbols) w ≡ symbol_called D w
+symbol_called_lem D w = sym (counts_suffice D w).symbol
 
 -- ---- true and false
 

@@ -10,9 +10,8 @@ use mathlib.Core.Path.{◌≡◌, refl, sym, ap, ◌∙◌, subst}
 use mathlib.Core.Bool.{Bool, true, false, cond, true≢false}
 use mathlib.Core.List.{List, [], ◌∷◌, map}
 use lib.ListN.{length, set, length-set}
-use Rattle.bundle.specs.declared.Bundle.{Bundle as Counts}
+use Rattle.bundle.specs.declared.Counts.{Counts}
 use Rattle.bundle.specs.Bundle.{Bundle}
-use Rattle.bundle.specs.File.{bundle_at}
 use Rattle.bundle.specs.Limits.{limits}
 use Rattle.logic.specs.Terms.{Term, Terms, let_in, none, more}
 use Rattle.scratch.specs.Scratch.{bundle_in}
@@ -80,10 +79,7 @@ one_more {text} {τ} {ts} {v} {vs} {m} {s} {s'} {ls} {b} {b1} {h} {n} {w} st1 {s
 
 -- ---- the turns
 
-module _ (f : List ℕ) (k : Counts) (text : List ℕ) (n : ℕ) (bound : Bool) where
-  abbrev D : Bundle
-  D = bundle_at f k
-
+module _ (D : Bundle) (text : List ℕ) (n : ℕ) (bound : Bool) where
   pub record Given (w st : List ℕ) (c : Counts) (h i : ℕ) (known : Bool) (s : ℕ) (w' st' ix' : List ℕ) (r : ReadParts) : Type 0 where
     pub leaves : LeavesParts text w st h i w' st' ix' r
     pub reads : ReadsParts D text (bundle_in w c) h i n bound known s w' st' r
@@ -102,7 +98,7 @@ module _ (f : List ℕ) (k : Counts) (text : List ℕ) (n : ℕ) (bound : Bool) 
     further = λ c t s e d. absurd (parts_not_both refl d);
   }
 
-  module _ {w st ix : List ℕ} {c : Counts} {h i : ℕ} (asks : Asks text w st ix c h i) {item : Item} (at : PartAt text k.variables bound i item)
+  module _ {w st ix : List ℕ} {c : Counts} {h i : ℕ} (asks : Asks text w st ix c h i) {item : Item} (at : PartAt text (length D.variables) bound i item)
       (known : Bool) (s : ℕ)
     where
       not_ended : item.last ≡ false → (P : List Part → List Lexeme → Type 0)
@@ -112,7 +108,7 @@ module _ (f : List ℕ) (k : Counts) (text : List ℕ) (n : ℕ) (bound : Bool) 
       not_ended e P g [] rest l = absurd (true≢false (sym (at.means [] rest l).last ∙ e))
       not_ended e P g (p ∷ ps) rest l =
           let m = at.means (p ∷ ps) rest l in
-          g p ps rest (record { last = m.last; variable = m.variable ∙ ap (λ (x : ℕ). cond bound x 0) (variable_called_lem f k p.called); after = m.after })
+          g p ps rest (record { last = m.last; variable = m.variable ∙ ap (λ (x : ℕ). cond bound x 0) (variable_called_lem D p.called); after = m.after })
 
       -- the list's end
       pub parts_end : item.last ≡ true → Given w st c h i known s w st ix (ReadParts.Done c h s item.end)
@@ -228,7 +224,7 @@ module _ (f : List ℕ) (k : Counts) (text : List ℕ) (n : ℕ) (bound : Bool) 
     pub here : ℕ
     pub from : i₀ ≤ here
     pub asks : Asks text w st ix c h here
-    pub at : PartAt text k.variables bound here item
+    pub at : PartAt text (length D.variables) bound here item
     pub on : (w' st' ix' : List ℕ) (r : ReadParts) → Given w st c h here known s w' st' ix' r → Given w₀ st₀ c₀ h₀ i₀ false 0 w' st' ix' r
 
 -- ---- a let, from its pairs and its body

@@ -1,13 +1,12 @@
 // A formula of a text read, part by part, into the records of its term: four functions that call on each other. Each call stands at a later byte than
 // its caller's, or at the same byte and nearer to a formula. `left` is how many levels of terms may still be opened.
 ghost use Rattle.std.specs.Prelude.{true, false, ◌≡◌, ◌≤◌};
-ghost use Rattle.bundle.specs.File.{Whole, bundle_at};
 ghost use Rattle.logic.specs.Terms.{is_binder};
 ghost use Rattle.scratch.specs.Scratch.{bundle_in};
 ghost use Rattle.formulas.specs.ReadGives.{Asks, Leaves, LeavesParts, Reads, ReadsQuantified, ReadsLet, ReadsParts};
 
-use bundle::Bundle;
 use bundle::digests::DIGESTS;
+use bundle::{Bundle, Counts};
 use endings::{ReadParts, ReadTerm, apply_parts, bind_term, closed, let_term, place_word};
 use heads::places::{head_at, part_at, part_end, variable_at};
 use heads::words::binder_kind;
@@ -16,20 +15,19 @@ use scratch::lists::pack;
 // The formula at byte i.
 #[cycle(read_formula_read_let_read_parts_read_quantified)]
 pub fn read_formula(
-    file: &[u8],
-    b: Bundle,
+    bundle: &Bundle,
     text: &[u8],
     words: &mut [u32],
     stack: &mut [u64],
     index: &mut [u16; DIGESTS + Bundle::TERMS + 1],
-    c: Bundle,
+    c: Counts,
     height: usize,
     i: usize,
     left: usize,
 ) -> ReadTerm
-    requires { Whole file.now b × Asks text.now words.old stack.old index.old c height i }
+    requires { Asks text.now words.old stack.old index.old c height i }
     ensures { Leaves text.now words.old stack.old height i words.new stack.new index.new result
-        × Reads (bundle_at file.now b) text.now (bundle_in words.old c) height i left words.new result }
+        × Reads bundle.now text.now (bundle_in words.old c) height i left words.new result }
 {
     if left == 0 {
         return ReadTerm::Full;
@@ -41,8 +39,7 @@ pub fn read_formula(
     let inside = head.inside;
     if kind == 0 {
         return place_word(
-            file,
-            b,
+            bundle,
             &text[start..end],
             words,
             stack,
@@ -54,8 +51,7 @@ pub fn read_formula(
     }
     if kind == 1 {
         let parts = read_parts(
-            file,
-            b,
+            bundle,
             text,
             words,
             stack,
@@ -67,8 +63,7 @@ pub fn read_formula(
             false,
         );
         return apply_parts(
-            file,
-            b,
+            bundle,
             &text[start..end],
             words,
             stack,
@@ -80,13 +75,12 @@ pub fn read_formula(
     if kind == 2 {
         let quantifier = binder_kind(&text[start..end]);
         return read_quantified(
-            file, b, text, words, stack, index, c, height, inside, left, quantifier,
+            bundle, text, words, stack, index, c, height, inside, left, quantifier,
         );
     }
     if kind == 3 {
         return read_let(
-            file,
-            b,
+            bundle,
             text,
             words,
             stack,
@@ -103,37 +97,35 @@ pub fn read_formula(
 // The variables of a quantifier from byte i on, its body and its closing bracket.
 #[cycle(read_formula_read_let_read_parts_read_quantified)]
 fn read_quantified(
-    file: &[u8],
-    b: Bundle,
+    bundle: &Bundle,
     text: &[u8],
     words: &mut [u32],
     stack: &mut [u64],
     index: &mut [u16; DIGESTS + Bundle::TERMS + 1],
-    c: Bundle,
+    c: Counts,
     height: usize,
     i: usize,
     left: usize,
     kind: usize,
 ) -> ReadTerm
-    requires { Whole file.now b × Asks text.now words.old stack.old index.old c height i × (is_binder kind ≡ true) × (kind ≤ 4) }
+    requires { Asks text.now words.old stack.old index.old c height i × (is_binder kind ≡ true) × (kind ≤ 4) }
     ensures { Leaves text.now words.old stack.old height i words.new stack.new index.new result
-        × ReadsQuantified (bundle_at file.now b) text.now (bundle_in words.old c) height i left kind words.new result }
+        × ReadsQuantified bundle.now text.now (bundle_in words.old c) height i left kind words.new result }
 {
-    let variables = b.variables;
+    let variables = bundle.variables();
     let item = variable_at(text, variables, i);
     let last = item.last;
     let x = item.variable;
     let after = item.end;
     if last {
-        let body = read_formula(file, b, text, words, stack, index, c, height, after, left);
+        let body = read_formula(bundle, text, words, stack, index, c, height, after, left);
         return closed(text, body);
     }
     if left == 0 {
         return ReadTerm::Full;
     }
     let body = read_quantified(
-        file,
-        b,
+        bundle,
         text,
         words,
         stack,
@@ -150,22 +142,21 @@ fn read_quantified(
 // The pairs of a let from byte i on, its body and its closing bracket.
 #[cycle(read_formula_read_let_read_parts_read_quantified)]
 fn read_let(
-    file: &[u8],
-    b: Bundle,
+    bundle: &Bundle,
     text: &[u8],
     words: &mut [u32],
     stack: &mut [u64],
     index: &mut [u16; DIGESTS + Bundle::TERMS + 1],
-    c: Bundle,
+    c: Counts,
     height: usize,
     i: usize,
     left: usize,
 ) -> ReadTerm
-    requires { Whole file.now b × Asks text.now words.old stack.old index.old c height i }
+    requires { Asks text.now words.old stack.old index.old c height i }
     ensures { Leaves text.now words.old stack.old height i words.new stack.new index.new result
-        × ReadsLet (bundle_at file.now b) text.now (bundle_in words.old c) height i left words.new result }
+        × ReadsLet bundle.now text.now (bundle_in words.old c) height i left words.new result }
 {
-    let parts = read_parts(file, b, text, words, stack, index, c, height, i, left, true);
+    let parts = read_parts(bundle, text, words, stack, index, c, height, i, left, true);
     match parts {
         ReadParts::Full => ReadTerm::Full,
         ReadParts::Done {
@@ -174,7 +165,7 @@ fn read_let(
             sort: _,
             end,
         } => {
-            let body = read_formula(file, b, text, words, stack, index, counts, top, end, left);
+            let body = read_formula(bundle, text, words, stack, index, counts, top, end, left);
             let whole = closed(text, body);
             let_term(words, stack, index, height, top, whole)
         }
@@ -185,25 +176,24 @@ fn read_let(
 // `height` on: its term above, its variable below.
 #[cycle(read_formula_read_let_read_parts_read_quantified)]
 fn read_parts(
-    file: &[u8],
-    b: Bundle,
+    bundle: &Bundle,
     text: &[u8],
     words: &mut [u32],
     stack: &mut [u64],
     index: &mut [u16; DIGESTS + Bundle::TERMS + 1],
-    c: Bundle,
+    c: Counts,
     height: usize,
     i: usize,
     left: usize,
     bound: bool,
 ) -> ReadParts
-    requires { Whole file.now b × Asks text.now words.old stack.old index.old c height i }
+    requires { Asks text.now words.old stack.old index.old c height i }
     ensures { LeavesParts text.now words.old stack.old height i words.new stack.new
         index.new result
-        × ReadsParts (bundle_at file.now b) text.now (bundle_in words.old c) height i left bound false 0 words.new
+        × ReadsParts bundle.now text.now (bundle_in words.old c) height i left bound false 0 words.new
         stack.new result }
 {
-    let variables = b.variables;
+    let variables = bundle.variables();
     let mut counts = c;
     let mut top = height;
     let mut known = false;
@@ -216,7 +206,7 @@ fn read_parts(
         if top >= Bundle::LINKS {
             return ReadParts::Full;
         }
-        let read = read_formula(file, b, text, words, stack, index, counts, top, at, left);
+        let read = read_formula(bundle, text, words, stack, index, counts, top, at, left);
         match read {
             ReadTerm::Full => {
                 return ReadParts::Full;

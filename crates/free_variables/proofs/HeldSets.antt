@@ -7,11 +7,8 @@ use mathlib.Core.Bool.{Bool, true, false, false≢true}
 use mathlib.Core.List.{List}
 use native.Mathlib.Omega.{arith}
 use lib.ListN.{length}
-use Rattle.bundle.specs.declared.Bundle.{Bundle as Counts}
 use Rattle.bundle.specs.Bundle.{Bundle}
-use Rattle.bundle.specs.File.{bundle_at}
 use Rattle.bundle.proofs.Tab.{tab_length}
-use Rattle.bundle.proofs.Fields.{variables_length, terms_length}
 use Rattle.sets.specs.Sets.{holds, member}
 use Rattle.sets.proofs.Members.{holds_small}
 use Rattle.logic.specs.Free.{free_at, free_area}
@@ -39,6 +36,6 @@ free_sets b n m w one few long area = record {
     go t v first last true e = ap (λ (x : List ℕ). member x (n * (t - 1)) n v) area ∙ area_member b n m one t v first last long e
     go t v first last false e = rw e (none t v e (free_at b t v) refl)
 
-pub sets_held : (f : List ℕ) (c : Counts) (n m : ℕ) (w : List ℕ) → 1 ≤ n → c.variables ≤ 64 * n → n * c.terms ≤ m → w ≡ free_area (bundle_at f c) n m
-    → FreeSets w n (bundle_at f c)
-sets_held f c n m w one bits long area = free_sets (bundle_at f c) n m w one (rw variables_length bits) (rw terms_length long) area
+pub sets_held : (b : Bundle) (n m : ℕ) (w : List ℕ) → 1 ≤ n → (length b.variables) ≤ 64 * n → n * (length b.terms) ≤ m → w ≡ free_area b n m
+    → FreeSets w n b
+sets_held b n m w one bits long area = free_sets b n m w one bits long area

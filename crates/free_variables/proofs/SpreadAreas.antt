@@ -1,8 +1,8 @@
 -- An area of sets of few words, spread out, is the area of sets of as many words as a term has.
 --     area_spread     THE LAW
-use Prim.Native.Nat.{ℕ, zero, suc, ◌+◌, ◌*◌, ◌-◌, ◌/◌, ◌%◌, ◌≤◌, ◌<◌}
+use Prim.Native.Nat.{ℕ, zero, suc, ◌+◌, ◌*◌, ◌/◌, ◌%◌, ◌≤◌, ◌<◌}
 use mathlib.Core.Path.{◌≡◌, refl, sym, ap, ◌∙◌}
-use mathlib.Core.Bool.{Bool, true, false, cond, false≢true}
+use mathlib.Core.Bool.{Bool, true, false}
 use mathlib.Core.List.{List}
 use native.Mathlib.Omega.{arith}
 use native.Mathlib.Nat.{mod-lt, div-add-mod, mul-le-mul_right}
@@ -14,7 +14,7 @@ use Rattle.bundle.proofs.Tab.{tab_length}
 use Rattle.logic.specs.Free.{free_at, bits_from, set_word, free_area}
 use Rattle.logic.proofs.Tests.{numbers_of_lem}
 use Rattle.logic.proofs.Trees.{free_known}
-use Rattle.free_variables.specs.Spread.{Moved, Spread}
+use Rattle.free_variables.specs.Spread.{Spread}
 use Rattle.free_variables.proofs.SetWords.{term_below, area_set_word, area_rest}
 
 -- a word of a set that has none of its numbers is zero

@@ -8,50 +8,43 @@ ghost use Rattle.bundle.specs.Limits.{limits, set_words};
 ghost use Rattle.bundle.specs.Bundle.{term_of};
 ghost use Rattle.bundle.specs.Links.{items};
 ghost use Rattle.bundle.specs.Lists.{has};
-ghost use Rattle.bundle.specs.File.{Whole, bundle_at};
 ghost use Rattle.sets.specs.Sets.{member};
 ghost use Rattle.logic.specs.Free.{free_by, free_area};
 ghost use Rattle.unions.specs.Put.{SetRoom, Put, set_below, SetsBelow, own_by, list_of};
 ghost use Rattle.unions.specs.Unions.{Unions};
 
 use bundle::Bundle;
-use bundle::lists::{first_link, next_link};
-use bundle::records::{link_field, term_field};
 use logic::kinds::{APPLICATION, LET, VARIABLE, is_binder};
 use unions::{unite_list, unite_term};
 
 // Removes the variables of a list.
-fn remove_list(file: &[u8], b: Bundle, area: &mut [u64], n: usize, at: usize, list: usize)
-    requires { Whole file.now b × (at + n ≤ length area.old) }
+fn remove_list(bundle: &Bundle, area: &mut [u64], n: usize, at: usize, list: usize)
+    requires { (at + n ≤ length area.old) }
     ensures { Put area.old area.new n at
-        (λ x. member area.old at n x && not (has x (items (bundle_at file.now b) list))) }
+        (λ x. member area.old at n x && not (has x (items bundle.now list))) }
 {
-    let mut i = first_link(b, list);
-    while i != 0 {
-        let v = link_field(file, b, i, 0);
+    for v in bundle.items(list) {
         sets::remove(area, at, n, v);
-        i = next_link(file, b, i);
     }
 }
 
 // ---- Terms
 
 // Writes the free set of term t, but for the terms of its list, from the sets of the terms below it. Gives that list, 0 where it has none.
-fn free_own(file: &[u8], b: Bundle, area: &mut [u64], n: usize, t: usize, at: usize) -> usize
-    requires { Whole file.now b × SetRoom area.old n t at × (b.variables ≤ 64 * n) }
-    ensures { let bundle = bundle_at file.now b in
-        (result ≡ list_of (term_of bundle t)) × Put area.old area.new n at (own_by bundle (set_below area.old n t) (term_of bundle t)) }
+fn free_own(bundle: &Bundle, area: &mut [u64], n: usize, t: usize, at: usize) -> usize
+    requires { SetRoom area.old n t at × (length bundle.now.variables ≤ 64 * n) }
+    ensures { (result ≡ list_of (term_of bundle.now t)) × Put area.old area.new n at (own_by bundle.now (set_below area.old n t) (term_of bundle.now t)) }
 {
-    let kind = term_field(file, b, t, 0);
-    let first = term_field(file, b, t, 1);
-    let second = term_field(file, b, t, 2);
-    let third = term_field(file, b, t, 3);
+    let kind = bundle.term_field(t, 0);
+    let first = bundle.term_field(t, 1);
+    let second = bundle.term_field(t, 2);
+    let third = bundle.term_field(t, 3);
     sets::clear(area, at, n);
     if kind == APPLICATION {
         return second;
     }
     if kind == VARIABLE {
-        if (0 < first) & (first <= b.variables) {
+        if (0 < first) & (first <= bundle.variables()) {
             sets::insert(area, at, n, first);
         }
         return 0;
@@ -63,7 +56,7 @@ fn free_own(file: &[u8], b: Bundle, area: &mut [u64], n: usize, t: usize, at: us
     }
     if kind == LET {
         unite_term(area, n, t, at, third);
-        remove_list(file, b, area, n, at, first);
+        remove_list(bundle, area, n, at, first);
         return second;
     }
     0
@@ -71,8 +64,7 @@ fn free_own(file: &[u8], b: Bundle, area: &mut [u64], n: usize, t: usize, at: us
 
 // Writes the free set of term t, from those of the terms below it.
 fn free_term(
-    file: &[u8],
-    b: Bundle,
+    bundle: &Bundle,
     area: &mut [u64],
     n: usize,
     t: usize,
@@ -80,100 +72,89 @@ fn free_term(
     lists: &mut [u64],
     marks: &mut [u16],
 )
-    requires { let bundle = bundle_at file.now b in
-        Whole file.now b × SetRoom area.old n t at × (b.variables ≤ 64 * n) × SetsBelow area.old n t bundle × Unions bundle n t lists.old marks.old }
-    ensures fact { let bundle = bundle_at file.now b in
-        Put area.old area.new n at (free_by bundle (set_below area.old n t) (term_of bundle t)) }
-    ensures unions { Unions (bundle_at file.now b) n t lists.new marks.new }
+    requires { SetRoom area.old n t at × (length bundle.now.variables ≤ 64 * n) × SetsBelow area.old n t bundle.now × Unions bundle.now n t lists.old marks.old }
+    ensures fact { Put area.old area.new n at (free_by bundle.now (set_below area.old n t) (term_of bundle.now t)) }
+    ensures unions { Unions bundle.now n t lists.new marks.new }
 {
-    let list = free_own(file, b, area, n, t, at);
-    unite_list(file, b, area, n, t, at, list, lists, marks);
+    let list = free_own(bundle, area, n, t, at);
+    unite_list(bundle, area, n, t, at, list, lists, marks);
 }
 
 // Writes the free sets of all terms, where no list is known yet.
-fn free_terms(
-    file: &[u8],
-    b: Bundle,
-    area: &mut [u64],
-    n: usize,
-    lists: &mut [u64],
-    marks: &mut [u16],
-)
-    requires { Whole file.now b × (1 ≤ n) × (n * b.terms ≤ length area.old) × (b.variables ≤ 64 * n)
-        × Unions (bundle_at file.now b) n 1 lists.old marks.old }
+fn free_terms(bundle: &Bundle, area: &mut [u64], n: usize, lists: &mut [u64], marks: &mut [u16])
+    requires { (1 ≤ n) × (n * length bundle.now.terms ≤ length area.old) × (length bundle.now.variables ≤ 64 * n)
+        × Unions bundle.now n 1 lists.old marks.old }
     ensures { (length area.new ≡ length area.old)
-        × SetsBelow area.new n (b.terms + 1) (bundle_at file.now b) }
+        × SetsBelow area.new n (length bundle.now.terms + 1) bundle.now }
 {
-    let terms = b.terms;
-    let mut t = 1;
-    while t <= terms {
-        free_term(file, b, area, n, t, n * (t - 1), lists, marks);
-        t += 1;
+    let terms = bundle.terms();
+    for t in 1..terms + 1 {
+        free_term(bundle, area, n, t, n * (t - 1), lists, marks);
     }
 }
 
 // The same, with room for the unions of the lists, for files with many variables. Two places call this: so the compiler keeps it, and its room, apart.
-fn fitting_wide(file: &[u8], b: Bundle, area: &mut [u64], n: usize)
-    requires { Whole file.now b × (1 ≤ n) × (n ≤ set_words) × (n * b.terms ≤ length area.old) × (b.variables ≤ 64 * n) }
+fn fitting_wide(bundle: &Bundle, area: &mut [u64], n: usize)
+    requires { (1 ≤ n) × (n ≤ set_words) × (n * length bundle.now.terms ≤ length area.old) × (length bundle.now.variables ≤ 64 * n) }
     ensures { (length area.new ≡ length area.old)
-        × SetsBelow area.new n (b.terms + 1) (bundle_at file.now b) }
+        × SetsBelow area.new n (length bundle.now.terms + 1) bundle.now }
 {
-    if b.links <= 512 {
+    if bundle.links() <= 512 {
         let mut few_lists = [0u64; Bundle::SET_WORDS * 513];
         let mut few_marks = [0u16; 513];
-        free_terms(file, b, area, n, &mut few_lists, &mut few_marks);
+        free_terms(bundle, area, n, &mut few_lists, &mut few_marks);
         return;
     }
-    if b.links <= 1024 {
+    if bundle.links() <= 1024 {
         let mut some_lists = [0u64; Bundle::SET_WORDS * 1025];
         let mut some_marks = [0u16; 1025];
-        free_terms(file, b, area, n, &mut some_lists, &mut some_marks);
+        free_terms(bundle, area, n, &mut some_lists, &mut some_marks);
         return;
     }
     let mut lists = [0u64; Bundle::SET_WORDS * (Bundle::LINKS + 1)];
     let mut marks = [0u16; Bundle::LINKS + 1];
-    free_terms(file, b, area, n, &mut lists, &mut marks);
+    free_terms(bundle, area, n, &mut lists, &mut marks);
 }
 
 // The same with room of one of three sizes, or as above: small files ask for little room, since all of it is cleared.
-fn fitting(file: &[u8], b: Bundle, area: &mut [u64], n: usize)
-    requires { Whole file.now b × (1 ≤ n) × (n ≤ set_words) × (n * b.terms ≤ length area.old) × (b.variables ≤ 64 * n) }
+fn fitting(bundle: &Bundle, area: &mut [u64], n: usize)
+    requires { (1 ≤ n) × (n ≤ set_words) × (n * length bundle.now.terms ≤ length area.old) × (length bundle.now.variables ≤ 64 * n) }
     ensures { (length area.new ≡ length area.old)
-        × SetsBelow area.new n (b.terms + 1) (bundle_at file.now b) }
+        × SetsBelow area.new n (length bundle.now.terms + 1) bundle.now }
 {
-    let words = n * (b.links + 1);
+    let words = n * (bundle.links() + 1);
     if words <= 65 {
         let mut few_lists = [0u64; 65];
         let mut few_marks = [0u16; 65];
-        free_terms(file, b, area, n, &mut few_lists, &mut few_marks);
+        free_terms(bundle, area, n, &mut few_lists, &mut few_marks);
         return;
     }
     if words <= 513 {
         let mut some_lists = [0u64; 513];
         let mut some_marks = [0u16; 513];
-        free_terms(file, b, area, n, &mut some_lists, &mut some_marks);
+        free_terms(bundle, area, n, &mut some_lists, &mut some_marks);
         return;
     }
     if n > 1 {
-        fitting_wide(file, b, area, n);
+        fitting_wide(bundle, area, n);
         return;
     }
     if words <= 2049 {
         let mut more_lists = [0u64; 2049];
         let mut more_marks = [0u16; 2049];
-        free_terms(file, b, area, n, &mut more_lists, &mut more_marks);
+        free_terms(bundle, area, n, &mut more_lists, &mut more_marks);
         return;
     }
-    fitting_wide(file, b, area, n);
+    fitting_wide(bundle, area, n);
 }
 
 // Writes the free sets of all terms, n words each, and zeros after them.
-pub fn free_sets(file: &[u8], b: Bundle, area: &mut [u64], n: usize)
-    requires { Whole file.now b × (1 ≤ n) × (n ≤ set_words) × (n * b.terms ≤ length area.old) × (b.variables ≤ 64 * n) }
-    ensures { area.new ≡ free_area (bundle_at file.now b) n (length area.old) }
+pub fn free_sets(bundle: &Bundle, area: &mut [u64], n: usize)
+    requires { (1 ≤ n) × (n ≤ set_words) × (n * length bundle.now.terms ≤ length area.old) × (length bundle.now.variables ≤ 64 * n) }
+    ensures { area.new ≡ free_area bundle.now n (length area.old) }
 {
-    fitting(file, b, area, n);
-    let end = n * b.terms;
+    fitting(bundle, area, n);
+    let end = n * bundle.terms();
     sets::clear(area, end, area.len() - end);
 }
 

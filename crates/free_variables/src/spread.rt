@@ -21,9 +21,7 @@ fn spread_set(area: &mut [u64], n: usize, t: usize)
     requires { (n ≤ set_words) × (set_words * t + set_words ≤ length area.old) }
     ensures { SpreadOne area.old area.new n set_words t }
 {
-    let mut k = Bundle::SET_WORDS;
-    while k != 0 {
-        k -= 1;
+    for k in (0..Bundle::SET_WORDS).rev() {
         let x = word_of(area, n, t, k);
         area[Bundle::SET_WORDS * t + k] = x;
     }
@@ -34,9 +32,7 @@ pub fn spread(area: &mut [u64], n: usize, terms: usize)
     requires { (n ≤ set_words) × (set_words * terms ≤ length area.old) }
     ensures { Spread area.old area.new n set_words terms }
 {
-    let mut t = terms;
-    while t != 0 {
-        t -= 1;
+    for t in (0..terms).rev() {
         spread_set(area, n, t);
     }
 }

@@ -5,7 +5,6 @@
 --     images_none, scopes_none               zeros are what is known of the empty context
 --     untouched_refl, untouched_trans        what stays while one context is written
 --     record_below                           a record ends before a later one starts
---     row_room                               room for a row, in the words of the code
 --     row_kept, moves_kept, mentions_kept    so the rows and sets of lower contexts do
 --     mention_set, entered_place             one place written
 --     told_place                             what is written says something
@@ -26,11 +25,9 @@ use lib.ListN.{length, get_or, set, replicate, length-set, length-replicate}
 use lib.Seq.{get_or-set_same, get_or-set_other}
 use lib.Dec.{eqb}
 use borrow.Author.Tests.{eqb-true, eq-eqb, ne_eqb}
-use Rattle.bundle.specs.declared.Bundle.{Bundle as Counts}
 use Rattle.bundle.specs.Bundle.{Bundle}
-use Rattle.bundle.specs.File.{bundle_at}
 use Rattle.bundle.specs.Lists.{numbers, has, different}
-use Rattle.bundle.proofs.Fields.{record_within, variables_length}
+use Rattle.bundle.proofs.Fields.{record_within}
 use Rattle.sets.specs.Sets.{bit_at, holds, member, with_bit, without_bit, inserted, removed, copied, disjoint_of, subset_of}
 use Rattle.sets.proofs.Digits.{bit_none}
 use Rattle.sets.proofs.Members.{holds_small, member_inserted, member_removed, member_same, member_moved, changed_length, changed_out}
@@ -157,10 +154,6 @@ untouched_trans b w m w' m' w'' m'' n k p q = record {
   row = λ j h. q.row j h ∙ p.row j h;
   words = λ j h. q.words j h ∙ p.words j h;
 }
-
--- room for a row, in the words of the code
-pub row_room : (f : List ℕ) (c : Counts) (w m : List ℕ) (n k : ℕ) → RowRoom (bundle_at f c) w m n k → c.variables * (k + 1) ≤ length w
-row_room f c w m n k r = rw (variables_length f c) at r.row
 
 module _ (b : Bundle) (w m w' m' : List ℕ) (n k : ℕ) (kept : Untouched b w m w' m' n k) where
   pub room_on : RowRoom b w m n k → RowRoom b w' m' n k

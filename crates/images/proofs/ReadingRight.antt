@@ -4,7 +4,7 @@
 --     step_right                    the steps, where the bed has none
 --     reading_right                 THE LAW: the whole reading
 --     fault_right, pairs_right, lent_right     so the faults of steps and the pairs of walks are the bundle's, and the memory is long enough
-use mathlib.Core.Path.{◌≡◌, refl, sym, ap, ap₂, ◌∙◌, fun_ext}
+use mathlib.Core.Path.{◌≡◌, refl, sym, ap, ◌∙◌, fun_ext}
 use mathlib.Core.Bool.{Bool, true, false, not, ◌||◌}
 use mathlib.Core.List.{List, append-nil}
 use Prim.Native.Nat.{ℕ, ◌+◌, ◌*◌, ◌-◌, ◌/◌, ◌^◌, ◌≤◌, ◌<◌}
@@ -14,11 +14,9 @@ use native.Mathlib.Decide.{ℕ_discrete, dec_le}
 use lib.ListN.{length, get_or}
 use borrow.Author.Tests.{le-leb, lt-leb}
 use Rattle.bundle.specs.Limits.{set_words}
-use Rattle.bundle.specs.declared.Bundle.{Bundle as Counts}
 use Rattle.bundle.specs.Bundle.{Bundle, no_term, no_context, term_of, context_of, step_of}
-use Rattle.bundle.specs.File.{bundle_at, tab}
+use Rattle.bundle.specs.File.{tab}
 use Rattle.bundle.proofs.Tab.{at_none}
-use Rattle.bundle.proofs.Fields.{variables_length, terms_length, contexts_length}
 use Rattle.logic.specs.declared.Mention.{Mention}
 use Rattle.logic.specs.declared.Image.TheVariants.{Own}
 use Rattle.logic.specs.Table.{table, below}
@@ -31,7 +29,7 @@ use Rattle.logic.proofs.Tables.{table_below}
 use Rattle.logic.proofs.Tests.{up_to_all}
 use Rattle.logic.proofs.Found.{image_found, found_none}
 use Rattle.free_variables.specs.FreeSets.{FreeSets}
-use Rattle.images.specs.ContextRows.{mention_at, Images, moved_at, mentioned_at, Scopes}
+use Rattle.images.specs.ContextRows.{Images, moved_at, mentioned_at, Scopes}
 use Rattle.images.specs.LentReading.{free_in, settled_in, in_scope_in, step_in, mentions_in, images_in, all_settled_in, all_in_scope_in, reading_in, Lent}
 use Rattle.images.proofs.FreeWords.{free_zero, free_past, free_some, settled_zero, settled_past, settled_some, scope_zero, scope_past, scope_some}
 use Rattle.images.proofs.ContextRows.{scopes_few, apart_settled, subset_in_scope}
@@ -77,117 +75,117 @@ or_neither false e = e
 
 -- ---- a bed that is shorter than a step has none
 
-pub step_right : (f : List ℕ) (c : Counts) (bed : List ℕ) → length bed < 5 → (p : ℕ) → step_in (bundle_at f c) bed p ≡ step_of (bundle_at f c) p
+pub step_right : (b : Bundle) (bed : List ℕ) → length bed < 5 → (p : ℕ) → step_in b bed p ≡ step_of b p
 unfolding step_in tab
-step_right f c bed short p =
+step_right b bed short p =
     let none : length bed / 5 ≡ 0 = omega arith in
     rw (none, append-nil)
 
 -- ---- the readings
 
-module _ (f : List ℕ) (c : Counts) (w : List ℕ) (n : ℕ) (sets : FreeSets w n (bundle_at f c)) where
-  pub free_long : n * c.terms ≤ length w
-  free_long = rw (terms_length f c) at sets.long
+module _ (b : Bundle) (w : List ℕ) (n : ℕ) (sets : FreeSets w n b) where
+  pub free_long : n * (length b.terms) ≤ length w
+  free_long = sets.long
 
-  pub free_right : (t v : ℕ) → free_in c.terms w n t v ≡ free_at (bundle_at f c) t v
-  free_right t v = go (ℕ_discrete t 0) (dec_le t c.terms)
+  pub free_right : (t v : ℕ) → free_in (length b.terms) w n t v ≡ free_at b t v
+  free_right t v = go (ℕ_discrete t 0) (dec_le t (length b.terms))
     where
-      none : term_of (bundle_at f c) t ≡ no_term → free_at (bundle_at f c) t v ≡ false
-      none e = ap (λ (free : ℕ → Bool). free v) (nothing_free_lem (bundle_at f c) t e)
+      none : term_of b t ≡ no_term → free_at b t v ≡ false
+      none e = ap (λ (free : ℕ → Bool). free v) (nothing_free_lem b t e)
 
-      go : Dec (t ≡ 0) → Dec (t ≤ c.terms) → free_in c.terms w n t v ≡ free_at (bundle_at f c) t v
-      go (yes q) d = free_zero c.terms w n t v q ∙ sym (none (rw q))
-      go (no q) (yes l) = free_some c.terms w n t v q l ∙ sets.same t v (omega arith) (omega (arith, terms_length f c))
+      go : Dec (t ≡ 0) → Dec (t ≤ (length b.terms)) → free_in (length b.terms) w n t v ≡ free_at b t v
+      go (yes q) d = free_zero (length b.terms) w n t v q ∙ sym (none (rw q))
+      go (no q) (yes l) = free_some (length b.terms) w n t v q l ∙ sets.same t v (omega arith) (omega arith)
       go (no q) (no l) =
-          free_past c.terms w n t v (omega arith) ∙ sym (none (at_none no_term (bundle_at f c).terms t (omega (arith, terms_length f c))))
+          free_past (length b.terms) w n t v (omega arith) ∙ sym (none (at_none no_term b.terms t (omega arith)))
 
   module _ (words : (j : ℕ) → get_or w j 0 < 2 ^ 64) (m : List ℕ) where
-    pub settled_right : (k t : ℕ) → Scopes (bundle_at f c) m n (k + 1) → settled_in c.terms w m n (moved_at n k) t ≡ settled (bundle_at f c) k t
-    settled_right k t scopes = go (ℕ_discrete t 0) (dec_le t c.terms)
+    pub settled_right : (k t : ℕ) → Scopes b m n (k + 1) → settled_in (length b.terms) w m n (moved_at n k) t ≡ settled b k t
+    settled_right k t scopes = go (ℕ_discrete t 0) (dec_le t (length b.terms))
       where
-        go : Dec (t ≡ 0) → Dec (t ≤ c.terms) → settled_in c.terms w m n (moved_at n k) t ≡ settled (bundle_at f c) k t
-        go (yes q) d = settled_zero c.terms w m n (moved_at n k) t q ∙ sym (settled_none (bundle_at f c) k t (rw q))
+        go : Dec (t ≡ 0) → Dec (t ≤ (length b.terms)) → settled_in (length b.terms) w m n (moved_at n k) t ≡ settled b k t
+        go (yes q) d = settled_zero (length b.terms) w m n (moved_at n k) t q ∙ sym (settled_none b k t (rw q))
         go (no q) (yes l) =
-            settled_some c.terms w m n (moved_at n k) t q l
-            ∙ apart_settled (bundle_at f c) w m (n * (t - 1)) n k t (λ v. sets.same t v (omega arith) (omega (arith, terms_length f c))) scopes
+            settled_some (length b.terms) w m n (moved_at n k) t q l
+            ∙ apart_settled b w m (n * (t - 1)) n k t (λ v. sets.same t v (omega arith) (omega arith)) scopes
             (λ j. words (n * (t - 1) + j))
         go (no q) (no l) =
-            settled_past c.terms w m n (moved_at n k) t (omega arith)
-            ∙ sym (settled_none (bundle_at f c) k t (at_none no_term (bundle_at f c).terms t (omega (arith, terms_length f c))))
+            settled_past (length b.terms) w m n (moved_at n k) t (omega arith)
+            ∙ sym (settled_none b k t (at_none no_term b.terms t (omega arith)))
 
-    pub scope_right : (k t : ℕ) → Scopes (bundle_at f c) m n (k + 1) → in_scope_in c.terms w m n (mentioned_at n k) t ≡ in_scope (bundle_at f c) k t
-    scope_right k t scopes = go (ℕ_discrete t 0) (dec_le t c.terms)
+    pub scope_right : (k t : ℕ) → Scopes b m n (k + 1) → in_scope_in (length b.terms) w m n (mentioned_at n k) t ≡ in_scope b k t
+    scope_right k t scopes = go (ℕ_discrete t 0) (dec_le t (length b.terms))
       where
-        go : Dec (t ≡ 0) → Dec (t ≤ c.terms) → in_scope_in c.terms w m n (mentioned_at n k) t ≡ in_scope (bundle_at f c) k t
-        go (yes q) d = scope_zero c.terms w m n (mentioned_at n k) t q ∙ sym (scope_none (bundle_at f c) k t (rw q))
+        go : Dec (t ≡ 0) → Dec (t ≤ (length b.terms)) → in_scope_in (length b.terms) w m n (mentioned_at n k) t ≡ in_scope b k t
+        go (yes q) d = scope_zero (length b.terms) w m n (mentioned_at n k) t q ∙ sym (scope_none b k t (rw q))
         go (no q) (yes l) =
-            scope_some c.terms w m n (mentioned_at n k) t q l
-            ∙ subset_in_scope (bundle_at f c) w m (n * (t - 1)) n k t (λ v. sets.same t v (omega arith) (omega (arith, terms_length f c))) scopes
+            scope_some (length b.terms) w m n (mentioned_at n k) t q l
+            ∙ subset_in_scope b w m (n * (t - 1)) n k t (λ v. sets.same t v (omega arith) (omega arith)) scopes
             (λ j. words (n * (t - 1) + j))
         go (no q) (no l) =
-            scope_past c.terms w m n (mentioned_at n k) t (omega arith)
-            ∙ sym (scope_none (bundle_at f c) k t (at_none no_term (bundle_at f c).terms t (omega (arith, terms_length f c))))
+            scope_past (length b.terms) w m n (mentioned_at n k) t (omega arith)
+            ∙ sym (scope_none b k t (at_none no_term b.terms t (omega arith)))
 
-    module _ (images : List ℕ) (rows : Images (bundle_at f c) images (c.contexts + 1)) (scopes : Scopes (bundle_at f c) m n (c.contexts + 1)) where
-      no_context_lem : (k : ℕ) → (k ≤ c.contexts → ⊥) → context_of (bundle_at f c) k ≡ no_context
-      no_context_lem k l = at_none no_context (bundle_at f c).contexts k (omega (arith, contexts_length f c))
+    module _ (images : List ℕ) (rows : Images b images ((length b.contexts) + 1)) (scopes : Scopes b m n ((length b.contexts) + 1)) where
+      no_context_lem : (k : ℕ) → (k ≤ (length b.contexts) → ⊥) → context_of b k ≡ no_context
+      no_context_lem k l = at_none no_context b.contexts k (omega arith)
 
-      pub all_mentions : (k x : ℕ) → mentions_in c images k x ≡ found (bundle_at f c) k x
-      all_mentions k x = go (dec_le k c.contexts)
+      pub all_mentions : (k x : ℕ) → mentions_in b images k x ≡ found b k x
+      all_mentions k x = go (dec_le k (length b.contexts))
         where
-          go : Dec (k ≤ c.contexts) → mentions_in c images k x ≡ found (bundle_at f c) k x
+          go : Dec (k ≤ (length b.contexts)) → mentions_in b images k x ≡ found b k x
           go (yes l) =
-              rw (le-leb k c.contexts l) (ap (λ (v : ℕ). mention_at v images k x) (sym (variables_length f c)) ∙ rows.same k x (omega arith))
-          go (no l) = rw (lt-leb k c.contexts (omega arith), found_none (bundle_at f c) k (no_context_lem k l))
+              rw (le-leb k (length b.contexts) l) (rows.same k x (omega arith))
+          go (no l) = rw (lt-leb k (length b.contexts) (omega arith), found_none b k (no_context_lem k l))
 
-      pub all_images : (k x : ℕ) → images_in c images k x ≡ image (bundle_at f c) k x
-      all_images k x = ap as_image (all_mentions k x) ∙ sym (image_found (bundle_at f c) k x)
+      pub all_images : (k x : ℕ) → images_in b images k x ≡ image b k x
+      all_images k x = ap as_image (all_mentions k x) ∙ sym (image_found b k x)
 
-      few_scopes : (k : ℕ) → k ≤ c.contexts → Scopes (bundle_at f c) m n (k + 1)
-      few_scopes k l = scopes_few (bundle_at f c) m n (c.contexts + 1) (k + 1) (omega arith) (mul-le-mul_left n (omega arith)) scopes
+      few_scopes : (k : ℕ) → k ≤ (length b.contexts) → Scopes b m n (k + 1)
+      few_scopes k l = scopes_few b m n ((length b.contexts) + 1) (k + 1) (omega arith) (mul-le-mul_left n (omega arith)) scopes
 
-      pub all_settleds : (k t : ℕ) → all_settled_in c w m n k t ≡ settled (bundle_at f c) k t
-      all_settleds k t = go (dec_le k c.contexts)
+      pub all_settleds : (k t : ℕ) → all_settled_in b w m n k t ≡ settled b k t
+      all_settleds k t = go (dec_le k (length b.contexts))
         where
-          go : Dec (k ≤ c.contexts) → all_settled_in c w m n k t ≡ settled (bundle_at f c) k t
+          go : Dec (k ≤ (length b.contexts)) → all_settled_in b w m n k t ≡ settled b k t
           go (yes l) =
-              rw (le-leb k c.contexts l)
+              rw (le-leb k (length b.contexts) l)
               (settled_right k t (few_scopes k l))
-          go (no l) = rw (lt-leb k c.contexts (omega arith), all_settled (bundle_at f c) k t (no_context_lem k l))
+          go (no l) = rw (lt-leb k (length b.contexts) (omega arith), all_settled b k t (no_context_lem k l))
 
-      pub all_in_scope : (k t : ℕ) → all_in_scope_in c w m n k t ≡ in_scope (bundle_at f c) k t
+      pub all_in_scope : (k t : ℕ) → all_in_scope_in b w m n k t ≡ in_scope b k t
       unfolding all_in_scope_in in_scope
-      all_in_scope k t = go (dec_le k c.contexts)
+      all_in_scope k t = go (dec_le k (length b.contexts))
         where
-          go : Dec (k ≤ c.contexts) → all_in_scope_in c w m n k t ≡ in_scope (bundle_at f c) k t
-          go (yes l) = rw (le-leb k c.contexts l) (scope_right k t (few_scopes k l))
+          go : Dec (k ≤ (length b.contexts)) → all_in_scope_in b w m n k t ≡ in_scope b k t
+          go (yes l) = rw (le-leb k (length b.contexts) l) (scope_right k t (few_scopes k l))
           go (no l) =
-              rw (lt-leb k c.contexts (omega arith))
-              (ap₂ up_to (sym (variables_length f c)) (fun_ext (λ x. ap not (free_right t x)
-              ∙ sym (or_neither (not (free_at (bundle_at f c) t x)) (not_mentioned (bundle_at f c) k x (no_context_lem k l))))))
+              rw (lt-leb k (length b.contexts) (omega arith))
+              (ap (up_to (length b.variables)) (fun_ext (λ x. ap not (free_right t x)
+              ∙ sym (or_neither (not (free_at b t x)) (not_mentioned b k x (no_context_lem k l))))))
 
-      pub reading_right : (bed : List ℕ) → length bed < 5 → reading_in f c w n images m bed ≡ reading_of (bundle_at f c)
+      pub reading_right : (bed : List ℕ) → length bed < 5 → reading_in b w n images m bed ≡ reading_of b
       unfolding reading_in
       reading_right bed short = λ i. record {
         free = fun_ext (λ t. fun_ext (free_right t)) i;
         image = fun_ext (λ k. fun_ext (all_images k)) i;
         settled = fun_ext (λ k. fun_ext (all_settleds k)) i;
         in_scope = fun_ext (λ k. fun_ext (all_in_scope k)) i;
-        step = fun_ext (step_right f c bed short) i;
+        step = fun_ext (step_right b bed short) i;
       }
 
       -- what is wrong with step k, in the words of the code and in those of the bundle
       pub fault_right : (bed : List ℕ) → length bed < 5 → (k : ℕ)
-          → step_fault_by (reading_in f c w n images m bed) (bundle_at f c) (k - 1) (step_of (bundle_at f c) k) ≡ step_fault (bundle_at f c) k
+          → step_fault_by (reading_in b w n images m bed) b (k - 1) (step_of b k) ≡ step_fault b k
       unfolding step_fault
-      fault_right bed short k = ap (λ (g : Reading). step_fault_by g (bundle_at f c) (k - 1) (step_of (bundle_at f c) k)) (reading_right bed short)
+      fault_right bed short k = ap (λ (g : Reading). step_fault_by g b (k - 1) (step_of b k)) (reading_right bed short)
 
       -- the pairs that its walk visits
       pub pairs_right : (bed : List ℕ) → length bed < 5 → (k : ℕ)
-          → pairs_by (reading_in f c w n images m bed) (bundle_at f c) (step_of (bundle_at f c) k) ≡ walked_pairs (bundle_at f c) k
+          → pairs_by (reading_in b w n images m bed) b (step_of b k) ≡ walked_pairs b k
       unfolding walked_pairs
-      pairs_right bed short k = ap (λ (g : Reading). pairs_by g (bundle_at f c) (step_of (bundle_at f c) k)) (reading_right bed short)
+      pairs_right bed short k = ap (λ (g : Reading). pairs_by g b (step_of b k)) (reading_right bed short)
 
-      pub lent_right : c.variables ≤ 64 * n → n ≤ set_words → Lent c w images m n
+      pub lent_right : (length b.variables) ≤ 64 * n → n ≤ set_words → Lent b w images m n
       lent_right bits few =
-          record { bits = bits; few = few; free = free_long; images = rw (variables_length f c) at rows.long; scopes = scopes.long }
+          record { bits = bits; few = few; free = free_long; images = rows.long; scopes = scopes.long }

@@ -1,10 +1,9 @@
 -- What lent memory holds, whatever that is: the reading of it that the code makes. Nothing is asked of the memory but that it is long enough.
 use Rattle.std.specs.Prelude.{ℕ, ◌+◌, ◌*◌, ◌-◌, ◌/◌, ◌≤◌, Bool, true, false, cond, not, List, length, get_or, leb}
-use Rattle.bundle.specs.declared.Bundle.{Bundle as Counts}
 use Rattle.bundle.specs.Bundle.{Bundle, Step, step_of}
 use Rattle.bundle.specs.Limits.{set_words}
 use Rattle.bundle.specs.Lists.{numbers}
-use Rattle.bundle.specs.File.{tab, record_by, step_from, bundle_at}
+use Rattle.bundle.specs.File.{tab, record_by, step_from}
 use Rattle.sets.specs.Sets.{member, disjoint_of, subset_of}
 use Rattle.logic.specs.declared.Mention.{Mention}
 use Rattle.logic.specs.declared.Mention.TheVariants.{Absent}
@@ -13,7 +12,7 @@ use Rattle.logic.specs.Tests.{up_to}
 use Rattle.logic.specs.Contexts.{as_image}
 use Rattle.logic.specs.Longer.{with_steps}
 use Rattle.logic.specs.Readings.{Reading}
-use Rattle.images.specs.ContextRows.{mention_at, moved_at, mentioned_at}
+use Rattle.images.specs.ContextRows.{mention_in, moved_at, mentioned_at}
 
 -- v is in the set of term t
 unfoldable pub free_in : ℕ → List ℕ → ℕ → ℕ → ℕ → Bool
@@ -39,34 +38,35 @@ step_in b bed p = step_of (with_steps b (bed_steps bed)) p
 abbrev pub known : {A : Type 0} → ℕ → A → (ℕ → ℕ → A) → ℕ → ℕ → A
 known c d f k x = cond (leb k c) (f k x) d
 
-abbrev pub mentions_in : Counts → List ℕ → ℕ → ℕ → Mention
-mentions_in c images = known c.contexts Absent (mention_at c.variables images)
+abbrev pub mentions_in : Bundle → List ℕ → ℕ → ℕ → Mention
+mentions_in b images = known (length b.contexts) Absent (mention_in b images)
 
-abbrev pub images_in : Counts → List ℕ → ℕ → ℕ → Image
-images_in c images k x = as_image (mentions_in c images k x)
+abbrev pub images_in : Bundle → List ℕ → ℕ → ℕ → Image
+images_in b images k x = as_image (mentions_in b images k x)
 
-abbrev pub all_settled_in : Counts → List ℕ → List ℕ → ℕ → ℕ → ℕ → Bool
-all_settled_in c w scopes n = known c.contexts true (λ k. settled_in c.terms w scopes n (moved_at n k))
+abbrev pub all_settled_in : Bundle → List ℕ → List ℕ → ℕ → ℕ → ℕ → Bool
+all_settled_in b w scopes n = known (length b.contexts) true (λ k. settled_in (length b.terms) w scopes n (moved_at n k))
 
 -- in a number that is no context nothing is mentioned
-unfoldable pub all_in_scope_in : Counts → List ℕ → List ℕ → ℕ → ℕ → ℕ → Bool
+unfoldable pub all_in_scope_in : Bundle → List ℕ → List ℕ → ℕ → ℕ → ℕ → Bool
 unfolding in_scope_in
-all_in_scope_in c w scopes n k t =
-    cond (leb k c.contexts) (in_scope_in c.terms w scopes n (mentioned_at n k) t) (up_to c.variables (λ x. not (free_in c.terms w n t x)))
+all_in_scope_in b w scopes n k t =
+    cond (leb k (length b.contexts)) (in_scope_in (length b.terms) w scopes n (mentioned_at n k) t)
+    (up_to (length b.variables) (λ x. not (free_in (length b.terms) w n t x)))
 
-unfoldable pub reading_in : List ℕ → Counts → List ℕ → ℕ → List ℕ → List ℕ → List ℕ → Reading
-reading_in f c w n images scopes bed = record {
-  free = free_in c.terms w n;
-  image = images_in c images;
-  settled = all_settled_in c w scopes n;
-  in_scope = all_in_scope_in c w scopes n;
-  step = step_in (bundle_at f c) bed;
+unfoldable pub reading_in : Bundle → List ℕ → ℕ → List ℕ → List ℕ → List ℕ → Reading
+reading_in b w n images scopes bed = record {
+  free = free_in (length b.terms) w n;
+  image = images_in b images;
+  settled = all_settled_in b w scopes n;
+  in_scope = all_in_scope_in b w scopes n;
+  step = step_in b bed;
 }
 
 -- there is room for the free sets of all terms, and for what is known of all contexts; a set has a bit for each variable, and no more words than it may
-pub record Lent (c : Counts) (w i m : List ℕ) (n : ℕ) : Type 0 where
-  pub bits : c.variables ≤ 64 * n
+pub record Lent (b : Bundle) (w i m : List ℕ) (n : ℕ) : Type 0 where
+  pub bits : length b.variables ≤ 64 * n
   pub few : n ≤ set_words
-  pub free : n * c.terms ≤ length w
-  pub images : c.variables * (c.contexts + 1) ≤ length i
-  pub scopes : 2 * n * (c.contexts + 1) ≤ length m
+  pub free : n * length b.terms ≤ length w
+  pub images : length b.variables * (length b.contexts + 1) ≤ length i
+  pub scopes : 2 * n * (length b.contexts + 1) ≤ length m

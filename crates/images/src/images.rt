@@ -1,13 +1,10 @@
 // Mentions and images of variables in contexts, free variables, settled terms, terms in scope: as the lent memory has them, whatever it holds.
 ghost use Rattle.std.specs.Prelude.{◌≡◌, ◌&&◌, ◌+◌, ◌*◌, ◌≤◌, length};
-ghost use Rattle.bundle.specs.File.{Whole, bundle_at};
 ghost use Rattle.logic.specs.Contexts.{is_variable};
 ghost use Rattle.images.specs.ContextRows.{mention_at, image_at, mentioned_at};
 ghost use Rattle.images.specs.LentReading.{free_in, settled_in, in_scope_in};
 
 use bundle::Bundle;
-use bundle::halves::wide;
-use bundle::records::term_field;
 use logic::kinds::VARIABLE;
 use logic::{Image, Mention};
 
@@ -16,17 +13,18 @@ use logic::{Image, Mention};
 pub const FIXED: usize = 65535;
 
 // What the entries of a context say of variable x.
-pub fn mention_of(b: Bundle, images: &[u16], context: usize, x: usize) -> Mention
-    requires { b.variables * (context + 1) ≤ length images.now }
-    ensures { result ≡ mention_at b.variables images.now context x }
+pub fn mention_of(bundle: &Bundle, images: &[u16], context: usize, x: usize) -> Mention
+    requires { length bundle.now.variables * (context + 1) ≤ length images.now }
+    ensures { result ≡ mention_at (length bundle.now.variables) images.now context x }
 {
     if x == 0 {
         return Mention::Absent;
     }
-    if x > b.variables {
+    let variables = bundle.variables();
+    if x > variables {
         return Mention::Absent;
     }
-    let t = wide(images[b.variables * context + (x - 1)]);
+    let t = usize::from(images[variables * context + (x - 1)]);
     if t == 0 {
         return Mention::Absent;
     }
@@ -37,11 +35,11 @@ pub fn mention_of(b: Bundle, images: &[u16], context: usize, x: usize) -> Mentio
 }
 
 // The image of variable x in a context.
-pub fn image_of(b: Bundle, images: &[u16], context: usize, x: usize) -> Image
-    requires { b.variables * (context + 1) ≤ length images.now }
-    ensures { result ≡ image_at b.variables images.now context x }
+pub fn image_of(bundle: &Bundle, images: &[u16], context: usize, x: usize) -> Image
+    requires { length bundle.now.variables * (context + 1) ≤ length images.now }
+    ensures { result ≡ image_at (length bundle.now.variables) images.now context x }
 {
-    let mention = mention_of(b, images, context, x);
+    let mention = mention_of(bundle, images, context, x);
     match mention {
         Mention::Fixed => Image::Own,
         Mention::Replaced(t) => Image::Gives(t),
@@ -50,38 +48,44 @@ pub fn image_of(b: Bundle, images: &[u16], context: usize, x: usize) -> Image
 }
 
 // Whether term t is the variable x.
-pub fn is_variable(file: &[u8], b: Bundle, t: usize, x: usize) -> bool
-    requires { Whole file.now b }
-    ensures { result ≡ is_variable (bundle_at file.now b) t x }
+pub fn is_variable(bundle: &Bundle, t: usize, x: usize) -> bool
+    ensures { result ≡ is_variable bundle.now t x }
 {
-    let kind = term_field(file, b, t, 0);
-    let a = term_field(file, b, t, 1);
+    let kind = bundle.term_field(t, 0);
+    let a = bundle.term_field(t, 1);
     (kind == VARIABLE) & (a == x)
 }
 
 // Whether variable v is free in term t. A number that is no term's has no free variables.
-pub fn is_free(b: Bundle, area: &[u64], n: usize, t: usize, v: usize) -> bool
-    requires { n * b.terms ≤ length area.now }
-    ensures { result ≡ free_in b.terms area.now n t v }
+pub fn is_free(bundle: &Bundle, area: &[u64], n: usize, t: usize, v: usize) -> bool
+    requires { n * length bundle.now.terms ≤ length area.now }
+    ensures { result ≡ free_in (length bundle.now.terms) area.now n t v }
 {
     if t == 0 {
         return false;
     }
-    if t > b.terms {
+    if t > bundle.terms() {
         return false;
     }
     sets::member(area, n * (t - 1), n, v)
 }
 
 // Whether term t is settled where the set at `at` is that of the moved variables: it has none of them free.
-pub fn is_settled(b: Bundle, area: &[u64], n: usize, moved: &[u64], at: usize, t: usize) -> bool
-    requires { (n * b.terms ≤ length area.now) × (at + n ≤ length moved.now) }
-    ensures { result ≡ settled_in b.terms area.now moved.now n at t }
+pub fn is_settled(
+    bundle: &Bundle,
+    area: &[u64],
+    n: usize,
+    moved: &[u64],
+    at: usize,
+    t: usize,
+) -> bool
+    requires { (n * length bundle.now.terms ≤ length area.now) × (at + n ≤ length moved.now) }
+    ensures { result ≡ settled_in (length bundle.now.terms) area.now moved.now n at t }
 {
     if t == 0 {
         return true;
     }
-    if t > b.terms {
+    if t > bundle.terms() {
         return true;
     }
     sets::disjoint(area, n * (t - 1), moved, at, n)
@@ -89,7 +93,7 @@ pub fn is_settled(b: Bundle, area: &[u64], n: usize, moved: &[u64], at: usize, t
 
 // Whether two terms are in scope in a context: each free variable of theirs is mentioned there.
 pub fn both_in_scope(
-    b: Bundle,
+    bundle: &Bundle,
     area: &[u64],
     n: usize,
     scopes: &[u64],
@@ -97,9 +101,9 @@ pub fn both_in_scope(
     left: usize,
     right: usize,
 ) -> bool
-    requires { (n * b.terms ≤ length area.now) × (2 * n * (context + 1) ≤ length scopes.now)
-        × (1 ≤ left) × (left ≤ b.terms) × (1 ≤ right) × (right ≤ b.terms) }
-    ensures { let scope = in_scope_in b.terms area.now scopes.now n (mentioned_at n context) in
+    requires { (n * length bundle.now.terms ≤ length area.now) × (2 * n * (context + 1) ≤ length scopes.now)
+        × (1 ≤ left) × (left ≤ length bundle.now.terms) × (1 ≤ right) × (right ≤ length bundle.now.terms) }
+    ensures { let scope = in_scope_in (length bundle.now.terms) area.now scopes.now n (mentioned_at n context) in
         result ≡ (scope left && scope right) }
 {
     let mentioned = &scopes[2 * n * context + n..];

@@ -13,7 +13,7 @@ use lib.ListN.{length}
 use borrow.Author.Tests.{eqb-true, eq-eqb, ltb-true, lt-ltb}
 use Rattle.bundle.specs.Bundle.{Bundle, step_of}
 use Rattle.bundle.specs.File.{bundle_of}
-use Rattle.logic.specs.declared.Fault.{Fault}
+use Rattle.logic.specs.Tests.{Fault}
 use Rattle.logic.specs.Tests.{first_failing, fault, or_else, or_next}
 use Rattle.logic.specs.Checks.{header_fault, sections_fault, tables_fault}
 use Rattle.logic.specs.Contexts.{contexts_fault}

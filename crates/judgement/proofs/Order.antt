@@ -18,7 +18,7 @@ use lib.Dec.{ltb}
 use borrow.Author.Tests.{ltb-true}
 use Rattle.bundle.specs.Bundle.{Bundle}
 use Rattle.bundle.specs.File.{bundle_of}
-use Rattle.logic.specs.declared.Fault.{Fault}
+use Rattle.logic.specs.Tests.{Fault}
 use Rattle.logic.specs.Lists.{All}
 use Rattle.logic.specs.Tests.{Test, first_failing, fault, or_else, or_next, first_from, first_fault}
 use Rattle.logic.specs.Checks.{header_tests, header_fault, link_tests, links_fault, symbol_tests, symbols_fault, variable_tests, variables_fault, term_tests, terms_fault}

@@ -12,7 +12,7 @@ use lib.ListN.{length}
 use Rattle.bundle.specs.Bundle.{Bundle}
 use Rattle.bundle.specs.File.{Whole, counts_of, bundle_at, bundle_of}
 use Rattle.bundle.proofs.Fields.{symbols_length, variables_length, terms_length, links_length, contexts_length, steps_length}
-use Rattle.logic.specs.declared.Fault.{Fault}
+use Rattle.logic.specs.Tests.{Fault}
 use Rattle.logic.specs.Lists.{All}
 use Rattle.logic.specs.Tests.{Test, first_failing, fault, or_else, or_next, first_from, first_fault}
 use Rattle.logic.specs.Checks.{header_tests, header_fault, link_tests, link_fault, symbol_tests, symbol_fault, variable_tests, variable_fault, term_tests, term_fault}

@@ -3,7 +3,7 @@ use Rattle.std.specs.Prelude.{ℕ, zero, suc, ◌*◌, cond, List, [], ◌∷◌
 use Rattle.bundle.specs.Bundle.{Bundle, step_of}
 use Rattle.bundle.specs.Limits.{least_bytes, set_words}
 use Rattle.bundle.specs.File.{counts_of, bundle_of}
-use Rattle.logic.specs.declared.Fault.{Fault}
+use Rattle.logic.specs.Tests.{Fault}
 use Rattle.logic.specs.Tests.{passed, Test, test, first_failing, fault, or_else, or_next}
 use Rattle.logic.specs.Free.{free_area}
 use Rattle.logic.specs.Checks.{tables_fault}

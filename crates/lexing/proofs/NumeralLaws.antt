@@ -1,4 +1,5 @@
 -- Laws of a letter and a numeral, digit by digit, as `names::number_within` reads them; and the names of a bundle by its counts.
+--     later_byte                                           a byte after the letter
 --     nothing_short, nothing_letter, nothing_zero          runs that are no letter and numeral
 --     counting_start, counting_on                          digits so far
 --     nothing_below, nothing_above, nothing_high           a byte that is no digit; a number that is too high
@@ -11,8 +12,8 @@ use native.Mathlib.Numerals.{add-one}
 use mathlib.Core.Path.{◌≡◌, refl, sym, ap, ◌∙◌}
 use mathlib.Core.Bool.{Bool, true, false, cond, ◌&&◌, ◌||◌}
 use mathlib.Core.List.{List, [], ◌∷◌}
-use lib.ListN.{length, get_or, drop, drop_of_length-le}
-use lib.Seq.{drop-cons}
+use lib.ListN.{length, get_or, take, drop, drop_of_length-le}
+use lib.Seq.{drop-cons, get_or-take, get_or-drop}
 use lib.Dec.{eqb, leb, ltb}
 use borrow.Author.Tests.{eq-eqb, ne_eqb, le-leb, lt-leb}
 use Rattle.bundle.specs.Lists.{each}
@@ -33,6 +34,12 @@ decimal_rises : (n : ℕ) (ds : List ℕ) → n ≤ decimal n ds
 unfolding decimal
 decimal_rises n [] = omega arith
 decimal_rises n (c ∷ cs) = let h = decimal_rises (10 * n + (c - 48)) cs in omega (arith, h)
+
+pub later_byte : (w : List ℕ) (k : ℕ) → k + 1 < length w → get_or (take (length w - 1) (drop 1 w)) k 0 ≡ get_or w (k + 1) 0
+later_byte w k l =
+    let m : k < length w - 1 = omega arith in
+    let e : 1 + k ≡ k + 1 = omega arith in
+    get_or-take (length w - 1) (drop 1 w) k 0 m ∙ get_or-drop 1 w k 0 ∙ rw e
 
 module _ (letter low high : ℕ) where
   -- the digits before j are read as n

@@ -1,5 +1,5 @@
 -- The numbers by which code knows lexemes and classes of bytes.
-use Rattle.std.specs.Prelude.{ℕ, List, [], ◌∷◌}
+use Rattle.std.specs.Prelude.{ℕ}
 use Rattle.grammar.specs.Bytes.{Class, space, lineEnd, semicolon, opening, closing, digit, symbol, other, Word, constant, negation, connective}
 use Rattle.grammar.specs.Bytes.{quantifier, letting, sort, name}
 use Rattle.grammar.specs.Grammar.{Lexeme, opens, closes, word, stray}

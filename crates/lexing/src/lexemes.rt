@@ -4,7 +4,7 @@ ghost use Rattle.grammar.specs.Bytes.{class_of};
 ghost use Rattle.lexing.specs.Codes.{class_code};
 ghost use Rattle.lexing.specs.Lexes.{skips, Skipped, RunEnds, Lexes};
 
-use crate::runs::{class_code, wide, word_code};
+use crate::runs::{class_code, word_code};
 
 // A lexeme from `start` up to before `end`: 0 '(', 1 ')', 2 a stray byte, 3 to 9 a word by its number (9 a name); 10 the text's end.
 #[derive(Clone, Copy)]
@@ -29,16 +29,14 @@ fn skipped(text: &[u8], i: usize) -> usize
     ensures { Skipped text.now i result }
 {
     let mut mode = 0;
-    let mut j = i;
-    while j < text.len() {
+    for j in i..text.len() {
         let class = class_code(text[j]);
-        mode = wide(skip_mode(8 * mode + class));
+        mode = usize::from(skip_mode(8 * mode + class));
         if mode == 2 {
             return j;
         }
-        j += 1;
     }
-    j
+    text.len()
 }
 
 // The end of the run of symbol characters that starts at `start`.
@@ -46,8 +44,7 @@ fn run_end(text: &[u8], start: usize) -> usize
     requires { (start < length text.now) × (class_code (class_of (get_or text.now start 0)) ≡ 6) }
     ensures { RunEnds text.now start result }
 {
-    let mut j = start + 1;
-    while j < text.len() {
+    for j in start + 1..text.len() {
         let class = class_code(text[j]);
         if class < 5 {
             return j;
@@ -55,9 +52,8 @@ fn run_end(text: &[u8], start: usize) -> usize
         if class == 7 {
             return j;
         }
-        j += 1;
     }
-    j
+    text.len()
 }
 
 // The next lexeme from byte i on.

@@ -2,8 +2,6 @@
 ghost use Rattle.std.specs.Prelude.{◌≡◌, ◌≤◌};
 ghost use Rattle.lexing.specs.Counted.{number_within, variable_among, symbol_among, place_of, known_among};
 
-use crate::runs::wide;
-
 // The number after a letter, where it is low to high; else 0. It ends as soon as the number is too high.
 fn number_within(run: &[u8], letter: u8, low: usize, high: usize) -> usize
     requires { high ≤ 4294967327 }
@@ -19,9 +17,8 @@ fn number_within(run: &[u8], letter: u8, low: usize, high: usize) -> usize
         return 0;
     }
     let mut n = 0;
-    let mut j = 1;
-    while j < run.len() {
-        let c = wide(run[j]);
+    for digit in &run[1..] {
+        let c = usize::from(*digit);
         if c < 48 {
             return 0;
         }
@@ -32,7 +29,6 @@ fn number_within(run: &[u8], letter: u8, low: usize, high: usize) -> usize
         if n > high {
             return 0;
         }
-        j += 1;
     }
     if n < low {
         return 0;

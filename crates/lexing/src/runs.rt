@@ -6,13 +6,6 @@ ghost use Rattle.grammar.specs.Parser.{starts};
 ghost use Rattle.lexing.specs.Codes.{class_code, word_code};
 ghost use Rattle.lexing.specs.Common.{common};
 
-// A byte as a number.
-pub fn wide(x: u8) -> usize
-    ensures { result ≡ x }
-{
-    x as usize
-}
-
 // The class of a byte that is a symbol character, or of no other use.
 fn symbol_if(p: bool) -> usize
     ensures { result ≡ cond p 6 7 }
@@ -75,17 +68,15 @@ pub fn class_code(x: u8) -> usize
 pub fn in_common(run: &[u8], other: &[u8]) -> usize
     ensures { result ≡ common run.now other.now }
 {
-    let mut j = 0;
-    while j < run.len() {
+    for j in 0..run.len() {
         if j >= other.len() {
             return j;
         }
         if run[j] != other[j] {
             return j;
         }
-        j += 1;
     }
-    j
+    run.len()
 }
 
 // Whether a run is a word.

@@ -10,7 +10,7 @@ use native.Mathlib.Nat.{eq-or-lt_of_le}
 use Prim.Native.Nat.{ℕ, zero, suc, ◌+◌, ◌-◌, ◌<◌, ◌≤◌}
 use native.Mathlib.Numerals.{add-one}
 use native.Mathlib.Omega.{arith}
-use Rattle.logic.specs.declared.Fault.{Fault}
+use Rattle.logic.specs.Tests.{Fault}
 use Rattle.logic.specs.Tests.{fault, or_else, or_next, first_from, first_fault}
 
 pub rest_fault : (ℕ → ℕ) → ℕ → ℕ → Fault

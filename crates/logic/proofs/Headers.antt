@@ -14,7 +14,7 @@ use native.Mathlib.Omega.{arith}
 use lib.ListN.{length}
 use lib.Dec.{eqb, leb}
 use borrow.Author.Tests.{eqb-true, eq-eqb, leb-true, le-leb}
-use Rattle.bundle.specs.declared.Bundle.{Bundle as Counts}
+use Rattle.bundle.specs.declared.Counts.{Counts}
 use Rattle.bundle.specs.Limits.{header_words, bytes_of, within_of}
 use Rattle.bundle.specs.File.{Whole, counts_of, bundle_at, bundle_of}
 use Rattle.bundle.proofs.Limits.{within_all, within_true}

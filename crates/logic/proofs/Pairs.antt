@@ -5,31 +5,28 @@
 --     last_pairs_lem              the number that the answer gives is that of the last REFL walked
 --     last_more, last_same    step by step, by the number of the step's pairs
 --     last_pairs_at_most      where no step fails it is at most 4,096
-use mathlib.Core.Path.{◌≡◌, refl, sym, ap, ◌∙◌, subst}
+use mathlib.Core.Path.{◌≡◌, refl, sym, ap, ◌∙◌}
 use Prim.Native.Nat.{ℕ, zero, suc, ◌≤◌, ◌<◌}
-use mathlib.Core.Bool.{Bool, true, false, cond, not, ◌&&◌, ◌||◌, false≢true}
-use mathlib.Core.Logic.{◌⊎◌, inl, inr, ◌↔◌}
+use mathlib.Core.Bool.{Bool, true, false, cond, not, ◌||◌, false≢true}
+use mathlib.Core.Logic.{◌↔◌}
 use mathlib.Core.List.{[]}
 use native.Mathlib.Omega.{arith}
 use native.Mathlib.Decide.{dec_le}
 use lib.ListN.{length}
 use lib.Dec.{eqb, leb}
-use borrow.Author.Tests.{eqb-true, eq-eqb, leb-true, le-leb, lt-leb}
+use borrow.Author.Tests.{eqb-true, le-leb, lt-leb}
 use Rattle.bundle.specs.Bundle.{Bundle, Step, step_of}
-use Rattle.logic.specs.Lists.{Number}
 use Rattle.logic.specs.Terms.{tree}
 use Rattle.logic.specs.Free.{free_at}
 use Rattle.logic.specs.Contexts.{image}
 use Rattle.logic.specs.Rules.{Rule, REFL, CONG, TRANS, BIND, LET, noRule, rule_of, refl_holds, refl_suffices, suffices_as, suffices, matches, sides}
 use Rattle.logic.specs.Rules.{step_refers, scoped, step_tests, step_fault, steps_fault, walked, walked_pairs, last_pairs}
-use Rattle.logic.specs.WellFormed.{WellFormed}
 use Rattle.logic.specs.ReflWalk.{refl_walk, pair_limit}
 use Rattle.logic.specs.Instance.{ReflForm}
 use Rattle.logic.specs.Statements.{Spent, SpentExactly, WalkedExactly, LastWalked, no_walk, last_walk, LastPairs, LastPairsAtMost}
-use Rattle.logic.proofs.Tests.{or_left, or_right, and_left, and_right, failing_none}
+use Rattle.logic.proofs.Tests.{and_left, and_right, failing_none}
 use Rattle.logic.proofs.Firsts.{none_bad}
 use Rattle.logic.proofs.Exactly.{eq_exactly, not_exactly, and_exactly}
-use Rattle.logic.proofs.TermNumbers.{IsTerm}
 use Rattle.logic.proofs.ReflWalk.{walk_some}
 use Rattle.logic.proofs.ReflStep.{form_exactly}
 use Rattle.logic.proofs.Instances.{refers_exactly}

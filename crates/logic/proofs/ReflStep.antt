@@ -5,16 +5,15 @@
 --     refl_suffices_exactly      it passes 21 exactly where one of the forms takes it or the pairs suffice
 use mathlib.Core.Path.{◌≡◌, refl, sym, ap, ◌∙◌, subst}
 use Prim.Native.Nat.{ℕ, ◌≤◌}
-use mathlib.Core.Bool.{Bool, true, false, ◌&&◌, ◌||◌}
+use mathlib.Core.Bool.{Bool, true, ◌&&◌, ◌||◌}
 use mathlib.Core.Logic.{◌⊎◌, inl, inr, ◌↔◌}
-use mathlib.Core.List.{[]}
 use lib.Dec.{eqb, leb}
 use borrow.Author.Tests.{eqb-true, eq-eqb, leb-true, le-leb}
 use Rattle.bundle.specs.Bundle.{Bundle, TermRecord, Step, term_of}
 use Rattle.logic.specs.declared.Image.{Image}
 use Rattle.logic.specs.declared.Image.TheVariants.{Own, Gives}
-use Rattle.logic.specs.Terms.{Term, var, tree}
-use Rattle.logic.specs.Contexts.{image, tree_of_image, image_tree, Settled, settled}
+use Rattle.logic.specs.Terms.{var, tree}
+use Rattle.logic.specs.Contexts.{image, tree_of_image, image_tree, settled}
 use Rattle.logic.specs.Distinct.{Distinct}
 use Rattle.logic.specs.Rules.{is_image, refl_holds, refl_matches, refl_suffices}
 use Rattle.logic.specs.WellFormed.{WellFormed}

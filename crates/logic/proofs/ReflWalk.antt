@@ -9,22 +9,19 @@
 use mathlib.Core.Path.{◌≡◌, refl, sym, ap, ap₂, ◌∙◌, fun_ext}
 use Prim.Native.Nat.{ℕ, zero, suc, ◌+◌, ◌-◌, ◌≤◌, ◌<◌}
 use mathlib.Core.Bool.{Bool, true, false}
-use mathlib.Core.List.{List, [], ◌∷◌, ◌++◌, map}
+use mathlib.Core.List.{List, [], ◌∷◌}
 use native.Mathlib.Omega.{arith}
 use native.Mathlib.Decide.{dec_le}
-use lib.Dec.{eqb}
-use borrow.Author.Tests.{eqb-true, le-leb, lt-leb}
-use Rattle.bundle.specs.Bundle.{Bundle, TermRecord, no_term, term_of, sort_of_variable}
+use borrow.Author.Tests.{le-leb, lt-leb}
+use Rattle.bundle.specs.Bundle.{Bundle, TermRecord, no_term, term_of}
 use Rattle.bundle.specs.Links.{items}
-use Rattle.bundle.specs.Lists.{same_list}
 use Rattle.logic.specs.Table.{below}
-use Rattle.logic.specs.Terms.{Binder, Kind, kind_of, variable, application, binder, letting, other}
+use Rattle.logic.specs.Terms.{Kind, kind_of, variable, application, binder, letting, other}
 use Rattle.logic.specs.declared.Image.{Image}
 use Rattle.logic.specs.declared.Limited.{Limited}
 use Rattle.logic.specs.declared.Limited.TheVariants.{Same, Different, Spent}
 use Rattle.logic.specs.ReflWalk.{Crossed, PairWalk, no_pair, one_pair, pair_then, and_then, variable_meets, application_meets, binder_meets, let_meets, binder_crossed, let_crossed, lists_walk, pair_walk_as, pair_walk_of, no_pair_walk, pair_walk_by, ended, pair_within, one_pair_within, go_on, lists_within, within_as, within_of, none_within, within_by, limit}
 use Rattle.logic.specs.Statements.{PairWalkLimited}
-use Rattle.logic.proofs.Tests.{and_left}
 use Rattle.logic.proofs.Tables.{table_below, table_step, table_both, table_all}
 use Rattle.logic.proofs.Trees.{refs_as, refs, Before}
 

@@ -14,7 +14,7 @@ use Rattle.bundle.specs.Bundle.{Bundle, sort_of_variable}
 use Rattle.bundle.specs.Lists.{has}
 use Rattle.logic.specs.Lists.{Among}
 use Rattle.logic.specs.Symbols.{kind_of_symbol}
-use Rattle.logic.specs.Terms.{Term, Terms, var, app, bind, let_in, none, more, tree}
+use Rattle.logic.specs.Terms.{Term, Terms, var, app, bind, let_in, none, more}
 use Rattle.logic.specs.Contexts.{image_tree}
 use Rattle.logic.specs.ReflWalk.{Crossed, lefts, rights, meets}
 use Rattle.logic.specs.Values.{Value, truth, truth_of, World, meaning_of, bound_value, put, assign, value, values, seen}

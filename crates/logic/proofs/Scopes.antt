@@ -4,13 +4,13 @@
 --     scoped_exactly      so does the test of a step, of both its sides
 --     unscoped            a step that fails it has a free variable that no entry mentions
 --     claim_closed        THE THEOREM: both sides of a step in context 0 that holds are closed
-use mathlib.Core.Path.{◌≡◌, refl, sym, ap, ◌∙◌, subst}
-use Prim.Native.Nat.{ℕ, zero, suc, ◌≤◌}
+use mathlib.Core.Path.{◌≡◌, refl, sym, ap, ◌∙◌}
+use Prim.Native.Nat.{ℕ, zero, suc}
 use mathlib.Core.Bool.{Bool, true, false, not, ◌&&◌, ◌||◌, false≢true}
 use mathlib.Core.Logic.{◌⊎◌, inl, inr, ◌↔◌}
 use native.Mathlib.Omega.{arith}
 use lib.ListN.{length}
-use Rattle.bundle.specs.Bundle.{Bundle, Context, Step, context_of, step_of}
+use Rattle.bundle.specs.Bundle.{Bundle, Step, context_of}
 use Rattle.logic.specs.Lists.{Number}
 use Rattle.logic.specs.Tests.{up_to}
 use Rattle.logic.specs.Terms.{tree}

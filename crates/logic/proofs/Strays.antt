@@ -1,11 +1,11 @@
 -- 22, stray.
 --     stray_exactly     THE THEOREM: 22 exactly where a free variable of a side is mentioned by no entry of the step's context
-use mathlib.Core.Path.{◌≡◌, refl, sym, ◌∙◌}
+use mathlib.Core.Path.{◌≡◌, refl}
 use Prim.Native.Nat.{ℕ}
 use native.Mathlib.Omega.{arith}
 use mathlib.Core.Bool.{Bool, true, false, cond}
 use mathlib.Core.Logic.{◌⊎◌, inl, inr}
-use Rattle.bundle.specs.Bundle.{Bundle, Step, step_of}
+use Rattle.bundle.specs.Bundle.{Step, step_of}
 use Rattle.logic.specs.Terms.{tree}
 use Rattle.logic.specs.Free.{Free}
 use Rattle.logic.specs.Instance.{SidesInScope}

@@ -4,7 +4,7 @@ use Rattle.std.specs.Prelude.{ℕ, ◌≡◌, Bool, true, false, cond, not, ◌&
 use Rattle.bundle.specs.Bundle.{Bundle, Context, context_of, term_of}
 use Rattle.bundle.specs.Links.{items}
 use Rattle.bundle.specs.Lists.{numbers, each}
-use Rattle.logic.specs.declared.Fault.{Fault}
+use Rattle.logic.specs.Tests.{Fault}
 use Rattle.logic.specs.declared.Mention.{Mention}
 use Rattle.logic.specs.declared.Mention.TheVariants.{Fixed, Replaced, Absent}
 use Rattle.logic.specs.declared.Image.{Image}

@@ -1,5 +1,6 @@
 -- The mathematics of bundles. Each file stands on those above it.
 --     Tests        tests, numbered tests, and the first fault of a section
+--     Failures     which check fails, as the code says it
 --     Lists        what is said of lists, in propositions
 --     Table        tables that grow record by record: trees, free variables, sorts, images
 --     Symbols      the symbol table: built-in, reserved and declared symbols, their sorts
@@ -23,6 +24,7 @@
 --     Lookup       terms looked up
 --     Statements   the theorems, as types: proofs/ has each under the same name
 pub mod Tests
+pub mod Failures
 pub mod Lists
 pub mod Table
 pub mod Symbols

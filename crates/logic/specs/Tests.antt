@@ -1,6 +1,5 @@
 -- Tests, numbered tests, and the first fault of a section. A number is that of a refusal in document 01, 0 where nothing is wrong.
 use Rattle.std.specs.Prelude.{ℕ, zero, suc, List, [], ◌∷◌, Bool, true, cond, ◌&&◌}
-use Rattle.logic.specs.declared.Fault.{Fault}
 
 -- Every test of a list passes. As a left fold it computes to `t₁ && t₂ && ..`, as code writes it with `&`.
 unfoldable pub passed_from : Bool → List Bool → Bool
@@ -29,6 +28,11 @@ test n p = record { number = n; holds = p }
 unfoldable pub first_failing : List Test → ℕ
 first_failing [] = 0
 first_failing (t ∷ ts) = cond t.holds (first_failing ts) t.number
+
+-- what is wrong with a record: the number of the check that fails, and the record; number 0 where nothing is wrong
+pub record Fault : Type 0 where
+  pub number : ℕ
+  pub «record» : ℕ
 
 abbrev pub fault : ℕ → ℕ → Fault
 fault n i = record { number = n; «record» = i }

@@ -2,18 +2,11 @@
 #![tactic(auto)]
 
 ghost use Rattle.std.specs.Prelude.{◌≡◌};
-ghost use Rattle.logic.specs.Tests.{fault};
 ghost use Rattle.logic.specs.ReflWalk.{pair_limit};
 
+pub mod checks; // checks.rt: the checks, and which one fails
 pub mod kinds; // kinds.rt: the kinds of terms and of contexts
 pub mod rules; // rules.rt: the rules
-
-// What is wrong with a record: the number of the check that fails, and the record. Number 0: nothing is wrong.
-#[derive(Clone, Copy)]
-pub struct Fault {
-    pub number: usize,
-    pub record: usize,
-}
 
 // What a walk over lists of links finds: whether they pass its test, and how many links it read.
 #[derive(Clone, Copy)]
@@ -68,14 +61,4 @@ pub enum Limited {
     Same(usize),
     Different(usize),
     Spent,
-}
-
-// Nothing is wrong.
-pub fn no_fault() -> Fault
-    ensures { result ≡ fault 0 0 }
-{
-    Fault {
-        number: 0,
-        record: 0,
-    }
 }

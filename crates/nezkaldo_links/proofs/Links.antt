@@ -1,34 +1,30 @@
 -- WHAT THE NUMBER SAYS that `nezkaldo_links` answers.
---     links_short     a CONG reads at most three times as many links as a file may have
+--     links_short, few_links     a CONG reads at most three times as many links as a file may have
 --     step-number     the number of a CONG step
 --     links_number_lem    THE THEOREM
 use mathlib.Core.Path.{◌≡◌, refl, sym, ◌∙◌}
 use mathlib.Core.Bool.{Bool, true, false, false≢true}
 use mathlib.Core.List.{List}
-use Prim.Native.Nat.{ℕ, ◌+◌, ◌*◌, ◌≤◌, ◌<◌}
+use Prim.Native.Nat.{ℕ, ◌+◌, ◌*◌, ◌≤◌}
 use native.Mathlib.Omega.{arith}
 use lib.ListN.{length}
-use Rattle.bundle.specs.declared.Bundle.{Bundle as Counts}
+use Rattle.bundle.specs.declared.Counts.{Counts}
 use Rattle.bundle.specs.Limits.{limits}
 use Rattle.bundle.specs.Bundle.{Bundle, Step, step_of}
 use Rattle.bundle.specs.File.{Whole, bundle_at, bundle_of, counts_of}
 use Rattle.bundle.proofs.Fields.{links_length}
 use Rattle.logic.specs.declared.Walk.{Walk}
-use Rattle.logic.specs.Rules.{rule_of, cong_walk, three_lengths, matches}
+use Rattle.logic.specs.Rules.{rule_of, cong_walk, matches}
 use Rattle.logic.proofs.CongWalk.{cong_at_most, cong_exactly, lengths_short}
 use Rattle.logic.proofs.Headers.{header_exactly}
 use Rattle.nezkaldo_links.specs.Links.{walk_number, step_number, links_number, LinksSay, LinksNumber}
 
--- the links that a CONG reads, at most
-read_few : (b : Bundle) (s : Step) → length b.links ≤ limits.links → (cong_walk b s).links ≤ 3 * limits.links
+pub links_short : (b : Bundle) (s : Step) → length b.links ≤ limits.links → (cong_walk b s).links ≤ 3 * limits.links
 unfolding cong_walk
-read_few b s few = omega (arith, cong_at_most (step_of b) b s, lengths_short b s)
+links_short b s few = omega (arith, cong_at_most (step_of b) b s, lengths_short b s)
 
-few_links : (f : List ℕ) (c : Counts) → Whole f c → length (bundle_at f c).links ≤ limits.links
+pub few_links : (f : List ℕ) (c : Counts) → Whole f c → length (bundle_at f c).links ≤ limits.links
 few_links f c whole = rw (links_length f c) whole.within.links
-
-pub links_short : (f : List ℕ) (c : Counts) (s : Step) → Whole f c → (cong_walk (bundle_at f c) s).links ≤ 3 * limits.links
-links_short f c s whole = read_few (bundle_at f c) s (few_links f c whole)
 
 module _ (b : Bundle) (k p : ℕ) (few : length b.links ≤ limits.links) (cong : (step_of b k).rule ≡ 2) (is : p ≡ walk_number (cong_walk b (step_of b k))) where
   abbrev w : Walk
@@ -43,7 +39,7 @@ module _ (b : Bundle) (k p : ℕ) (few : length b.links ≤ limits.links) (cong 
   unfolding cong_walk
   say true e =
       let all : p ≡ w.links = is ∙ rw e in
-      let small : w.links ≤ 3 * limits.links = read_few b (step_of b k) few in
+      let small : w.links ≤ 3 * limits.links = links_short b (step_of b k) few in
       record {
         passes = ((λ _. sym same ∙ e), (λ _. omega (arith, all, small)));
         exactly = λ _. all ∙ cong_exactly (step_of b) b (step_of b k) e;

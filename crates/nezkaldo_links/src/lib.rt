@@ -5,12 +5,10 @@
 ghost use Rattle.std.specs.Prelude.{◌≡◌, ◌≤◌};
 ghost use Rattle.nezkaldo_links.specs.Links.{walk_number, links_number};
 
-use bundle::words::counts;
-use declarations::header::header_fault;
+use declarations::header::opened;
 use logic::Walk;
 use logic::rules::CONG;
 use rules::rules::step_walk;
-use steps::steps::step_words;
 
 // What a walk found, as one number: the links that it read, and 13 · 2^32 more where the test fails.
 fn walk_number(w: Walk) -> u64
@@ -29,17 +27,14 @@ fn walk_number(w: Walk) -> u64
 pub fn nezkaldo_links(file: &[u8], step: usize) -> u64
     ensures { result ≡ links_number file.now step }
 {
-    let number = header_fault(file, 0, 0);
-    if number != 0 {
-        return 4294967296 * (number as u64);
-    }
-    let b = counts(file);
-    let s = step_words(file, b, step);
-    let rule = s.rule;
-    if rule != CONG {
+    let bundle = match opened(file, 0, 0) {
+        Ok(bundle) => bundle,
+        Err(check) => return 4294967296 * (check.number() as u64),
+    };
+    let s = bundle.step_words(step);
+    if s.rule != CONG {
         return 51539607552;
     }
-    let none = [0u32; 1];
-    let walked = step_walk(file, b, &none, s);
+    let walked = step_walk(&bundle, &[0], s);
     walk_number(walked)
 }

@@ -13,12 +13,9 @@ use mathlib.Core.List.{List, [], ◌∷◌}
 use lib.ListN.{length, replicate, length-replicate}
 use lib.Dec.{eqb, ltb, leb}
 use borrow.Author.Tests.{eq-eqb, ne_eqb, leb-true, lt-ltb}
-use Rattle.bundle.specs.declared.Bundle.{Bundle as Counts}
-use Rattle.bundle.specs.Bundle.{sort_of_variable}
-use Rattle.bundle.specs.Limits.{set_words, Within}
+use Rattle.bundle.specs.Bundle.{Bundle, sort_of_variable}
+use Rattle.bundle.specs.Limits.{limits, set_words}
 use Rattle.bundle.specs.Lists.{numbers, each, has, different}
-use Rattle.bundle.specs.File.{bundle_at}
-use Rattle.bundle.proofs.Fields.{variables_length}
 use Rattle.bundle.proofs.LinkNotes.{zeros}
 use Rattle.sets.specs.Sets.{with_bit, holds, member, inserted, cleared}
 use Rattle.sets.proofs.Members.{holds_small, member_inserted, member_cleared, member_same, filled_in, changed_length}
@@ -26,7 +23,6 @@ use Rattle.logic.proofs.Tests.{and_right}
 use Rattle.grammar.specs.Grammar.{Lexeme}
 use Rattle.lexing.specs.Counted.{variable_among}
 use Rattle.lexing.specs.Lexes.{lexemes_at}
-use Rattle.reading.specs.Called.{number_after, variable_called}
 use Rattle.bracketing.specs.Brackets.{front_of, rest_of, after_formula, starts_part, parts_from}
 use Rattle.bracketing.specs.Nodes.{name_in, sort_in, sort_from, variable_in, as_declared, every, bound_from, distinct}
 use Rattle.bracketing.specs.Places.{Reaches}
@@ -46,25 +42,25 @@ joins_truths p s t e = rw e
 
 -- ---- pairs
 
-module _ (f : List ℕ) (c : Counts) (ls : List Lexeme) (x : ℕ) (is : x ≡ variable_among c.variables (name_in (front_of (rest_of ls)))) (u : ℕ)
-    (sort : u ≡ sort_of_variable (bundle_at f c) x) where
-  variable : variable_in (bundle_at f c) ls ≡ x
+module _ (b : Bundle) (ls : List Lexeme) (x : ℕ) (is : x ≡ variable_among (length b.variables) (name_in (front_of (rest_of ls)))) (u : ℕ)
+    (sort : u ≡ sort_of_variable b x) where
+  variable : variable_in b ls ≡ x
   unfolding variable_in
-  variable = sym (is ∙ variable_is f c (name_in (front_of (rest_of ls))))
+  variable = sym (is ∙ variable_is b (name_in (front_of (rest_of ls))))
 
-  pub declared_at : (third : List Lexeme) (said : ℕ) → third ≡ rest_of (rest_of ls) → said ≡ sort_in (front_of third) → eqb u said ≡ as_declared (bundle_at f c) ls
+  pub declared_at : (third : List Lexeme) (said : ℕ) → third ≡ rest_of (rest_of ls) → said ≡ sort_in (front_of third) → eqb u said ≡ as_declared b ls
   unfolding as_declared
   declared_at third said there e = rw (variable, ← sort, ← there, ← e)
 
-  module _ (third : List Lexeme) (s : ℕ) (there : third ≡ rest_of (rest_of ls)) (e : s ≡ sort_from (bundle_at f c) third) where
-    bound : bound_from (bundle_at f c) ls ≡ cond (eqb u s) x 0
+  module _ (third : List Lexeme) (s : ℕ) (there : third ≡ rest_of (rest_of ls)) (e : s ≡ sort_from b third) where
+    bound : bound_from b ls ≡ cond (eqb u s) x 0
     unfolding bound_from
     bound = rw (variable, ← sort, ← there, ← e)
 
-    pub bound_fits : u ≡ s → x ≡ bound_from (bundle_at f c) ls
+    pub bound_fits : u ≡ s → x ≡ bound_from b ls
     bound_fits q = sym (bound ∙ rw (eq-eqb u s q))
 
-    pub bound_differs : (u ≡ s → ⊥) → 0 ≡ bound_from (bundle_at f c) ls
+    pub bound_differs : (u ≡ s → ⊥) → 0 ≡ bound_from b ls
     bound_differs ne = sym (bound ∙ rw (ne_eqb u s ne))
 
 -- ---- a test of all parts
@@ -113,72 +109,47 @@ fresh_more old new x e (v ∷ vs) = rw (e v, same_either v x, fresh_more old new
     go false true false d = refl
     go false false c d = refl
 
-module _ (f : List ℕ) (c : Counts) (text : List ℕ) where
-  -- a variable has a bit in a set
-  called_small : (w : List ℕ) → variable_called (bundle_at f c) w ≤ c.variables
-  unfolding variable_called
-  called_small w = go (numbers (length (bundle_at f c).variables) (number_after 118 w)) refl
-    where
-      n : ℕ
-      n = number_after 118 w
-
-      go : (p : Bool) → numbers (length (bundle_at f c).variables) n ≡ p → cond p n 0 ≤ c.variables
-      go true e =
-          omega (
-            arith,
-            leb-true n (length (bundle_at f c).variables) (and_right (ltb 0 n) (leb n (length (bundle_at f c).variables)) e),
-            variables_length f c,
-          )
-      go false e = omega arith
-
-  bound_small : (ls : List Lexeme) → bound_from (bundle_at f c) ls ≤ c.variables
-  unfolding bound_from variable_in
-  bound_small ls = go (eqb (sort_of_variable (bundle_at f c) (variable_in (bundle_at f c) ls)) (sort_from (bundle_at f c) (rest_of (rest_of ls))))
-    where
-      go : (p : Bool) → cond p (variable_in (bundle_at f c) ls) 0 ≤ c.variables
-      go true = called_small (name_in (front_of (rest_of ls)))
-      go false = omega arith
-
+module _ (b : Bundle) (text : List ℕ) where
   no_member : (n u : ℕ) → member (replicate n 0) 0 n u ≡ false
   no_member n u =
       member_same (replicate n 0) (cleared (replicate n 0) 0 n) 0 n
       (λ k l. (zeros n).zero (0 + k) ∙ sym (filled_in (λ j. 0) (replicate n 0) 0 n k (omega (arith, length-replicate {A = ℕ} n 0)) l)) u
       ∙ member_cleared (replicate n 0) 0 n (omega (arith, length-replicate {A = ℕ} n 0)) u
 
-  pub fresh_start : (i : ℕ) (r : Bool) → r ≡ fresh_from (bundle_at f c) text (replicate set_words 0) set_words i → (ls : List Lexeme) → lexemes_at text i ≡ ls
-      → r ≡ distinct (parts_from (bound_from (bundle_at f c)) ls)
+  pub fresh_start : (i : ℕ) (r : Bool) → r ≡ fresh_from b text (replicate set_words 0) set_words i → (ls : List Lexeme) → lexemes_at text i ≡ ls
+      → r ≡ distinct (parts_from (bound_from b) ls)
   unfolding fresh_from
-  fresh_start i r e ls there = e ∙ rw (all (parts_from (bound_from (bundle_at f c)) (lexemes_at text i)), there)
+  fresh_start i r e ls there = e ∙ rw (all (parts_from (bound_from b) (lexemes_at text i)), there)
     where
       all : (vs : List ℕ) → each (λ v. not (member (replicate set_words 0) 0 set_words v)) vs ≡ true
       all [] = refl
       all (v ∷ vs) = rw (no_member set_words v) (all vs)
 
 -- all bindings from i on fit and are new where those from `at` on are, with the variables so far as seen
-pub record Fresh (f : List ℕ) (c : Counts) (text : List ℕ) (i : ℕ) (first : List ℕ) (at : ℕ) (seen : List ℕ) : Type 0 where
+pub record Fresh (b : Bundle) (text : List ℕ) (i : ℕ) (first : List ℕ) (at : ℕ) (seen : List ℕ) : Type 0 where
   pub inside : at ≤ length text
   pub room : length seen ≡ length first
-  pub same : fresh_from (bundle_at f c) text first set_words i ≡ fresh_from (bundle_at f c) text seen set_words at
+  pub same : fresh_from b text first set_words i ≡ fresh_from b text seen set_words at
 
-module _ {f : List ℕ} {c : Counts} {text : List ℕ} {i : ℕ} {first : List ℕ} {at : ℕ} {seen : List ℕ} (w : Fresh f c text i first at seen) {p : Bool}
+module _ {b : Bundle} {text : List ℕ} {i : ℕ} {first : List ℕ} {at : ℕ} {seen : List ℕ} (w : Fresh b text i first at seen) {p : Bool}
     (part : p ≡ starts_part (lexemes_at text at)) where
   abbrev all : Bool
-  all = fresh_from (bundle_at f c) text first set_words i
+  all = fresh_from b text first set_words i
 
   pub fresh_end : not p ≡ true → true ≡ all
   unfolding fresh_from
-  fresh_end n = sym (w.same ∙ rw (part_none (bound_from (bundle_at f c)) (lexemes_at text at) (ended p part n)))
+  fresh_end n = sym (w.same ∙ rw (part_none (bound_from b) (lexemes_at text at) (ended p part n)))
 
-  module _ (more : not p ≡ false) {x : ℕ} (is : x ≡ bound_from (bundle_at f c) (lexemes_at text at)) where
+  module _ (more : not p ≡ false) {x : ℕ} (is : x ≡ bound_from b (lexemes_at text at)) where
     abbrev later : List ℕ
-    later = parts_from (bound_from (bundle_at f c)) (after_formula (lexemes_at text at))
+    later = parts_from (bound_from b) (after_formula (lexemes_at text at))
 
     abbrev unseen : List ℕ → Bool
     unseen vs = each (λ v. not (member seen 0 set_words v)) vs
 
     turn : all ≡ ((not (member seen 0 set_words x) && unseen later) && ((ltb 0 x && each (ltb 0) later) && (not (has x later) && different later)))
     unfolding fresh_from distinct each different
-    turn = w.same ∙ rw (part_some (bound_from (bundle_at f c)) (lexemes_at text at) (goes_on_lem p part more), ← is)
+    turn = w.same ∙ rw (part_some (bound_from b) (lexemes_at text at) (goes_on_lem p part more), ← is)
 
     pub fresh_zero : x ≡ 0 → false ≡ all
     fresh_zero z = sym (turn ∙ rw z (none (not (member seen 0 set_words 0) && unseen later)))
@@ -191,13 +162,13 @@ module _ {f : List ℕ} {c : Counts} {text : List ℕ} {i : ℕ} {first : List �
       pub fresh_seen : m ≡ true → false ≡ all
       fresh_seen e = sym (turn ∙ rw (sym found ∙ e))
 
-      pub fresh_on : m ≡ false → Within c → set_words ≤ length first → {new : List ℕ} → new ≡ inserted seen 0 set_words x
-          → {next : ℕ} → Reaches text at next (after_formula (lexemes_at text at)) → Fresh f c text i first next new
+      pub fresh_on : m ≡ false → x ≤ limits.variables → set_words ≤ length first → {new : List ℕ} → new ≡ inserted seen 0 set_words x
+          → {next : ℕ} → Reaches text at next (after_formula (lexemes_at text at)) → Fresh b text i first next new
       unfolding fresh_from distinct
       fresh_on e small fits {new} put there =
           let positive : 0 < x = above x nz in
           let bit : holds set_words x ≡ true =
-          holds_small set_words x positive (omega (arith, is, bound_small f c text (lexemes_at text at), small.variables)) in
+          holds_small set_words x positive small in
           let added : (u : ℕ) → member new 0 set_words u ≡ (eqb u x || member seen 0 set_words u) =
           λ u. ap (λ (a : List ℕ). member a 0 set_words u) put ∙ member_inserted seen 0 set_words x (omega (arith, w.room)) bit u in
           record {

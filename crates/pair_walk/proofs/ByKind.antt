@@ -13,7 +13,6 @@ use native.Mathlib.Omega.{arith}
 use lib.ListN.{length}
 use lib.Dec.{eqb}
 use borrow.Author.Tests.{ne_eqb}
-use Rattle.bundle.specs.declared.Bundle.{Bundle as Counts}
 use Rattle.bundle.specs.Bundle.{Bundle, term_of}
 use Rattle.bundle.specs.Links.{items, starts_at}
 use Rattle.logic.specs.Terms.{Kind, kind_of, binds, is_binder, variable, application, binder, letting, other}
@@ -33,16 +32,16 @@ let_kind k d = kind_number k letting d (λ q. not_other cc)
 
 -- ---- frames
 
-module _ (c : Counts) (b : Bundle) (k : ℕ) (l r : ℕ) (fs : List Frame) where
-  pub opened_variable : k ≡ 1 → opened_as c b (kind_of k) l r fs ≡ fs
+module _ (b : Bundle) (k : ℕ) (l r : ℕ) (fs : List Frame) where
+  pub opened_variable : k ≡ 1 → opened_as b (kind_of k) l r fs ≡ fs
   unfolding opened_as kind_of
   opened_variable e = rw e
 
-  pub opened_binder : is_binder k ≡ true → opened_as c b (kind_of k) l r fs ≡ pending l r 0 0 ∷ fs
+  pub opened_binder : is_binder k ≡ true → opened_as b (kind_of k) l r fs ≡ pending l r 0 0 ∷ fs
   unfolding opened_as is_binder
   opened_binder e = go (kind_of k) e
     where
-      go : (κ : Kind) → binds κ ≡ true → opened_as c b κ l r fs ≡ pending l r 0 0 ∷ fs
+      go : (κ : Kind) → binds κ ≡ true → opened_as b κ l r fs ≡ pending l r 0 0 ∷ fs
       go variable h = absurd (false≢true h)
       go application h = absurd (false≢true h)
       go (binder q) h = refl
@@ -50,12 +49,12 @@ module _ (c : Counts) (b : Bundle) (k : ℕ) (l r : ℕ) (fs : List Frame) where
       go other h = absurd (false≢true h)
 
   pub opened_rest : is_binder k ≡ false → (k ≡ 1 → ⊥)
-      → opened_as c b (kind_of k) l r fs ≡ pending l r (starts_at c.links (term_of b l).b) (starts_at c.links (term_of b r).b) ∷ fs
+      → opened_as b (kind_of k) l r fs ≡ pending l r (starts_at (length b.links) (term_of b l).b) (starts_at (length b.links) (term_of b r).b) ∷ fs
   unfolding opened_as is_binder
   opened_rest e ne = go (kind_of k) refl e
     where
       go : (κ : Kind) → kind_of k ≡ κ → binds κ ≡ false
-          → opened_as c b κ l r fs ≡ pending l r (starts_at c.links (term_of b l).b) (starts_at c.links (term_of b r).b) ∷ fs
+          → opened_as b κ l r fs ≡ pending l r (starts_at (length b.links) (term_of b l).b) (starts_at (length b.links) (term_of b r).b) ∷ fs
       go variable d h = absurd (ne (variable_kind k d))
       go application d h = refl
       go (binder q) d h = absurd (false≢true (sym h))
@@ -66,13 +65,13 @@ pub closes_not : (k i j : ℕ) → (k ≡ 2 → ⊥) → closes k i j ≡ false
 closes_not k i j ne = rw (ne_eqb k 2 ne)
 
 -- an application with no arguments has no frame
-module _ (c : Counts) (b : Bundle) (l r : ℕ) (fs : List Frame) where
-  pub opened_none : closes (term_of b l).kind (starts_at c.links (term_of b l).b) (starts_at c.links (term_of b r).b) ≡ true → opened c b l r fs ≡ fs
+module _ (b : Bundle) (l r : ℕ) (fs : List Frame) where
+  pub opened_none : closes (term_of b l).kind (starts_at (length b.links) (term_of b l).b) (starts_at (length b.links) (term_of b r).b) ≡ true → opened b l r fs ≡ fs
   unfolding opened
   opened_none e = rw e
 
-  pub opened_some : closes (term_of b l).kind (starts_at c.links (term_of b l).b) (starts_at c.links (term_of b r).b) ≡ false
-      → opened c b l r fs ≡ opened_as c b (kind_of (term_of b l).kind) l r fs
+  pub opened_some : closes (term_of b l).kind (starts_at (length b.links) (term_of b l).b) (starts_at (length b.links) (term_of b r).b) ≡ false
+      → opened b l r fs ≡ opened_as b (kind_of (term_of b l).kind) l r fs
   unfolding opened
   opened_some e = rw e
 

@@ -11,13 +11,12 @@ use mathlib.Core.Path.{◌≡◌, refl, sym, ap, ◌∙◌, fun_ext}
 use mathlib.Core.Bool.{Bool, true, false, cond, ◌&&◌, false≢true}
 use mathlib.Core.List.{List, [], ◌∷◌}
 use Prim.Native.Nat.{ℕ, suc, ◌≤◌}
+use lib.ListN.{length}
 use lib.Dec.{eqb, ltb}
 use borrow.Author.Tests.{eqb-true}
-use Rattle.bundle.specs.declared.Bundle.{Bundle as Counts}
 use Rattle.bundle.specs.Bundle.{Bundle, TermRecord, link_of, term_of}
 use Rattle.bundle.specs.Links.{items, starts_at, next_of}
-use Rattle.bundle.proofs.Fields.{Sized}
-use Rattle.bundle.proofs.BundleWalks.{walk_start, walk_nil, walk_some}
+use Rattle.bundle.proofs.Walks.{walk_start, walk_nil, walk_some}
 use Rattle.logic.specs.declared.Image.{Image}
 use Rattle.logic.specs.declared.Limited.{Limited}
 use Rattle.logic.specs.declared.Limited.TheVariants.{Same, Different, Spent}
@@ -84,100 +83,99 @@ module _ (free : ℕ → ℕ → Bool) (image : ℕ → Image) (b : Bundle) wher
       ap (λ (f : Crossed → ℕ → ℕ → Limited). go_on (f ps r (suc n)) g) (within_below free image b l)
       ∙ ap (λ (a : Limited). go_on a g) (differs_as (kind_of (term_of b l).kind) (under free image b l) (term_of b l) ps r n e)
 
-  module _ {c : Counts} (z : Sized b c) where
-    start_is : (t : ℕ) → items b (starts_at c.links t) ≡ items b t
-    start_is t = sym (walk_start z t (starts_at c.links t) refl)
+  start_is : (t : ℕ) → items b (starts_at (length b.links) t) ≡ items b t
+  start_is t = sym (walk_start b t (starts_at (length b.links) t) refl)
 
-    opened_as_lem : (k : Kind) (l r : ℕ) (fs : List Frame) (n : ℕ) → kind_of (term_of b l).kind ≡ k → meets_as free image b k (term_of b l) (crossed_by fs) r ≡ true
-        → go_on (within_as free image b k (under free image b l) (term_of b l) (crossed_by fs) r (suc n)) (finish free image b fs)
-        ≡ finish free image b (opened_as c b k l r fs) n
-    unfolding within_as meets_as go_on finish opened_as closing
-    opened_as_lem variable l r fs n d e = rw e
-    opened_as_lem application l r fs n d e = rw (e, d, start_is (term_of b l).b, start_is (term_of b r).b)
-    opened_as_lem (binder q) l r fs n d e = rw (e, d)
-    opened_as_lem letting l r fs n d e = rw (e, d, start_is (term_of b l).b, start_is (term_of b r).b)
-        (go_on_on (lists_within (under free image b l) (crossed_by fs) (items b (term_of b l).b) (items b (term_of b r).b) n)
-        (under free image b l (term_of b l).c (let_crossed b (term_of b l) r (crossed_by fs)) (term_of b r).c) (finish free image b fs))
-    opened_as_lem other l r fs n d e = absurd (false≢true e)
+  opened_as_lem : (k : Kind) (l r : ℕ) (fs : List Frame) (n : ℕ) → kind_of (term_of b l).kind ≡ k → meets_as free image b k (term_of b l) (crossed_by fs) r ≡ true
+      → go_on (within_as free image b k (under free image b l) (term_of b l) (crossed_by fs) r (suc n)) (finish free image b fs)
+      ≡ finish free image b (opened_as b k l r fs) n
+  unfolding within_as meets_as go_on finish opened_as closing
+  opened_as_lem variable l r fs n d e = rw e
+  opened_as_lem application l r fs n d e = rw (e, d, start_is (term_of b l).b, start_is (term_of b r).b)
+  opened_as_lem (binder q) l r fs n d e = rw (e, d)
+  opened_as_lem letting l r fs n d e = rw (e, d, start_is (term_of b l).b, start_is (term_of b r).b)
+      (go_on_on (lists_within (under free image b l) (crossed_by fs) (items b (term_of b l).b) (items b (term_of b r).b) n)
+      (under free image b l (term_of b l).c (let_crossed b (term_of b l) r (crossed_by fs)) (term_of b r).c) (finish free image b fs))
+  opened_as_lem other l r fs n d e = absurd (false≢true e)
 
-    pub opened_is : (l r : ℕ) (fs : List Frame) (n : ℕ) → meets_by free image b (term_of b l) (crossed_by fs) r ≡ true
-        → go_on (within_by free image b l (crossed_by fs) r (suc n)) (finish free image b fs)
-        ≡ finish free image b (opened_as c b (kind_of (term_of b l).kind) l r fs) n
-    unfolding within_of meets_by
-    opened_is l r fs n e =
-        ap (λ (f : Crossed → ℕ → ℕ → Limited). go_on (f (crossed_by fs) r (suc n)) (finish free image b fs)) (within_below free image b l)
-        ∙ opened_as_lem (kind_of (term_of b l).kind) l r fs n refl e
+  pub opened_is : (l r : ℕ) (fs : List Frame) (n : ℕ) → meets_by free image b (term_of b l) (crossed_by fs) r ≡ true
+      → go_on (within_by free image b l (crossed_by fs) r (suc n)) (finish free image b fs)
+      ≡ finish free image b (opened_as b (kind_of (term_of b l).kind) l r fs) n
+  unfolding within_of meets_by
+  opened_is l r fs n e =
+      ap (λ (f : Crossed → ℕ → ℕ → Limited). go_on (f (crossed_by fs) r (suc n)) (finish free image b fs)) (within_below free image b l)
+      ∙ opened_as_lem (kind_of (term_of b l).kind) l r fs n refl e
 
-    -- ---- the lists of a pair
+  -- ---- the lists of a pair
 
-    pub lists_on : (l r i j n : ℕ) (fs : List Frame) → (i ≡ 0 → ⊥) → i ≤ c.links → (j ≡ 0 → ⊥) → j ≤ c.links
-        → finish free image b (pending l r i j ∷ fs) n
-        ≡ go_on (under free image b l (link_of b i).value (crossed_by fs) (link_of b j).value n)
-        (finish free image b (pending l r (next_of b.links i) (next_of b.links j) ∷ fs))
-    unfolding finish lists_within
-    lists_on l r i j n fs ni hi nj hj =
-        rw (walk_some z i ni hi, walk_some z j nj hj)
-        (go_on_on (under free image b l (link_of b i).value (crossed_by fs) (link_of b j).value n)
-        (lists_within (under free image b l) (crossed_by fs) (items b (next_of b.links i)) (items b (next_of b.links j)))
-        (closing free image b (kind_of (term_of b l).kind) l r (crossed_by fs) (finish free image b fs)))
+  pub lists_on : (l r i j n : ℕ) (fs : List Frame) → (i ≡ 0 → ⊥) → i ≤ (length b.links) → (j ≡ 0 → ⊥) → j ≤ (length b.links)
+      → finish free image b (pending l r i j ∷ fs) n
+      ≡ go_on (under free image b l (link_of b i).value (crossed_by fs) (link_of b j).value n)
+      (finish free image b (pending l r (next_of b.links i) (next_of b.links j) ∷ fs))
+  unfolding finish lists_within
+  lists_on l r i j n fs ni hi nj hj =
+      rw (walk_some b i ni hi, walk_some b j nj hj)
+      (go_on_on (under free image b l (link_of b i).value (crossed_by fs) (link_of b j).value n)
+      (lists_within (under free image b l) (crossed_by fs) (items b (next_of b.links i)) (items b (next_of b.links j)))
+      (closing free image b (kind_of (term_of b l).kind) l r (crossed_by fs) (finish free image b fs)))
 
-    pub left_short : (l r i j n : ℕ) (fs : List Frame) → i ≡ 0 → (j ≡ 0 → ⊥) → j ≤ c.links → finish free image b (pending l r i j ∷ fs) n ≡ Different n
-    unfolding finish lists_within go_on
-    left_short l r i j n fs ei nj hj = rw (walk_nil z i ei, walk_some z j nj hj)
+  pub left_short : (l r i j n : ℕ) (fs : List Frame) → i ≡ 0 → (j ≡ 0 → ⊥) → j ≤ (length b.links) → finish free image b (pending l r i j ∷ fs) n ≡ Different n
+  unfolding finish lists_within go_on
+  left_short l r i j n fs ei nj hj = rw (walk_nil b i ei, walk_some b j nj hj)
 
-    pub right_short : (l r i j n : ℕ) (fs : List Frame) → (i ≡ 0 → ⊥) → i ≤ c.links → j ≡ 0 → finish free image b (pending l r i j ∷ fs) n ≡ Different n
-    unfolding finish lists_within go_on
-    right_short l r i j n fs ni hi ej = rw (walk_some z i ni hi, walk_nil z j ej)
+  pub right_short : (l r i j n : ℕ) (fs : List Frame) → (i ≡ 0 → ⊥) → i ≤ (length b.links) → j ≡ 0 → finish free image b (pending l r i j ∷ fs) n ≡ Different n
+  unfolding finish lists_within go_on
+  right_short l r i j n fs ni hi ej = rw (walk_some b i ni hi, walk_nil b j ej)
 
-    pub closed_is : (l r i j n : ℕ) (fs : List Frame) → i ≡ 0 → j ≡ 0 → has_body (kind_of (term_of b l).kind) ≡ false
-        → finish free image b (pending l r i j ∷ fs) n ≡ finish free image b fs n
-    unfolding finish lists_within go_on closing
-    closed_is l r i j n fs ei ej e = rw (walk_nil z i ei, walk_nil z j ej, e)
+  pub closed_is : (l r i j n : ℕ) (fs : List Frame) → i ≡ 0 → j ≡ 0 → has_body (kind_of (term_of b l).kind) ≡ false
+      → finish free image b (pending l r i j ∷ fs) n ≡ finish free image b fs n
+  unfolding finish lists_within go_on closing
+  closed_is l r i j n fs ei ej e = rw (walk_nil b i ei, walk_nil b j ej, e)
 
-    -- an application of which nothing is left
-    pub closed_off : (l r u v : ℕ) (fs : List Frame) → closes (term_of b l).kind u v ≡ true
-        → finish free image b (pending l r u v ∷ fs) ≡ finish free image b fs
-    unfolding kind_of
-    closed_off l r u v fs e =
-        let k : ℕ = (term_of b l).kind in
-        let both = and_left (eqb k 2 && eqb u 0) (eqb v 0) e in
-        let two : k ≡ 2 = eqb-true k 2 (and_left (eqb k 2) (eqb u 0) both) in
-        let none : has_body (kind_of k) ≡ false = rw two in
-        fun_ext (λ m. closed_is l r u v m fs (eqb-true u 0 (and_right (eqb k 2) (eqb u 0) both)) (eqb-true v 0 (and_right (eqb k 2 && eqb u 0) (eqb v 0) e))
-        none)
+  -- an application of which nothing is left
+  pub closed_off : (l r u v : ℕ) (fs : List Frame) → closes (term_of b l).kind u v ≡ true
+      → finish free image b (pending l r u v ∷ fs) ≡ finish free image b fs
+  unfolding kind_of
+  closed_off l r u v fs e =
+      let k : ℕ = (term_of b l).kind in
+      let both = and_left (eqb k 2 && eqb u 0) (eqb v 0) e in
+      let two : k ≡ 2 = eqb-true k 2 (and_left (eqb k 2) (eqb u 0) both) in
+      let none : has_body (kind_of k) ≡ false = rw two in
+      fun_ext (λ m. closed_is l r u v m fs (eqb-true u 0 (and_right (eqb k 2) (eqb u 0) both)) (eqb-true v 0 (and_right (eqb k 2 && eqb u 0) (eqb v 0) e))
+      none)
 
-    opened_off : (l r : ℕ) (fs : List Frame) → closes (term_of b l).kind (starts_at c.links (term_of b l).b) (starts_at c.links (term_of b r).b) ≡ true
-        → finish free image b (opened_as c b (kind_of (term_of b l).kind) l r fs) ≡ finish free image b fs
-    unfolding kind_of opened_as
-    opened_off l r fs e =
-        let k : ℕ = (term_of b l).kind in
-        let u : ℕ = starts_at c.links (term_of b l).b in
-        let v : ℕ = starts_at c.links (term_of b r).b in
-        let two : k ≡ 2 = eqb-true k 2 (and_left (eqb k 2) (eqb u 0) (and_left (eqb k 2 && eqb u 0) (eqb v 0) e)) in
-        let is : opened_as c b (kind_of k) l r fs ≡ pending l r u v ∷ fs = ap (λ (m : ℕ). opened_as c b (kind_of m) l r fs) two in
-        ap (finish free image b) is ∙ closed_off l r u v fs e
+  opened_off : (l r : ℕ) (fs : List Frame) → closes (term_of b l).kind (starts_at (length b.links) (term_of b l).b) (starts_at (length b.links) (term_of b r).b) ≡ true
+      → finish free image b (opened_as b (kind_of (term_of b l).kind) l r fs) ≡ finish free image b fs
+  unfolding kind_of opened_as
+  opened_off l r fs e =
+      let k : ℕ = (term_of b l).kind in
+      let u : ℕ = starts_at (length b.links) (term_of b l).b in
+      let v : ℕ = starts_at (length b.links) (term_of b r).b in
+      let two : k ≡ 2 = eqb-true k 2 (and_left (eqb k 2) (eqb u 0) (and_left (eqb k 2 && eqb u 0) (eqb v 0) e)) in
+      let is : opened_as b (kind_of k) l r fs ≡ pending l r u v ∷ fs = ap (λ (m : ℕ). opened_as b (kind_of m) l r fs) two in
+      ap (finish free image b) is ∙ closed_off l r u v fs e
 
-    -- a pair that meets, and what is put onto the agenda for it
-    pub opened_on : (l r : ℕ) (fs : List Frame) (n : ℕ) → meets_by free image b (term_of b l) (crossed_by fs) r ≡ true
-        → go_on (within_by free image b l (crossed_by fs) r (suc n)) (finish free image b fs) ≡ finish free image b (opened c b l r fs) n
-    unfolding opened
-    opened_on l r fs n e =
-        go (closes (term_of b l).kind (starts_at c.links (term_of b l).b) (starts_at c.links (term_of b r).b)) refl
-      where
-        go : (p : Bool) → closes (term_of b l).kind (starts_at c.links (term_of b l).b) (starts_at c.links (term_of b r).b) ≡ p
-            → go_on (within_by free image b l (crossed_by fs) r (suc n)) (finish free image b fs)
-            ≡ finish free image b (cond p fs (opened_as c b (kind_of (term_of b l).kind) l r fs)) n
-        go true d = opened_is l r fs n e ∙ ap (λ (g : ℕ → Limited). g n) (opened_off l r fs d)
-        go false d = opened_is l r fs n e
+  -- a pair that meets, and what is put onto the agenda for it
+  pub opened_on : (l r : ℕ) (fs : List Frame) (n : ℕ) → meets_by free image b (term_of b l) (crossed_by fs) r ≡ true
+      → go_on (within_by free image b l (crossed_by fs) r (suc n)) (finish free image b fs) ≡ finish free image b (opened b l r fs) n
+  unfolding opened
+  opened_on l r fs n e =
+      go (closes (term_of b l).kind (starts_at (length b.links) (term_of b l).b) (starts_at (length b.links) (term_of b r).b)) refl
+    where
+      go : (p : Bool) → closes (term_of b l).kind (starts_at (length b.links) (term_of b l).b) (starts_at (length b.links) (term_of b r).b) ≡ p
+          → go_on (within_by free image b l (crossed_by fs) r (suc n)) (finish free image b fs)
+          ≡ finish free image b (cond p fs (opened_as b (kind_of (term_of b l).kind) l r fs)) n
+      go true d = opened_is l r fs n e ∙ ap (λ (g : ℕ → Limited). g n) (opened_off l r fs d)
+      go false d = opened_is l r fs n e
 
-    pub bodies_are : (l r i j n : ℕ) (fs : List Frame) → i ≡ 0 → j ≡ 0 → has_body (kind_of (term_of b l).kind) ≡ true
-        → finish free image b (pending l r i j ∷ fs) n
-        ≡ go_on (under free image b l (body_as b (kind_of (term_of b l).kind) l)
-        (cross_all (bound_as b (kind_of (term_of b l).kind) l) (bound_as b (kind_of (term_of b l).kind) r) (crossed_by fs)) (body_as b (kind_of (term_of b l).kind)
-        r) n)
-        (finish free image b fs)
-    unfolding finish lists_within go_on closing
-    bodies_are l r i j n fs ei ej e = rw (walk_nil z i ei, walk_nil z j ej, e)
+  pub bodies_are : (l r i j n : ℕ) (fs : List Frame) → i ≡ 0 → j ≡ 0 → has_body (kind_of (term_of b l).kind) ≡ true
+      → finish free image b (pending l r i j ∷ fs) n
+      ≡ go_on (under free image b l (body_as b (kind_of (term_of b l).kind) l)
+      (cross_all (bound_as b (kind_of (term_of b l).kind) l) (bound_as b (kind_of (term_of b l).kind) r) (crossed_by fs)) (body_as b (kind_of (term_of b l).kind)
+      r) n)
+      (finish free image b fs)
+  unfolding finish lists_within go_on closing
+  bodies_are l r i j n fs ei ej e = rw (walk_nil b i ei, walk_nil b j ej, e)
 
   -- ---- variables crossed
 

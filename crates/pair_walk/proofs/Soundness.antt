@@ -15,12 +15,10 @@ use native.Mathlib.Decide.{dec_le}
 use lib.ListN.{length, get_or-eq_default}
 use lib.Dec.{eqb, ltb}
 use borrow.Author.Tests.{eqb-true}
-use Rattle.bundle.specs.declared.Bundle.{Bundle as Counts}
 use Rattle.bundle.specs.Bundle.{Bundle, TermRecord, no_term, term_of, sort_of_variable}
 use Rattle.bundle.specs.Links.{items, starts_at, next_of}
 use Rattle.bundle.specs.Lists.{numbers}
-use Rattle.bundle.proofs.Fields.{Sized}
-use Rattle.bundle.proofs.BundleWalks.{walk_start, walk_start_le, walk_le, walk_length, walk_nil}
+use Rattle.bundle.proofs.Walks.{walk_start, walk_start_le, walk_le, walk_length, walk_nil}
 use Rattle.logic.specs.declared.Image.{Image}
 use Rattle.logic.specs.declared.Limited.{Limited}
 use Rattle.logic.specs.declared.Limited.TheVariants.{Different}
@@ -38,34 +36,34 @@ use Rattle.pair_walk.specs.Agenda.{Sound, Crossing, Held, turn_to, TurnHeld}
 use Rattle.pair_walk.proofs.FrameWords.{frames_length}
 use Rattle.pair_walk.proofs.Finishing.{under_spent}
 
-pub opened_crossed : (c : Counts) (b : Bundle) (k : Kind) (l r : ℕ) (fs : List Frame) → crossed_by (opened_as c b k l r fs) ≡ crossed_by fs
+pub opened_crossed : (b : Bundle) (k : Kind) (l r : ℕ) (fs : List Frame) → crossed_by (opened_as b k l r fs) ≡ crossed_by fs
 unfolding opened_as crossed_by
-opened_crossed c b variable l r fs = refl
-opened_crossed c b application l r fs = refl
-opened_crossed c b (binder q) l r fs = refl
-opened_crossed c b letting l r fs = refl
-opened_crossed c b other l r fs = refl
+opened_crossed b variable l r fs = refl
+opened_crossed b application l r fs = refl
+opened_crossed b (binder q) l r fs = refl
+opened_crossed b letting l r fs = refl
+opened_crossed b other l r fs = refl
 
-module _ {b : Bundle} {c : Counts} (z : Sized b c) where
+module _ (b : Bundle) where
   -- ---- numbers of terms and of variables
 
-  known_term : (t : ℕ) → ((term_of b t).kind ≡ 0 → ⊥) → Number c.terms t
+  known_term : (t : ℕ) → ((term_of b t).kind ≡ 0 → ⊥) → Number (length b.terms) t
   known_term zero ne = absurd (ne refl)
   known_term (suc t) ne = go (dec_le (length b.terms) t)
     where
-      go : Dec (length b.terms ≤ t) → Number c.terms (suc t)
+      go : Dec (length b.terms ≤ t) → Number (length b.terms) (suc t)
       go (yes h) = absurd (ne (ap (λ (r : TermRecord). r.kind) (get_or-eq_default b.terms no_term h)))
-      go (no h) = (omega arith, omega (arith, z.terms))
+      go (no h) = (omega arith, omega (arith))
 
-  pub known_kind : (t : ℕ) (k : Kind) → kind_of (term_of b t).kind ≡ k → (k ≡ other → ⊥) → Number c.terms t
+  pub known_kind : (t : ℕ) (k : Kind) → kind_of (term_of b t).kind ≡ k → (k ≡ other → ⊥) → Number (length b.terms) t
   unfolding kind_of
   known_kind t k d ne = known_term t (λ e. ne (sym d ∙ ap kind_of e))
 
-  numbered : (t n : ℕ) → (term_of b t).kind ≡ n → (n ≡ 0 → ⊥) → Number c.terms t
+  numbered : (t n : ℕ) → (term_of b t).kind ≡ n → (n ≡ 0 → ⊥) → Number (length b.terms) t
   numbered t n d ne = known_term t (λ e. ne (sym d ∙ e))
 
   right_as : (free : ℕ → ℕ → Bool) (image : ℕ → Image) (k : Kind) (l r : ℕ) (ps : Crossed) → kind_of (term_of b l).kind ≡ k
-      → ((term_of b l).kind ≡ 1 → ⊥) → meets_as free image b k (term_of b l) ps r ≡ true → Number c.terms l × Number c.terms r
+      → ((term_of b l).kind ≡ 1 → ⊥) → meets_as free image b k (term_of b l) ps r ≡ true → Number (length b.terms) l × Number (length b.terms) r
   unfolding meets_as application_meets binder_meets let_meets
   right_as free image variable l r ps d ne e = absurd (ne (kind_number (term_of b l).kind variable d (λ q. let o : ◌≡◌ {A = ℕ} 0 1 = cc in omega arith)))
   right_as free image application l r ps d ne e = (
@@ -73,7 +71,7 @@ module _ {b : Bundle} {c : Counts} (z : Sized b c) where
     numbered r 2 (eqb-true (term_of b r).kind 2 (and_left (eqb (term_of b r).kind 2) (eqb (term_of b l).a (term_of b r).a) e)) (λ q. omega arith),
   )
   right_as free image (binder q) l r ps d ne e =
-      let known : Number c.terms l = known_kind l (binder q) d (λ q. let o : ◌≡◌ {A = ℕ} 0 1 = cc in omega arith) in
+      let known : Number (length b.terms) l = known_kind l (binder q) d (λ q. let o : ◌≡◌ {A = ℕ} 0 1 = cc in omega arith) in
       let same : (term_of b r).kind ≡ (term_of b l).kind = eqb-true (term_of b r).kind (term_of b l).kind
       (and_left (eqb (term_of b r).kind (term_of b l).kind) (sorts_meet b (term_of b l).a (term_of b r).a) e) in
       (known, known_kind r (binder q) (ap kind_of same ∙ d) (λ q. let o : ◌≡◌ {A = ℕ} 0 1 = cc in omega arith))
@@ -86,20 +84,20 @@ module _ {b : Bundle} {c : Counts} (z : Sized b c) where
   right_as free image other l r ps d ne e = absurd (false≢true e)
 
   pub met_known : (free : ℕ → ℕ → Bool) (image : ℕ → Image) (l r : ℕ) (ps : Crossed) → meets_by free image b (term_of b l) ps r ≡ true
-      → ((term_of b l).kind ≡ 1 → ⊥) → Number c.terms l × Number c.terms r
+      → ((term_of b l).kind ≡ 1 → ⊥) → Number (length b.terms) l × Number (length b.terms) r
   unfolding meets_by
   met_known free image l r ps e ne = right_as free image (kind_of (term_of b l).kind) l r ps refl ne e
 
-  pub sorts_known : (x y : ℕ) → sorts_meet b x y ≡ true → Number c.variables x × Number c.variables y
+  pub sorts_known : (x y : ℕ) → sorts_meet b x y ≡ true → Number (length b.variables) x × Number (length b.variables) y
   unfolding sorts_meet
   sorts_known x y e =
       let n : ℕ = length b.variables in
       let both = and_left (numbers n x && numbers n y) (eqb (sort_of_variable b x) (sort_of_variable b y)) e in
       let u = numbers_of_lem n x (and_left (numbers n x) (numbers n y) both) in
       let v = numbers_of_lem n y (and_right (numbers n x) (numbers n y) both) in
-      ((u.0, omega (arith, u.1, z.variables)), (v.0, omega (arith, v.1, z.variables)))
+      ((u.0, omega (arith, u.1)), (v.0, omega (arith, v.1)))
 
-  pub all_known_lem : (xs ys : List ℕ) → all_sorts_meet b xs ys ≡ true → All (Number c.variables) xs × All (Number c.variables) ys
+  pub all_known_lem : (xs ys : List ℕ) → all_sorts_meet b xs ys ≡ true → All (Number (length b.variables)) xs × All (Number (length b.variables)) ys
   unfolding all_sorts_meet
   all_known_lem [] [] e = (tt, tt)
   all_known_lem [] (y ∷ ys) e = absurd (false≢true e)
@@ -109,7 +107,7 @@ module _ {b : Bundle} {c : Counts} (z : Sized b c) where
       let later = all_known_lem xs ys (and_right (sorts_meet b x y) (all_sorts_meet b xs ys) e) in
       ((here.0, later.0), (here.1, later.1))
 
-  pub bound_known : (k : Kind) (l r : ℕ) → MetAs b k l r → All (Number c.variables) (bound_as b k l) × All (Number c.variables) (bound_as b k r)
+  pub bound_known : (k : Kind) (l r : ℕ) → MetAs b k l r → All (Number (length b.variables)) (bound_as b k l) × All (Number (length b.variables)) (bound_as b k r)
   unfolding MetAs bound_as binder_meets let_meets
   bound_known variable l r e = (tt, tt)
   bound_known application l r e = (tt, tt)
@@ -126,7 +124,7 @@ module _ {b : Bundle} {c : Counts} (z : Sized b c) where
 
   -- ---- frames
 
-  pub sound_less : (most left less : ℕ) (fs : List Frame) → less ≤ left → Sound c b most left fs → Sound c b most less fs
+  pub sound_less : (most left less : ℕ) (fs : List Frame) → less ≤ left → Sound b most left fs → Sound b most less fs
   unfolding Sound
   sound_less most left less [] h s = tt
   sound_less most left less (pending l r i j ∷ fs) h (p, s) = (
@@ -141,8 +139,8 @@ module _ {b : Bundle} {c : Counts} (z : Sized b c) where
   )
   sound_less most left less (leave x y o q ∷ fs) h (p, s) = (p, sound_less most left less fs h s)
 
-  pub leaves_sound : (most left : ℕ) (xs ys : List ℕ) (ps : Crossed) (fs : List Frame) → crossed_by fs ≡ ps → All (Number c.variables) xs
-      → All (Number c.variables) ys → Sound c b most left fs → Sound c b most left (leaves xs ys ps fs)
+  pub leaves_sound : (most left : ℕ) (xs ys : List ℕ) (ps : Crossed) (fs : List Frame) → crossed_by fs ≡ ps → All (Number (length b.variables)) xs
+      → All (Number (length b.variables)) ys → Sound b most left fs → Sound b most left (leaves xs ys ps fs)
   unfolding leaves Sound
   leaves_sound most left [] ys ps fs e u v s = s
   leaves_sound most left (x ∷ xs) [] ps fs e u v s = s
@@ -157,12 +155,12 @@ module _ {b : Bundle} {c : Counts} (z : Sized b c) where
         s,
       )
 
-  starts : (t : ℕ) → starts_at c.links t ≤ c.links
-  starts t = walk_start_le z t (starts_at c.links t) refl
+  starts : (t : ℕ) → starts_at (length b.links) t ≤ (length b.links)
+  starts t = walk_start_le b t (starts_at (length b.links) t) refl
 
   opened_as_lem : (free : ℕ → ℕ → Bool) (image : ℕ → Image) (k : Kind) (l r : ℕ) (ps : Crossed) (fs : List Frame) (most left : ℕ)
       → kind_of (term_of b l).kind ≡ k → meets_as free image b k (term_of b l) ps r ≡ true → length fs + left < most
-      → Sound c b most left fs → Sound c b most left (opened_as c b k l r fs)
+      → Sound b most left fs → Sound b most left (opened_as b k l r fs)
   unfolding opened_as Sound meets_as MetAs bound_as let_meets
   opened_as_lem free image variable l r ps fs most left d e room s = s
   opened_as_lem free image application l r ps fs most left d e room s = (
@@ -190,8 +188,8 @@ module _ {b : Bundle} {c : Counts} (z : Sized b c) where
       eqb-true (length (items b (term_of b l).b)) (length (items b (term_of b l).a))
       (and_right (eqb (term_of b r).kind 5 && all_sorts_meet b (items b (term_of b l).a) (items b (term_of b r).a))
       (eqb (length (items b (term_of b l).b)) (length (items b (term_of b l).a))) e) in
-      let start : length (items b (term_of b l).b) ≡ length (items b (starts_at c.links (term_of b l).b)) =
-      ap length (walk_start z (term_of b l).b (starts_at c.links (term_of b l).b) refl) in (
+      let start : length (items b (term_of b l).b) ≡ length (items b (starts_at (length b.links) (term_of b l).b)) =
+      ap length (walk_start b (term_of b l).b (starts_at (length b.links) (term_of b l).b) refl) in (
         record {
           met = rw d e;
           known = known_kind l letting d (λ q. let o : ◌≡◌ {A = ℕ} 0 1 = cc in omega arith);
@@ -205,37 +203,37 @@ module _ {b : Bundle} {c : Counts} (z : Sized b c) where
 
   pub opened_sound : (free : ℕ → ℕ → Bool) (image : ℕ → Image) (l r : ℕ) (ps : Crossed) (fs : List Frame) (most left : ℕ)
       → meets_by free image b (term_of b l) ps r ≡ true → length fs + left < most
-      → Sound c b most left fs → Sound c b most left (opened_as c b (kind_of (term_of b l).kind) l r fs)
+      → Sound b most left fs → Sound b most left (opened_as b (kind_of (term_of b l).kind) l r fs)
   unfolding meets_by
   opened_sound free image l r ps fs most left e room s = opened_as_lem free image (kind_of (term_of b l).kind) l r ps fs most left refl e room s
 
   -- ---- the arrays
 
-  module _ (free : ℕ → ℕ → Bool) (image : ℕ → Image) (n most : ℕ) (w p s : List ℕ) (h depth left : ℕ) (held : Held c b n most w p s h depth left) where
+  module _ (free : ℕ → ℕ → Bool) (image : ℕ → Image) (n most : ℕ) (w p s : List ℕ) (h depth left : ℕ) (held : Held b n most w p s h depth left) where
     pub held_opened : (w' : List ℕ) (t l r : ℕ) → length w' ≡ length w
-        → frames w' t ≡ opened_as c b (kind_of (term_of b l).kind) l r (frames w h)
-        → meets_by free image b (term_of b l) (crossed_by (frames w h)) r ≡ true → h + left < most → Held c b n most w' p s t depth left
+        → frames w' t ≡ opened_as b (kind_of (term_of b l).kind) l r (frames w h)
+        → meets_by free image b (term_of b l) (crossed_by (frames w h)) r ≡ true → h + left < most → Held b n most w' p s t depth left
     held_opened w' t l r len e m room =
-        let same : crossed_by (frames w' t) ≡ crossed_by (frames w h) = ap crossed_by e ∙ opened_crossed c b (kind_of (term_of b l).kind) l r (frames w h) in
+        let same : crossed_by (frames w' t) ≡ crossed_by (frames w h) = ap crossed_by e ∙ opened_crossed b (kind_of (term_of b l).kind) l r (frames w h) in
         record {
           long = omega (arith, held.long, len);
           crossing = record { placed = rw same held.crossing.placed; deep = rw same held.crossing.deep };
           sound = rw e (opened_sound free image l r (crossed_by (frames w h)) (frames w h) most left m (omega (arith, frames_length w h, room)) held.sound);
         }
 
-  module _ (n most : ℕ) (w p s : List ℕ) (top depth left : ℕ) (held : Held c b n most w p s (suc top) depth left) where
+  module _ (n most : ℕ) (w p s : List ℕ) (top depth left : ℕ) (held : Held b n most w p s (suc top) depth left) where
     pub left_held : (x y o q : ℕ) → frames w (suc top) ≡ leave x y o q ∷ frames w top
-        → LeaveHeld c.variables x y o q (crossed_by (frames w top)) × Sound c b most left (frames w top)
+        → LeaveHeld (length b.variables) x y o q (crossed_by (frames w top)) × Sound b most left (frames w top)
     unfolding Sound
     left_held x y o q e = rw e at held.sound
 
     pub left_placed : (x y o q : ℕ) → frames w (suc top) ≡ leave x y o q ∷ frames w top
-        → Places c.variables n p s ((x, y) ∷ crossed_by (frames w top)) × (depth ≡ suc (length (crossed_by (frames w top))))
+        → Places (length b.variables) n p s ((x, y) ∷ crossed_by (frames w top)) × (depth ≡ suc (length (crossed_by (frames w top))))
     unfolding crossed_by
     left_placed x y o q e = (rw e at held.crossing.placed, rw e at held.crossing.deep)
 
     pub held_left : (p' s' : List ℕ) (x y o q : ℕ) → frames w (suc top) ≡ leave x y o q ∷ frames w top
-        → Places c.variables n p' s' (crossed_by (frames w top)) → Held c b n most w p' s' top (depth - 1) left
+        → Places (length b.variables) n p' s' (crossed_by (frames w top)) → Held b n most w p' s' top (depth - 1) left
     held_left p' s' x y o q e placed =
         record {
           long = held.long;
@@ -244,24 +242,24 @@ module _ {b : Bundle} {c : Counts} (z : Sized b c) where
         }
 
     module _ (l r i j : ℕ) (e : frames w (suc top) ≡ pending l r i j ∷ frames w top) where
-      pub pending_held : PendingHeld c b most left l r i j (frames w top) × Sound c b most left (frames w top)
+      pub pending_held : PendingHeld b most left l r i j (frames w top) × Sound b most left (frames w top)
       unfolding Sound
       pending_held = rw e at held.sound
 
-      pub pending_crossing : Crossing c.variables n w p s top depth
+      pub pending_crossing : Crossing (length b.variables) n w p s top depth
       unfolding crossed_by
       pending_crossing = record { placed = rw e at held.crossing.placed; deep = rw e at held.crossing.deep }
 
-      pub held_closed : Held c b n most w p s top depth left
+      pub held_closed : Held b n most w p s top depth left
       held_closed = record { long = held.long; crossing = pending_crossing; sound = pending_held.1 }
 
       pub held_taken : (w' : List ℕ) (m : ℕ) → (i ≡ 0 → ⊥) → length w' ≡ length w
           → frames w' (suc top) ≡ pending l r (next_of b.links i) (next_of b.links j) ∷ frames w top
-          → left ≡ suc m → Held c b n most w' p s (suc top) depth m
+          → left ≡ suc m → Held b n most w' p s (suc top) depth m
       unfolding crossed_by Sound
       held_taken w' m ni len e' more =
           let was = pending_held.0 in
-          let fewer : length (items b i) ≡ length (items b (next_of b.links i)) + 1 = walk_length z i (next_of b.links i) ni was.left_link refl in
+          let fewer : length (items b i) ≡ length (items b (next_of b.links i)) + 1 = walk_length b i (next_of b.links i) ni was.left_link refl in
           record {
             long = omega (arith, held.long, len);
             crossing = record { placed = rw e' pending_crossing.placed; deep = rw e' pending_crossing.deep };
@@ -269,8 +267,8 @@ module _ {b : Bundle} {c : Counts} (z : Sized b c) where
               record {
                 met = was.met;
                 known = was.known;
-                left_link = walk_le z i (next_of b.links i) refl;
-                right_link = walk_le z j (next_of b.links j) refl;
+                left_link = walk_le b i (next_of b.links i) refl;
+                right_link = walk_le b j (next_of b.links j) refl;
                 room = omega (arith, was.room);
               },
               sound_less most left m (frames w top) (omega arith) pending_held.1,
@@ -279,12 +277,12 @@ module _ {b : Bundle} {c : Counts} (z : Sized b c) where
 
       -- there is room for the variables once both lists have ended
       pub bodies_room : i ≡ 0 → top + length (bound_as b (kind_of (term_of b l).kind) l) + left ≤ most
-      bodies_room z' = let none : length (items b i) ≡ 0 = ap length (walk_nil z i z') in omega (arith, pending_held.0.room, frames_length w top)
+      bodies_room z' = let none : length (items b i) ≡ 0 = ap length (walk_nil b i z') in omega (arith, pending_held.0.room, frames_length w top)
 
-      pub held_bodies : (w' p' s' : List ℕ) (height deep m : ℕ) → length w' ≡ length w → Crossing c.variables n w' p' s' height deep
+      pub held_bodies : (w' p' s' : List ℕ) (height deep m : ℕ) → length w' ≡ length w → Crossing (length b.variables) n w' p' s' height deep
           → frames w' height ≡ leaves (bound_as b (kind_of (term_of b l).kind) l) (bound_as b (kind_of (term_of b l).kind) r) (crossed_by (frames w top)) (frames
           w top)
-          → left ≡ suc m → Held c b n most w' p' s' height deep m
+          → left ≡ suc m → Held b n most w' p' s' height deep m
       held_bodies w' p' s' height deep m len crossing e' more =
           let known = bound_known (kind_of (term_of b l).kind) l r pending_held.0.met in
           record {
@@ -297,8 +295,8 @@ module _ {b : Bundle} {c : Counts} (z : Sized b c) where
           }
 
   -- the same frames in another agenda, with fewer pairs left
-  pub held_same : (n most : ℕ) (w w' p s : List ℕ) (h h' depth left less : ℕ) → Held c b n most w p s h depth left → frames w' h' ≡ frames w h
-      → length w' ≡ length w → less ≤ left → Held c b n most w' p s h' depth less
+  pub held_same : (n most : ℕ) (w w' p s : List ℕ) (h h' depth left less : ℕ) → Held b n most w p s h depth left → frames w' h' ≡ frames w h
+      → length w' ≡ length w → less ≤ left → Held b n most w' p s h' depth less
   held_same n most w w' p s h h' depth left less held e len few =
       record {
         long = omega (arith, held.long, len);
@@ -308,16 +306,16 @@ module _ {b : Bundle} {c : Counts} (z : Sized b c) where
 
 -- ---- the next pair
 
-module _ (free : ℕ → ℕ → Bool) (image : ℕ → Image) (c : Counts) (b : Bundle) (n most : ℕ) (whole : Limited) (w p s : List ℕ) (l x y h depth : ℕ) where
+module _ (free : ℕ → ℕ → Bool) (image : ℕ → Image) (b : Bundle) (n most : ℕ) (whole : Limited) (w p s : List ℕ) (l x y h depth : ℕ) where
   pub turn_held : (left : ℕ) → whole ≡ go_on (under free image b l x (crossed_by (frames w h)) y left) (finish free image b (frames w h))
-      → ((m : ℕ) → left ≡ suc m → Held c b n most w p s h depth m) → h + left ≤ most
-      → TurnHeld free image c b n most whole w p s left (turn_to l x y h depth left)
+      → ((m : ℕ) → left ≡ suc m → Held b n most w p s h depth m) → h + left ≤ most
+      → TurnHeld free image b n most whole w p s left (turn_to l x y h depth left)
   unfolding turn_to go_on
   turn_held zero e held room =
       e ∙ ap (λ (a : Limited). go_on a (finish free image b (frames w h))) (under_spent free image b l x (crossed_by (frames w h)) y)
   turn_held (suc m) e held room = go (ltb x l) e
     where
       go : (t : Bool) → whole ≡ go_on (cond t (within_by free image b x) none_within (crossed_by (frames w h)) y (suc m)) (finish free image b (frames w h))
-          → TurnHeld free image c b n most whole w p s (suc m) (cond t (Turn.Pair x y h depth m) (Turn.Ended (Different m)))
+          → TurnHeld free image b n most whole w p s (suc m) (cond t (Turn.Pair x y h depth m) (Turn.Ended (Different m)))
       go true d = (d, held m refl, omega arith, omega arith)
       go false d = d

@@ -12,12 +12,9 @@ use Prim.Native.Nat.{ℕ, suc, ◌+◌, ◌*◌, ◌-◌, ◌≤◌}
 use native.Mathlib.Omega.{arith}
 use lib.ListN.{length, get_or}
 use lib.Dec.{eqb}
-use borrow.Author.Tests.{eqb-true, eqb-false}
-use Rattle.bundle.specs.declared.Bundle.{Bundle as Counts}
-use Rattle.bundle.specs.Bundle.{link_of, term_of}
+use borrow.Author.Tests.{eqb-true}
+use Rattle.bundle.specs.Bundle.{Bundle, link_of, term_of}
 use Rattle.bundle.specs.Links.{next_of}
-use Rattle.bundle.specs.File.{bundle_at}
-use Rattle.bundle.proofs.Fields.{sized_at}
 use Rattle.logic.specs.declared.Image.{Image}
 use Rattle.logic.specs.declared.Limited.TheVariants.{Different}
 use Rattle.logic.specs.Terms.{kind_of}
@@ -53,15 +50,15 @@ both_zero i j e = (eqb-true i 0 (and_left (eqb i 0) (eqb j 0) e), eqb-true j 0 (
 
 -- ---- the frame on top
 
-module _ (f : List ℕ) (b : Counts) (n most : ℕ) (w p s : List ℕ) (height deep left : ℕ)
-    (held : Held b (bundle_at f b) n most w p s height deep left) (some : height ≡ 0 → ⊥) {l r i j : ℕ}
+module _ {b : Bundle} {n most : ℕ} {w p s : List ℕ} {height deep left : ℕ}
+    (held : Held b n most w p s height deep left) (some : height ≡ 0 → ⊥) {l r i j : ℕ}
     (dl : l ≡ get_or w (5 * (height - 1)) 0) (dr : r ≡ get_or w (5 * (height - 1) + 1) 0) (di : i ≡ get_or w (5 * (height - 1) + 2) 0)
     (dj : j ≡ get_or w (5 * (height - 1) + 3) 0) where
   up : height ≡ suc (height - 1)
   up = omega arith
 
-  here : Held b (bundle_at f b) n most w p s (suc (height - 1)) deep left
-  here = subst (λ (t : ℕ). Held b (bundle_at f b) n most w p s t deep left) up held
+  here : Held b n most w p s (suc (height - 1)) deep left
+  here = subst (λ (t : ℕ). Held b n most w p s t deep left) up held
 
   -- ---- variables are left
 
@@ -71,12 +68,12 @@ module _ (f : List ℕ) (b : Counts) (n most : ℕ) (w p s : List ℕ) (height d
         frames_top w (height - 1)
         ∙ ap (λ (t : Frame). t ∷ frames w (height - 1)) (rw (← dl, ← dr, ← di, ← dj, ← dq) (frame_leave l r i j o none))
 
-    pub leave_known : LeaveHeld b.variables r i j o (crossed_by (frames w (height - 1)))
-    leave_known = (left_held (sized_at f b) n most w p s (height - 1) deep left here r i j o leave_top).0
+    pub leave_known : LeaveHeld (length b.variables) r i j o (crossed_by (frames w (height - 1)))
+    leave_known = (left_held b n most w p s (height - 1) deep left here r i j o leave_top).0
 
-    pub leave_before : Places b.variables n p s ((r, i) ∷ crossed_by (frames w (height - 1))) × (1 ≤ deep)
+    pub leave_before : Places (length b.variables) n p s ((r, i) ∷ crossed_by (frames w (height - 1))) × (1 ≤ deep)
     leave_before =
-        let was = left_placed (sized_at f b) n most w p s (height - 1) deep left here r i j o leave_top in
+        let was = left_placed b n most w p s (height - 1) deep left here r i j o leave_top in
         (was.0, omega (arith, was.1))
 
     pub leave_fits : (j ≤ height) × (o ≤ height)
@@ -87,15 +84,14 @@ module _ (f : List ℕ) (b : Counts) (n most : ℕ) (w p s : List ℕ) (height d
           omega (arith, few, frames_length w (height - 1), other_fits ps i leave_known.right_place refl),
         )
 
-    pub leave_after : (p' s' : List ℕ) → Places b.variables n p' s' (crossed_by (frames w (height - 1)))
-        → Held b (bundle_at f b) n most w p' s' (height - 1) (deep - 1) left
-    leave_after p' s' placed = held_left (sized_at f b) n most w p s (height - 1) deep left here p' s' r i j o leave_top placed
+    pub leave_after : (p' s' : List ℕ) → Places (length b.variables) n p' s' (crossed_by (frames w (height - 1)))
+        → Held b n most w p' s' (height - 1) (deep - 1) left
+    leave_after p' s' placed = held_left b n most w p s (height - 1) deep left here p' s' r i j o leave_top placed
 
     pub leave_on : (free : ℕ → ℕ → Bool) (image : ℕ → Image)
-        → finish free image (bundle_at f b) (frames w (height - 1)) left ≡ finish free image (bundle_at f b) (frames w height) left
+        → finish free image b (frames w (height - 1)) left ≡ finish free image b (frames w height) left
     unfolding finish
-    leave_on free image = sym (ap (λ (t : ℕ). finish free image (bundle_at f b) (frames w t) left) up ∙ ap (λ (fs : List Frame). finish free image (bundle_at f
-        b) fs left) leave_top)
+    leave_on free image = sym (ap (λ (t : ℕ). finish free image b (frames w t) left) up ∙ ap (λ (fs : List Frame). finish free image b fs left) leave_top)
 
   -- ---- the lists of a pair
 
@@ -106,121 +102,120 @@ module _ (f : List ℕ) (b : Counts) (n most : ℕ) (w p s : List ℕ) (height d
         frames_top w (height - 1)
         ∙ ap (λ (t : Frame). t ∷ frames w (height - 1)) (rw (← dl, ← dr, ← di, ← dj) (frame_pending l r i j (get_or w (5 * (height - 1) + 4) 0) positive))
 
-    pub pending_known : PendingHeld b (bundle_at f b) most left l r i j (frames w (height - 1))
-    pending_known = (pending_held (sized_at f b) n most w p s (height - 1) deep left here l r i j pending_top).0
+    pub pending_known : PendingHeld b most left l r i j (frames w (height - 1))
+    pending_known = (pending_held b n most w p s (height - 1) deep left here l r i j pending_top).0
 
     whole_is : (free : ℕ → ℕ → Bool) (image : ℕ → Image)
-        → finish free image (bundle_at f b) (frames w height) left ≡ finish free image (bundle_at f b) (pending l r i j ∷ frames w (height - 1)) left
+        → finish free image b (frames w height) left ≡ finish free image b (pending l r i j ∷ frames w (height - 1)) left
     whole_is free image =
-        ap (λ (t : ℕ). finish free image (bundle_at f b) (frames w t) left) up ∙ ap (λ (fs : List Frame). finish free image (bundle_at f b) fs left) pending_top
+        ap (λ (t : ℕ). finish free image b (frames w t) left) up ∙ ap (λ (fs : List Frame). finish free image b fs left) pending_top
 
     pub take_turn : (w' : List ℕ) (t : Turn) → (i ≡ 0 → ⊥) × (j ≡ 0 → ⊥) → length w' ≡ length w
-        → t ≡ turn_to l (link_of (bundle_at f b) i).value (link_of (bundle_at f b) j).value
-        (cond (closes (term_of (bundle_at f b) l).kind (next_of (bundle_at f b).links i) (next_of (bundle_at f b).links j)) (height - 1) (suc (height - 1)))
+        → t ≡ turn_to l (link_of b i).value (link_of b j).value
+        (cond (closes (term_of b l).kind (next_of b.links i) (next_of b.links j)) (height - 1) (suc (height - 1)))
         deep left
-        → frames w' (cond (closes (term_of (bundle_at f b) l).kind (next_of (bundle_at f b).links i) (next_of (bundle_at f b).links j)) (height - 1) (suc
+        → frames w' (cond (closes (term_of b l).kind (next_of b.links i) (next_of b.links j)) (height - 1) (suc
         (height - 1)))
-        ≡ cond (closes (term_of (bundle_at f b) l).kind (next_of (bundle_at f b).links i) (next_of (bundle_at f b).links j)) (frames w (height - 1))
-        (frame_of (get_or w (5 * (height - 1)) 0) (get_or w (5 * (height - 1) + 1) 0) (next_of (bundle_at f b).links i) (next_of (bundle_at f b).links j)
+        ≡ cond (closes (term_of b l).kind (next_of b.links i) (next_of b.links j)) (frames w (height - 1))
+        (frame_of (get_or w (5 * (height - 1)) 0) (get_or w (5 * (height - 1) + 1) 0) (next_of b.links i) (next_of b.links j)
         (get_or w (5 * (height - 1) + 4) 0)
         ∷ frames w (height - 1))
         → height + left ≤ most
         → (free : ℕ → ℕ → Bool) (image : ℕ → Image)
-        → TurnHeld free image b (bundle_at f b) n most (finish free image (bundle_at f b) (frames w height) left) w' p s left t
+        → TurnHeld free image b n most (finish free image b (frames w height) left) w' p s left t
     unfolding crossed_by
     take_turn w' t (ni, nj) len dt e room free image =
-        go (closes (term_of (bundle_at f b) l).kind (next_of (bundle_at f b).links i) (next_of (bundle_at f b).links j)) refl dt e
+        go (closes (term_of b l).kind (next_of b.links i) (next_of b.links j)) refl dt e
       where
-        on : finish free image (bundle_at f b) (frames w height) left
-            ≡ go_on (under free image (bundle_at f b) l (link_of (bundle_at f b) i).value (crossed_by (frames w (height - 1))) (link_of (bundle_at f b) j).value
+        on : finish free image b (frames w height) left
+            ≡ go_on (under free image b l (link_of b i).value (crossed_by (frames w (height - 1))) (link_of b j).value
             left)
-            (finish free image (bundle_at f b) (pending l r (next_of (bundle_at f b).links i) (next_of (bundle_at f b).links j) ∷ frames w (height - 1)))
+            (finish free image b (pending l r (next_of b.links i) (next_of b.links j) ∷ frames w (height - 1)))
         on =
             whole_is free image
-            ∙ lists_on free image (bundle_at f b) (sized_at f b) l r i j left (frames w (height - 1)) ni pending_known.left_link nj
+            ∙ lists_on free image b l r i j left (frames w (height - 1)) ni pending_known.left_link nj
             pending_known.right_link
 
-        go : (o : Bool) → closes (term_of (bundle_at f b) l).kind (next_of (bundle_at f b).links i) (next_of (bundle_at f b).links j) ≡ o
-            → t ≡ turn_to l (link_of (bundle_at f b) i).value (link_of (bundle_at f b) j).value (cond o (height - 1) (suc (height - 1))) deep left
+        go : (o : Bool) → closes (term_of b l).kind (next_of b.links i) (next_of b.links j) ≡ o
+            → t ≡ turn_to l (link_of b i).value (link_of b j).value (cond o (height - 1) (suc (height - 1))) deep left
             → frames w' (cond o (height - 1) (suc (height - 1)))
             ≡ cond o (frames w (height - 1))
-            (frame_of (get_or w (5 * (height - 1)) 0) (get_or w (5 * (height - 1) + 1) 0) (next_of (bundle_at f b).links i) (next_of (bundle_at f b).links j)
+            (frame_of (get_or w (5 * (height - 1)) 0) (get_or w (5 * (height - 1) + 1) 0) (next_of b.links i) (next_of b.links j)
             (get_or w (5 * (height - 1) + 4) 0)
             ∷ frames w (height - 1))
-            → TurnHeld free image b (bundle_at f b) n most (finish free image (bundle_at f b) (frames w height) left) w' p s left t
+            → TurnHeld free image b n most (finish free image b (frames w height) left) w' p s left t
         go true closed dt e =
-            let off = closed_off free image (bundle_at f b) (sized_at f b) l r (next_of (bundle_at f b).links i) (next_of (bundle_at f b).links j) (frames w
+            let off = closed_off free image b l r (next_of b.links i) (next_of b.links j) (frames w
             (height - 1)) closed in
             rw dt
-            (turn_held free image b (bundle_at f b) n most (finish free image (bundle_at f b) (frames w height) left) w' p s l (link_of (bundle_at f b) i).value
-            (link_of (bundle_at f b) j).value (height - 1) deep left (rw (e, ← off) on)
-            (λ m more. held_same (sized_at f b) n most w w' p s (height - 1) (height - 1) deep left m
-            (held_closed (sized_at f b) n most w p s (height - 1) deep left here l r i j pending_top) e len (omega arith)) (omega arith))
+            (turn_held free image b n most (finish free image b (frames w height) left) w' p s l (link_of b i).value
+            (link_of b j).value (height - 1) deep left (rw (e, ← off) on)
+            (λ m more. held_same b n most w w' p s (height - 1) (height - 1) deep left m
+            (held_closed b n most w p s (height - 1) deep left here l r i j pending_top) e len (omega arith)) (omega arith))
         go false some_left dt e =
             let positive : 1 ≤ l = omega arith in
-            let e' : frames w' (suc (height - 1)) ≡ pending l r (next_of (bundle_at f b).links i) (next_of (bundle_at f b).links j) ∷ frames w (height - 1) =
+            let e' : frames w' (suc (height - 1)) ≡ pending l r (next_of b.links i) (next_of b.links j) ∷ frames w (height - 1) =
             e ∙ ap (λ (q : Frame). q ∷ frames w (height - 1))
             (rw (← dl, ← dr)
-            (frame_pending l r (next_of (bundle_at f b).links i) (next_of (bundle_at f b).links j) (get_or w (5 * (height - 1) + 4) 0) positive)) in
+            (frame_pending l r (next_of b.links i) (next_of b.links j) (get_or w (5 * (height - 1) + 4) 0) positive)) in
             rw dt
-            (turn_held free image b (bundle_at f b) n most (finish free image (bundle_at f b) (frames w height) left) w' p s l (link_of (bundle_at f b) i).value
-            (link_of (bundle_at f b) j).value (suc (height - 1)) deep left (rw e' on)
-            (λ m more. held_taken (sized_at f b) n most w p s (height - 1) deep left here l r i j pending_top w' m ni len e' more) (omega arith))
+            (turn_held free image b n most (finish free image b (frames w height) left) w' p s l (link_of b i).value
+            (link_of b j).value (suc (height - 1)) deep left (rw e' on)
+            (λ m more. held_taken b n most w p s (height - 1) deep left here l r i j pending_top w' m ni len e' more) (omega arith))
 
     pub short_turn : ((i ≡ 0) × (j ≡ 0 → ⊥)) ⊎ ((i ≡ 0 → ⊥) × (j ≡ 0)) → (free : ℕ → ℕ → Bool) (image : ℕ → Image)
-        → finish free image (bundle_at f b) (frames w height) left ≡ Different left
+        → finish free image b (frames w height) left ≡ Different left
     short_turn (inl (z, nj)) free image =
-        whole_is free image ∙ left_short free image (bundle_at f b) (sized_at f b) l r i j left (frames w (height - 1)) z nj pending_known.right_link
+        whole_is free image ∙ left_short free image b l r i j left (frames w (height - 1)) z nj pending_known.right_link
     short_turn (inr (ni, z)) free image =
-        whole_is free image ∙ right_short free image (bundle_at f b) (sized_at f b) l r i j left (frames w (height - 1)) ni pending_known.left_link z
+        whole_is free image ∙ right_short free image b l r i j left (frames w (height - 1)) ni pending_known.left_link z
 
     -- ---- both lists have ended
 
-    module _ (ended : (i ≡ 0) × (j ≡ 0)) {k : ℕ} (dk : k ≡ (term_of (bundle_at f b) l).kind) where
-      pub closed_after : Held b (bundle_at f b) n most w p s (height - 1) deep left
-      closed_after = held_closed (sized_at f b) n most w p s (height - 1) deep left here l r i j pending_top
+    module _ (ended : (i ≡ 0) × (j ≡ 0)) {k : ℕ} (dk : k ≡ (term_of b l).kind) where
+      pub closed_after : Held b n most w p s (height - 1) deep left
+      closed_after = held_closed b n most w p s (height - 1) deep left here l r i j pending_top
 
       pub closed_on : has_body (kind_of k) ≡ false → (free : ℕ → ℕ → Bool) (image : ℕ → Image)
-          → finish free image (bundle_at f b) (frames w (height - 1)) left ≡ finish free image (bundle_at f b) (frames w height) left
+          → finish free image b (frames w (height - 1)) left ≡ finish free image b (frames w height) left
       closed_on e free image =
           sym (whole_is free image
-          ∙ closed_is free image (bundle_at f b) (sized_at f b) l r i j left (frames w (height - 1)) ended.0 ended.1 (rw dk at e))
+          ∙ closed_is free image b l r i j left (frames w (height - 1)) ended.0 ended.1 (rw dk at e))
 
-      pub bodies_known : Crossing b.variables n w p s (height - 1) deep × MetAs (bundle_at f b) (kind_of k) l r
-          × (height - 1 + length (bound_as (bundle_at f b) (kind_of k) l) + left ≤ most)
+      pub bodies_known : Crossing (length b.variables) n w p s (height - 1) deep × MetAs b (kind_of k) l r
+          × (height - 1 + length (bound_as b (kind_of k) l) + left ≤ most)
       bodies_known = (
-        pending_crossing (sized_at f b) n most w p s (height - 1) deep left here l r i j pending_top,
+        pending_crossing b n most w p s (height - 1) deep left here l r i j pending_top,
         rw dk pending_known.met,
-        rw dk (bodies_room (sized_at f b) n most w p s (height - 1) deep left here l r i j pending_top ended.0),
+        rw dk (bodies_room b n most w p s (height - 1) deep left here l r i j pending_top ended.0),
       )
 
       pub bodies_turn : (w' p' s' : List ℕ) (t : Turn) → has_body (kind_of k) ≡ true → length w' ≡ length w
-          → t ≡ turn_to l (body_as (bundle_at f b) (kind_of k) l) (body_as (bundle_at f b) (kind_of k) r) (height - 1 + length (bound_as (bundle_at f b) (kind_of k) l))
-          (deep + length (bound_as (bundle_at f b) (kind_of k) l)) left
-          → Crossing b.variables n w' p' s' (height - 1 + length (bound_as (bundle_at f b) (kind_of k) l))
-          (deep + length (bound_as (bundle_at f b) (kind_of k) l))
-          → frames w' (height - 1 + length (bound_as (bundle_at f b) (kind_of k) l))
-          ≡ leaves (bound_as (bundle_at f b) (kind_of k) l) (bound_as (bundle_at f b) (kind_of k) r) (crossed_by (frames w (height - 1))) (frames w (height - 1))
+          → t ≡ turn_to l (body_as b (kind_of k) l) (body_as b (kind_of k) r) (height - 1 + length (bound_as b (kind_of k) l))
+          (deep + length (bound_as b (kind_of k) l)) left
+          → Crossing (length b.variables) n w' p' s' (height - 1 + length (bound_as b (kind_of k) l))
+          (deep + length (bound_as b (kind_of k) l))
+          → frames w' (height - 1 + length (bound_as b (kind_of k) l))
+          ≡ leaves (bound_as b (kind_of k) l) (bound_as b (kind_of k) r) (crossed_by (frames w (height - 1))) (frames w (height - 1))
           → (free : ℕ → ℕ → Bool) (image : ℕ → Image)
-          → TurnHeld free image b (bundle_at f b) n most (finish free image (bundle_at f b) (frames w height) left) w' p' s' left t
+          → TurnHeld free image b n most (finish free image b (frames w height) left) w' p' s' left t
       bodies_turn w' p' s' t body len dt crossing e free image =
-          let bundle = bundle_at f b in
-          let h : ℕ = height - 1 + length (bound_as bundle (kind_of k) l) in
-          let d : ℕ = deep + length (bound_as bundle (kind_of k) l) in
+          let h : ℕ = height - 1 + length (bound_as b (kind_of k) l) in
+          let d : ℕ = deep + length (bound_as b (kind_of k) l) in
           let fs : List Frame = frames w (height - 1) in
-          let crossed : crossed_by (frames w' h) ≡ cross_all (bound_as bundle (kind_of k) l) (bound_as bundle (kind_of k) r) (crossed_by fs) =
-          ap crossed_by e ∙ leaves_crossed (bound_as bundle (kind_of k) l) (bound_as bundle (kind_of k) r) (crossed_by fs) fs refl in
-          let same : finish free image bundle (frames w' h) ≡ finish free image bundle fs =
-          ap (finish free image bundle) e ∙ leaves_finish free image bundle (bound_as bundle (kind_of k) l) (bound_as bundle (kind_of k) r) (crossed_by fs) fs in
-          let on : finish free image bundle (frames w height) left
-          ≡ go_on (under free image bundle l (body_as bundle (kind_of k) l)
-          (cross_all (bound_as bundle (kind_of k) l) (bound_as bundle (kind_of k) r) (crossed_by fs)) (body_as bundle (kind_of k) r) left)
-          (finish free image bundle fs) =
+          let crossed : crossed_by (frames w' h) ≡ cross_all (bound_as b (kind_of k) l) (bound_as b (kind_of k) r) (crossed_by fs) =
+          ap crossed_by e ∙ leaves_crossed (bound_as b (kind_of k) l) (bound_as b (kind_of k) r) (crossed_by fs) fs refl in
+          let same : finish free image b (frames w' h) ≡ finish free image b fs =
+          ap (finish free image b) e ∙ leaves_finish free image b (bound_as b (kind_of k) l) (bound_as b (kind_of k) r) (crossed_by fs) fs in
+          let on : finish free image b (frames w height) left
+          ≡ go_on (under free image b l (body_as b (kind_of k) l)
+          (cross_all (bound_as b (kind_of k) l) (bound_as b (kind_of k) r) (crossed_by fs)) (body_as b (kind_of k) r) left)
+          (finish free image b fs) =
           whole_is free image
-          ∙ rw dk (bodies_are free image bundle (sized_at f b) l r i j left fs ended.0 ended.1 (rw dk at body)) in
+          ∙ rw dk (bodies_are free image b l r i j left fs ended.0 ended.1 (rw dk at body)) in
           rw dt
-          (turn_held free image b bundle n most (finish free image bundle (frames w height) left) w' p' s' l (body_as bundle (kind_of k) l)
-          (body_as bundle (kind_of k) r) h d left (rw (crossed, same) on)
-          (λ m more. held_bodies (sized_at f b) n most w p s (height - 1) deep left here l r i j pending_top w' p' s' h d m len crossing
-          (e ∙ ap (λ (q : ℕ). leaves (bound_as bundle (kind_of q) l) (bound_as bundle (kind_of q) r) (crossed_by fs) fs) dk) more)
+          (turn_held free image b n most (finish free image b (frames w height) left) w' p' s' l (body_as b (kind_of k) l)
+          (body_as b (kind_of k) r) h d left (rw (crossed, same) on)
+          (λ m more. held_bodies b n most w p s (height - 1) deep left here l r i j pending_top w' p' s' h d m len crossing
+          (e ∙ ap (λ (q : ℕ). leaves (bound_as b (kind_of q) l) (bound_as b (kind_of q) r) (crossed_by fs) fs) dk) more)
           (omega (arith, bodies_known.2)))

@@ -3,7 +3,6 @@
 use Rattle.std.specs.Prelude.{ℕ, zero, suc, ◌+◌, ◌*◌, ◌≤◌, ◌<◌, ◌≡◌, Bool, true, false, ◌&&◌, length, get_or, eqb, ltb}
 use Rattle.std.proofs.Math.Bool.{cond}
 use mathlib.Core.List.{List, [], ◌∷◌}
-use Rattle.bundle.specs.declared.Bundle.{Bundle as Counts}
 use Rattle.bundle.specs.Bundle.{Bundle, term_of}
 use Rattle.bundle.specs.Links.{items, starts_at}
 use Rattle.logic.specs.declared.Image.{Image}
@@ -71,32 +70,32 @@ body_as b (binder q) t = (term_of b t).b
 body_as b letting t = (term_of b t).c
 body_as b other t = 0
 
-unfoldable pub start_as : Counts → Bundle → Kind → ℕ → ℕ
+unfoldable pub start_as : Bundle → Kind → ℕ → ℕ
 unfolding starts_at
-start_as c b variable t = starts_at c.links (term_of b t).b
-start_as c b application t = starts_at c.links (term_of b t).b
-start_as c b (binder q) t = 0
-start_as c b letting t = starts_at c.links (term_of b t).b
-start_as c b other t = starts_at c.links (term_of b t).b
+start_as b variable t = starts_at (length b.links) (term_of b t).b
+start_as b application t = starts_at (length b.links) (term_of b t).b
+start_as b (binder q) t = 0
+start_as b letting t = starts_at (length b.links) (term_of b t).b
+start_as b other t = starts_at (length b.links) (term_of b t).b
 
 -- the frames once a pair has met, by its kind: a variable has nothing more to walk
-unfoldable pub opened_as : Counts → Bundle → Kind → ℕ → ℕ → List Frame → List Frame
+unfoldable pub opened_as : Bundle → Kind → ℕ → ℕ → List Frame → List Frame
 unfolding start_as
-opened_as c b variable l r fs = fs
-opened_as c b application l r fs = pending l r (start_as c b application l) (start_as c b application r) ∷ fs
-opened_as c b (binder q) l r fs = pending l r 0 0 ∷ fs
-opened_as c b letting l r fs = pending l r (start_as c b letting l) (start_as c b letting r) ∷ fs
-opened_as c b other l r fs = pending l r (start_as c b other l) (start_as c b other r) ∷ fs
+opened_as b variable l r fs = fs
+opened_as b application l r fs = pending l r (start_as b application l) (start_as b application r) ∷ fs
+opened_as b (binder q) l r fs = pending l r 0 0 ∷ fs
+opened_as b letting l r fs = pending l r (start_as b letting l) (start_as b letting r) ∷ fs
+opened_as b other l r fs = pending l r (start_as b other l) (start_as b other r) ∷ fs
 
 -- An application, of kind 2, of which nothing is left from the links i and j on has no frame.
 abbrev pub closes : ℕ → ℕ → ℕ → Bool
 closes k i j = (eqb k 2 && eqb i 0) && eqb j 0
 
-unfoldable pub opened : Counts → Bundle → ℕ → ℕ → List Frame → List Frame
+unfoldable pub opened : Bundle → ℕ → ℕ → List Frame → List Frame
 unfolding opened_as starts_at kind_of
-opened c b l r fs =
-    cond (closes (term_of b l).kind (starts_at c.links (term_of b l).b) (starts_at c.links (term_of b r).b)) fs
-    (opened_as c b (kind_of (term_of b l).kind) l r fs)
+opened b l r fs =
+    cond (closes (term_of b l).kind (starts_at (length b.links) (term_of b l).b) (starts_at (length b.links) (term_of b r).b)) fs
+    (opened_as b (kind_of (term_of b l).kind) l r fs)
 
 -- the frames once variables are crossed, in pairs, where those of ps were before
 unfoldable pub leaves : List ℕ → List ℕ → Crossed → List Frame → List Frame
@@ -135,11 +134,11 @@ MetAs b letting l r = let_meets b (term_of b l) r ≡ true
 MetAs b other l r = Unit {0}
 
 -- There is room for the variables of each pair that are to be crossed, where `most` pairs could be visited and so many are left.
-pub record PendingHeld (c : Counts) (b : Bundle) (most left : ℕ) (l r i j : ℕ) (fs : List Frame) : Type 0 where
+pub record PendingHeld (b : Bundle) (most left : ℕ) (l r i j : ℕ) (fs : List Frame) : Type 0 where
   pub met : MetAs b (kind_of (term_of b l).kind) l r
-  pub known : Number c.terms l
-  pub left_link : i ≤ c.links
-  pub right_link : j ≤ c.links
+  pub known : Number (length b.terms) l
+  pub left_link : i ≤ length b.links
+  pub right_link : j ≤ length b.links
   pub room : length fs + length (bound_as b (kind_of (term_of b l).kind) l) + left ≤ most + length (items b i)
 
 pub record LeaveHeld (variables : ℕ) (x y o p : ℕ) (ps : Crossed) : Type 0 where
@@ -148,11 +147,11 @@ pub record LeaveHeld (variables : ℕ) (x y o p : ℕ) (ps : Crossed) : Type 0 w
   pub left_place : o ≡ stamp (lefts ps) x
   pub right_place : p ≡ stamp (rights ps) y
 
-unfoldable pub Sound : Counts → Bundle → ℕ → ℕ → List Frame → Type 0
+unfoldable pub Sound : Bundle → ℕ → ℕ → List Frame → Type 0
 unfolding crossed_by
-Sound c b most left [] = Unit {0}
-Sound c b most left (pending l r i j ∷ fs) = PendingHeld c b most left l r i j fs × Sound c b most left fs
-Sound c b most left (leave x y o p ∷ fs) = LeaveHeld c.variables x y o p (crossed_by fs) × Sound c b most left fs
+Sound b most left [] = Unit {0}
+Sound b most left (pending l r i j ∷ fs) = PendingHeld b most left l r i j fs × Sound b most left fs
+Sound b most left (leave x y o p ∷ fs) = LeaveHeld (length b.variables) x y o p (crossed_by fs) × Sound b most left fs
 
 -- the arrays have the variables that the agenda of height h says are crossed, `depth` pairs of them
 pub record Crossing (variables n : ℕ) (agenda places bound : List ℕ) (h depth : ℕ) : Type 0 where
@@ -160,10 +159,10 @@ pub record Crossing (variables n : ℕ) (agenda places bound : List ℕ) (h dept
   pub deep : depth ≡ length (crossed_by (frames agenda h))
 
 -- the arrays and the agenda of height h are those of a walk that may still visit `left` of `most` pairs
-pub record Held (c : Counts) (b : Bundle) (n most : ℕ) (agenda places bound : List ℕ) (h depth left : ℕ) : Type 0 where
+pub record Held (b : Bundle) (n most : ℕ) (agenda places bound : List ℕ) (h depth left : ℕ) : Type 0 where
   pub long : 5 * most ≤ length agenda
-  pub crossing : Crossing c.variables n agenda places bound h depth
-  pub sound : Sound c b most left (frames agenda h)
+  pub crossing : Crossing (length b.variables) n agenda places bound h depth
+  pub sound : Sound b most left (frames agenda h)
 
 -- ---- turns
 
@@ -173,11 +172,11 @@ turn_to l x y h depth zero = Turn.Ended Spent
 turn_to l x y h depth (suc n) = cond (ltb x l) (Turn.Pair x y h depth n) (Turn.Ended (Different n))
 
 -- What a turn is to a walk: it has ended, or the pair that is taken up, and then what is left to do, is the whole.
-abbrev pub TurnHeld : (ℕ → ℕ → Bool) → (ℕ → Image) → Counts → Bundle → ℕ → ℕ → Limited → List ℕ → List ℕ → List ℕ → ℕ → Turn → Type 0
-TurnHeld free image c b n most whole agenda places bound left (Turn.Ended a) = whole ≡ a
-TurnHeld free image c b n most whole agenda places bound left (Turn.Pair l r h depth m) =
+abbrev pub TurnHeld : (ℕ → ℕ → Bool) → (ℕ → Image) → Bundle → ℕ → ℕ → Limited → List ℕ → List ℕ → List ℕ → ℕ → Turn → Type 0
+TurnHeld free image b n most whole agenda places bound left (Turn.Ended a) = whole ≡ a
+TurnHeld free image b n most whole agenda places bound left (Turn.Pair l r h depth m) =
     (whole ≡ go_on (within_by free image b l (crossed_by (frames agenda h)) r (suc m)) (finish free image b (frames agenda h)))
-    × Held c b n most agenda places bound h depth m × (h + m < most) × (m < left)
+    × Held b n most agenda places bound h depth m × (h + m < most) × (m < left)
 
 -- the pairs that a walk is tried with first: any number up to the limit would do
 abbrev pub few_pairs : ℕ

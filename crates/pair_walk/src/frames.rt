@@ -1,13 +1,10 @@
 // Frames of the agenda: five words of 16 bits each. The first word is the left term of a pair, 0 where variables are left.
 ghost use Rattle.std.specs.Prelude.{◌≡◌, ◌∷◌, suc, ◌+◌, ◌*◌, ◌≤◌, length, get_or};
 ghost use Rattle.bundle.specs.Bundle.{term_of};
-ghost use Rattle.bundle.specs.File.{Whole, bundle_at};
 ghost use Rattle.logic.specs.Lists.{Number};
 ghost use Rattle.pair_walk.specs.Agenda.{frame_of, frames, opened};
 
 use bundle::Bundle;
-use bundle::lists::first_link;
-use bundle::records::term_field;
 use logic::kinds::{APPLICATION, VARIABLE, is_binder};
 
 // Puts a frame onto an agenda of height h.
@@ -37,27 +34,27 @@ pub fn advance(agenda: &mut [u16], h: usize, i: usize, j: usize)
 }
 
 // The height once a pair has met: what is left of it to walk is put onto the agenda.
-pub fn open(file: &[u8], b: Bundle, agenda: &mut [u16], h: usize, l: usize, r: usize) -> usize
-    requires { let bundle = bundle_at file.now b in
-        Whole file.now b × (5 * h + 5 ≤ length agenda.old)
-        × (((term_of bundle l).kind ≡ 1 → ⊥) → Number b.terms l × Number b.terms r) }
-    ensures { let bundle = bundle_at file.now b in
-        (length agenda.new ≡ length agenda.old) × (result ≤ h + 1)
-        × (frames agenda.new result ≡ opened b bundle l r (frames agenda.old h)) }
+pub fn open(bundle: &Bundle, agenda: &mut [u16], h: usize, l: usize, r: usize) -> usize
+    requires { (5 * h + 5 ≤ length agenda.old)
+        × (((term_of bundle.now l).kind ≡ 1 → ⊥) → Number (length bundle.now.terms) l × Number (length bundle.now.terms) r) }
+    ensures { (length agenda.new ≡ length agenda.old) × (result ≤ h + 1)
+        × (frames agenda.new result ≡ opened bundle.now l r (frames agenda.old h)) }
 {
-    let kind = term_field(file, b, l, 0);
+    let kind = bundle.term_field(l, 0);
     if kind == VARIABLE {
         return h;
     }
+    prove!(bundle.terms() <= Bundle::TERMS);
     if is_binder(kind) {
         push(agenda, h, l, r, 0, 0, 0);
         return h + 1;
     }
-    let i = first_link(b, term_field(file, b, l, 2));
-    let j = first_link(b, term_field(file, b, r, 2));
+    let i = bundle.first_link(bundle.term_field(l, 2));
+    let j = bundle.first_link(bundle.term_field(r, 2));
     if (kind == APPLICATION) & (i == 0) & (j == 0) {
         return h;
     }
+    prove!(bundle.links() <= Bundle::LINKS);
     push(agenda, h, l, r, i, j, 0);
     h + 1
 }

@@ -3,12 +3,10 @@
 
 ghost use Rattle.std.specs.Prelude.{◌≡◌, [], ◌+◌, ◌*◌, ◌≤◌, length};
 ghost use Rattle.bundle.specs.Limits.{set_words};
-ghost use Rattle.bundle.specs.File.{Whole, bundle_at};
 ghost use Rattle.logic.specs.ReflWalk.{within_by, pair_limit};
 ghost use Rattle.images.specs.ContextRows.{image_at};
 ghost use Rattle.images.specs.LentReading.{free_in};
 ghost use Rattle.crossings.specs.Places.{Places};
-ghost use Rattle.pair_walk.specs.Agenda.{few_pairs};
 
 use bundle::Bundle;
 use crossings::pair_meets;
@@ -34,8 +32,7 @@ pub enum Turn {
 
 // The walk from the terms l and r, which may visit `most` pairs, in arrays that are lent.
 fn walk(
-    file: &[u8],
-    b: Bundle,
+    bundle: &Bundle,
     area: &[u64],
     n: usize,
     images: &[u16],
@@ -47,10 +44,10 @@ fn walk(
     right: usize,
     most: usize,
 ) -> Limited
-    requires { Whole file.now b × (n * b.terms ≤ length area.now) × (b.variables * (context + 1) ≤ length images.now) × (b.variables ≤ 64 * n)
-        × Places b.variables n places.old bound.old [] × (5 * most ≤ length agenda.old) × (1 ≤ most) × (most ≤ pair_limit) }
-    ensures { result ≡ within_by (free_in b.terms area.now n) (image_at b.variables images.now context)
-        (bundle_at file.now b) left [] right most }
+    requires { (n * length bundle.now.terms ≤ length area.now) × (length bundle.now.variables * (context + 1) ≤ length images.now) × (length bundle.now.variables ≤ 64 * n)
+        × Places (length bundle.now.variables) n places.old bound.old [] × (5 * most ≤ length agenda.old) × (1 ≤ most) × (most ≤ pair_limit) }
+    ensures { result ≡ within_by (free_in (length bundle.now.terms) area.now n) (image_at (length bundle.now.variables) images.now context)
+        bundle.now left [] right most }
 {
     let mut l = left;
     let mut r = right;
@@ -58,13 +55,11 @@ fn walk(
     let mut depth = 0;
     let mut spare = most - 1;
     loop {
-        if !pair_meets(file, b, area, n, images, context, places, bound, l, r) {
+        if !pair_meets(bundle, area, n, images, context, places, bound, l, r) {
             return Limited::Different(spare);
         }
-        let opened = frames::open(file, b, agenda, height, l, r);
-        let turn = turns::next(
-            file, b, n, most, places, bound, agenda, opened, depth, spare,
-        );
+        let opened = frames::open(bundle, agenda, height, l, r);
+        let turn = turns::next(bundle, n, most, places, bound, agenda, opened, depth, spare);
         match turn {
             Turn::Ended(a) => {
                 return a;
@@ -86,46 +81,16 @@ fn walk(
     }
 }
 
-// Most walks are short, and are made within a few pairs, with little room.
+// Most walks are short, and are made within a few pairs, with little room. An agenda has five words a pair.
 const FEW: usize = 64;
 
-fn short_walk(
-    file: &[u8],
-    b: Bundle,
-    area: &[u64],
-    n: usize,
-    images: &[u16],
-    context: usize,
-    left: usize,
-    right: usize,
-) -> Limited
-    requires { Whole file.now b × (n * b.terms ≤ length area.now) × (b.variables * (context + 1) ≤ length images.now) × (b.variables ≤ 64 * n)
-        × (n ≤ set_words) }
-    ensures { result ≡ within_by (free_in b.terms area.now n) (image_at b.variables images.now context)
-        (bundle_at file.now b) left [] right few_pairs }
-{
-    let mut places = [0u16; 2 * Bundle::VARIABLES];
-    let mut bound = [0u64; Bundle::SET_WORDS];
-    let mut agenda = [0u16; 5 * FEW];
-    walk(
-        file,
-        b,
-        area,
-        n,
-        images,
-        context,
-        &mut places,
-        &mut bound,
-        &mut agenda,
-        left,
-        right,
-        FEW,
-    )
-}
+const FEW_WORDS: usize = 5 * FEW;
 
-fn long_walk(
-    file: &[u8],
-    b: Bundle,
+const LIMIT_WORDS: usize = 5 * PAIR_LIMIT;
+
+// The walk in arrays of its own. AGENDA, the words of the agenda, is given too, since a const argument is never computed.
+fn walk_within<const PAIRS: usize, const AGENDA: usize>(
+    bundle: &Bundle,
     area: &[u64],
     n: usize,
     images: &[u16],
@@ -133,17 +98,17 @@ fn long_walk(
     left: usize,
     right: usize,
 ) -> Limited
-    requires { Whole file.now b × (n * b.terms ≤ length area.now) × (b.variables * (context + 1) ≤ length images.now) × (b.variables ≤ 64 * n)
-        × (n ≤ set_words) }
-    ensures { result ≡ within_by (free_in b.terms area.now n) (image_at b.variables images.now context)
-        (bundle_at file.now b) left [] right pair_limit }
+    requires { (n * length bundle.now.terms ≤ length area.now) × (length bundle.now.variables * (context + 1) ≤ length images.now) × (length bundle.now.variables ≤ 64 * n)
+        × (n ≤ set_words) × (AGENDA ≡ 5 * PAIRS) × (1 ≤ PAIRS) × (PAIRS ≤ pair_limit) }
+    ensures { result ≡ within_by (free_in (length bundle.now.terms) area.now n) (image_at (length bundle.now.variables) images.now context)
+        bundle.now left [] right PAIRS }
 {
+    prove!(bundle.variables() <= Bundle::VARIABLES);
     let mut places = [0u16; 2 * Bundle::VARIABLES];
     let mut bound = [0u64; Bundle::SET_WORDS];
-    let mut agenda = [0u16; 5 * PAIR_LIMIT];
+    let mut agenda = [0u16; AGENDA];
     walk(
-        file,
-        b,
+        bundle,
         area,
         n,
         images,
@@ -153,14 +118,13 @@ fn long_walk(
         &mut agenda,
         left,
         right,
-        PAIR_LIMIT,
+        PAIRS,
     )
 }
 
 // THE WALK from the terms `left` and `right`, where no binder is crossed yet: how it ends, and how many of the pairs that it may visit are left.
 pub fn pair_walk(
-    file: &[u8],
-    b: Bundle,
+    bundle: &Bundle,
     area: &[u64],
     n: usize,
     images: &[u16],
@@ -168,15 +132,17 @@ pub fn pair_walk(
     left: usize,
     right: usize,
 ) -> Limited
-    requires { Whole file.now b × (n * b.terms ≤ length area.now) × (b.variables * (context + 1) ≤ length images.now) × (b.variables ≤ 64 * n)
+    requires { (n * length bundle.now.terms ≤ length area.now) × (length bundle.now.variables * (context + 1) ≤ length images.now) × (length bundle.now.variables ≤ 64 * n)
         × (n ≤ set_words) }
-    ensures { result ≡ within_by (free_in b.terms area.now n) (image_at b.variables images.now context)
-        (bundle_at file.now b) left [] right pair_limit }
+    ensures { result ≡ within_by (free_in (length bundle.now.terms) area.now n) (image_at (length bundle.now.variables) images.now context)
+        bundle.now left [] right pair_limit }
 {
-    let walked = short_walk(file, b, area, n, images, context, left, right);
+    let walked = walk_within::<FEW, FEW_WORDS>(bundle, area, n, images, context, left, right);
     match walked {
         Limited::Same(m) => Limited::Same(m + (PAIR_LIMIT - FEW)),
         Limited::Different(m) => Limited::Different(m + (PAIR_LIMIT - FEW)),
-        Limited::Spent => long_walk(file, b, area, n, images, context, left, right),
+        Limited::Spent => walk_within::<PAIR_LIMIT, LIMIT_WORDS>(
+            bundle, area, n, images, context, left, right,
+        ),
     }
 }

@@ -2,7 +2,6 @@
 ghost use Rattle.std.specs.Prelude.{◌≡◌, Bool, true, cond, ◌∷◌, ℕ, suc, ◌+◌, ◌*◌, ◌-◌, ◌≤◌, ◌<◌, length, get_or};
 ghost use Rattle.bundle.specs.Bundle.{link_of, term_of};
 ghost use Rattle.bundle.specs.Links.{next_of};
-ghost use Rattle.bundle.specs.File.{Whole, bundle_at};
 ghost use Rattle.logic.specs.declared.Image.{Image};
 ghost use Rattle.logic.specs.Terms.{kind_of};
 ghost use Rattle.logic.specs.ReflWalk.{pair_limit};
@@ -13,10 +12,7 @@ use super::Turn;
 use super::bodies::{body_of, enter};
 use super::frames::advance;
 use bundle::Bundle;
-use bundle::halves::wide;
-use bundle::lists::followed;
-use bundle::records::term_field;
-use bundle::words::word_at;
+use bundle::items::followed;
 use crossings::uncross;
 use logic::Limited;
 use logic::kinds::{APPLICATION, LET, is_binder};
@@ -41,32 +37,10 @@ fn turn_to(l: usize, x: usize, y: usize, height: usize, depth: usize, left: usiz
     }
 }
 
-// A link that has been read: its item and its next.
-#[derive(Clone, Copy)]
-struct Link {
-    value: usize,
-    next: usize,
-}
-
-// Reads link i. The links are a part of the file, so that their words have one place.
-fn link_at(file: &[u8], b: Bundle, i: usize) -> Link
-    requires { Whole file.now b × (i ≡ 0 → ⊥) × (i ≤ b.links) }
-    ensures { let link = link_of (bundle_at file.now b) i in
-        (result.value ≡ link.value) × (result.next ≡ link.next) }
-{
-    let at = 4 * b.links_at();
-    let section = &file[at..];
-    Link {
-        value: word_at(section, 2 * (i - 1)),
-        next: word_at(section, 2 * (i - 1) + 1),
-    }
-}
-
 // Takes the terms at the links i and j up, which the frame of l on an agenda of height h + 1 has, whatever their nexts are. The frame has the next
 // links then; an application's is taken off where there are none.
 fn take_any(
-    file: &[u8],
-    b: Bundle,
+    bundle: &Bundle,
     agenda: &mut [u16],
     h: usize,
     depth: usize,
@@ -75,23 +49,22 @@ fn take_any(
     j: usize,
     left: usize,
 ) -> Turn
-    requires { Whole file.now b × (5 * h + 5 ≤ length agenda.old) × ((i ≡ 0 → ⊥) × (i ≤ b.links)) × ((j ≡ 0 → ⊥) × (j ≤ b.links)) }
-    ensures { let bundle = bundle_at file.now b in
-        let closed = closes (term_of bundle l).kind (next_of bundle.links i) (next_of bundle.links j) in
+    requires { (5 * h + 5 ≤ length agenda.old) × ((i ≡ 0 → ⊥) × (i ≤ length bundle.now.links)) × ((j ≡ 0 → ⊥) × (j ≤ length bundle.now.links)) }
+    ensures { let closed = closes (term_of bundle.now l).kind (next_of bundle.now.links i) (next_of bundle.now.links j) in
         (length agenda.new ≡ length agenda.old)
-        × (result ≡ turn_to l (link_of bundle i).value (link_of bundle j).value (cond closed h (suc h)) depth left)
+        × (result ≡ turn_to l (link_of bundle.now i).value (link_of bundle.now j).value (cond closed h (suc h)) depth left)
         × (frames agenda.new (cond closed h (suc h)) ≡ cond closed (frames agenda.old h)
         (frame_of (get_or agenda.old (5 * h) 0) (get_or agenda.old (5 * h + 1) 0)
-        (next_of bundle.links i) (next_of bundle.links j) (get_or agenda.old (5 * h + 4) 0) ∷ frames agenda.old h)) }
+        (next_of bundle.now.links i) (next_of bundle.now.links j) (get_or agenda.old (5 * h + 4) 0) ∷ frames agenda.old h)) }
 {
-    let links = b.links;
-    let first = link_at(file, b, i);
-    let second = link_at(file, b, j);
+    let links = bundle.links();
+    let first = bundle.link(i);
+    let second = bundle.link(j);
     let x = first.value;
     let y = second.value;
     let after = followed(links, i, first.next);
     let other = followed(links, j, second.next);
-    let kind = term_field(file, b, l, 0);
+    let kind = bundle.term_field(l, 0);
     if (kind == APPLICATION) & (after == 0) & (other == 0) {
         return turn_to(l, x, y, h, depth, left);
     }
@@ -101,8 +74,7 @@ fn take_any(
 
 // The same. In most lists both nexts rise, or both are 0: branches that are foreseen, where `followed` makes each turn wait for its choices.
 fn take(
-    file: &[u8],
-    b: Bundle,
+    bundle: &Bundle,
     agenda: &mut [u16],
     h: usize,
     depth: usize,
@@ -111,24 +83,23 @@ fn take(
     j: usize,
     left: usize,
 ) -> Turn
-    requires { Whole file.now b × (5 * h + 5 ≤ length agenda.old) × ((i ≡ 0 → ⊥) × (i ≤ b.links)) × ((j ≡ 0 → ⊥) × (j ≤ b.links)) }
-    ensures { let bundle = bundle_at file.now b in
-        let closed = closes (term_of bundle l).kind (next_of bundle.links i) (next_of bundle.links j) in
+    requires { (5 * h + 5 ≤ length agenda.old) × ((i ≡ 0 → ⊥) × (i ≤ length bundle.now.links)) × ((j ≡ 0 → ⊥) × (j ≤ length bundle.now.links)) }
+    ensures { let closed = closes (term_of bundle.now l).kind (next_of bundle.now.links i) (next_of bundle.now.links j) in
         (length agenda.new ≡ length agenda.old)
-        × (result ≡ turn_to l (link_of bundle i).value (link_of bundle j).value (cond closed h (suc h)) depth left)
+        × (result ≡ turn_to l (link_of bundle.now i).value (link_of bundle.now j).value (cond closed h (suc h)) depth left)
         × (frames agenda.new (cond closed h (suc h)) ≡ cond closed (frames agenda.old h)
         (frame_of (get_or agenda.old (5 * h) 0) (get_or agenda.old (5 * h + 1) 0)
-        (next_of bundle.links i) (next_of bundle.links j) (get_or agenda.old (5 * h + 4) 0) ∷ frames agenda.old h)) }
+        (next_of bundle.now.links i) (next_of bundle.now.links j) (get_or agenda.old (5 * h + 4) 0) ∷ frames agenda.old h)) }
 {
-    let links = b.links;
-    let first = link_at(file, b, i);
-    let second = link_at(file, b, j);
+    let links = bundle.links();
+    let first = bundle.link(i);
+    let second = bundle.link(j);
     let x = first.value;
     let y = second.value;
     let next = first.next;
     let other = second.next;
     if (next == 0) & (other == 0) {
-        let kind = term_field(file, b, l, 0);
+        let kind = bundle.term_field(l, 0);
         if kind == APPLICATION {
             return turn_to(l, x, y, h, depth, left);
         }
@@ -143,13 +114,12 @@ fn take(
             }
         }
     }
-    take_any(file, b, agenda, h, depth, l, i, j, left)
+    take_any(bundle, agenda, h, depth, l, i, j, left)
 }
 
 // Takes the bodies of l and r up, inside their variables.
 fn into_bodies(
-    file: &[u8],
-    b: Bundle,
+    bundle: &Bundle,
     n: usize,
     places: &mut [u16],
     bound: &mut [u64],
@@ -161,29 +131,26 @@ fn into_bodies(
     r: usize,
     left: usize,
 ) -> Turn
-    requires { let bundle = bundle_at file.now b in
-        Whole file.now b × Crossing b.variables n agenda.old places.old bound.old h depth × (has_body (kind_of kind) ≡ true)
-        × MetAs bundle (kind_of kind) l r × (5 * (h + length (bound_as bundle (kind_of kind) l)) ≤ length agenda.old) × (b.variables ≤ 64 * n)
-        × (depth + length (bound_as bundle (kind_of kind) l) ≤ 65535) × (h + length (bound_as bundle (kind_of kind) l) ≤ 65535) }
-    ensures { let bundle = bundle_at file.now b in
-        let height = h + length (bound_as bundle (kind_of kind) l) in
-        let deep = depth + length (bound_as bundle (kind_of kind) l) in
+    requires { Crossing (length bundle.now.variables) n agenda.old places.old bound.old h depth × (has_body (kind_of kind) ≡ true)
+        × MetAs bundle.now (kind_of kind) l r × (5 * (h + length (bound_as bundle.now (kind_of kind) l)) ≤ length agenda.old) × (length bundle.now.variables ≤ 64 * n)
+        × (depth + length (bound_as bundle.now (kind_of kind) l) ≤ 65535) × (h + length (bound_as bundle.now (kind_of kind) l) ≤ 65535) }
+    ensures { let height = h + length (bound_as bundle.now (kind_of kind) l) in
+        let deep = depth + length (bound_as bundle.now (kind_of kind) l) in
         (length agenda.new ≡ length agenda.old)
-        × (result ≡ turn_to l (body_as bundle (kind_of kind) l) (body_as bundle (kind_of kind) r) height deep left)
-        × Crossing b.variables n agenda.new places.new bound.new height deep
-        × (frames agenda.new height ≡ leaves (bound_as bundle (kind_of kind) l) (bound_as bundle (kind_of kind) r)
+        × (result ≡ turn_to l (body_as bundle.now (kind_of kind) l) (body_as bundle.now (kind_of kind) r) height deep left)
+        × Crossing (length bundle.now.variables) n agenda.new places.new bound.new height deep
+        × (frames agenda.new height ≡ leaves (bound_as bundle.now (kind_of kind) l) (bound_as bundle.now (kind_of kind) r)
         (crossed_by (frames agenda.old h)) (frames agenda.old h)) }
 {
-    let height = enter(file, b, n, places, bound, agenda, h, depth, kind, l, r);
-    let x = body_of(file, b, kind, l);
-    let y = body_of(file, b, kind, r);
+    let height = enter(bundle, n, places, bound, agenda, h, depth, kind, l, r);
+    let x = body_of(bundle, kind, l);
+    let y = body_of(bundle, kind, r);
     turn_to(l, x, y, height, depth + (height - h), left)
 }
 
 // What follows where a pair has been visited, on an agenda of height h.
 pub fn next(
-    file: &[u8],
-    b: Bundle,
+    bundle: &Bundle,
     n: usize,
     most: usize,
     places: &mut [u16],
@@ -193,10 +160,9 @@ pub fn next(
     depth: usize,
     left: usize,
 ) -> Turn
-    requires { Whole file.now b × Held b (bundle_at file.now b) n most agenda.old places.old bound.old h depth left × (h + left ≤ most)
-        × (most ≤ pair_limit) × (b.variables ≤ 64 * n) }
-    ensures { let bundle = bundle_at file.now b in
-        (free : ℕ → ℕ → Bool) (image : ℕ → Image) → TurnHeld free image b bundle n most (finish free image bundle (frames agenda.old h) left)
+    requires { Held bundle.now n most agenda.old places.old bound.old h depth left × (h + left ≤ most)
+        × (most ≤ pair_limit) × (length bundle.now.variables ≤ 64 * n) }
+    ensures { (free : ℕ → ℕ → Bool) (image : ℕ → Image) → TurnHeld free image bundle.now n most (finish free image bundle.now (frames agenda.old h) left)
         agenda.new places.new bound.new left result }
 {
     let mut height = h;
@@ -204,27 +170,27 @@ pub fn next(
     while height != 0 {
         let top = height - 1;
         let from = 5 * top;
-        let l = wide(agenda[from]);
-        let r = wide(agenda[from + 1]);
-        let i = wide(agenda[from + 2]);
-        let j = wide(agenda[from + 3]);
+        let l = usize::from(agenda[from]);
+        let r = usize::from(agenda[from + 1]);
+        let i = usize::from(agenda[from + 2]);
+        let j = usize::from(agenda[from + 3]);
         if l == 0 {
-            let p = wide(agenda[from + 4]);
-            uncross(b, n, places, bound, r, i, j, p);
+            let p = usize::from(agenda[from + 4]);
+            uncross(bundle, n, places, bound, r, i, j, p);
             deep -= 1;
         } else {
             if i != 0 {
                 if j != 0 {
-                    return take(file, b, agenda, top, deep, l, i, j, left);
+                    return take(bundle, agenda, top, deep, l, i, j, left);
                 }
             }
             if (i != 0) | (j != 0) {
                 return Turn::Ended(Limited::Different(left));
             }
-            let kind = term_field(file, b, l, 0);
+            let kind = bundle.term_field(l, 0);
             if is_binder(kind) | (kind == LET) {
                 return into_bodies(
-                    file, b, n, places, bound, agenda, top, deep, kind, l, r, left,
+                    bundle, n, places, bound, agenda, top, deep, kind, l, r, left,
                 );
             }
         }

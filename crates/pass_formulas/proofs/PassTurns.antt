@@ -20,7 +20,7 @@ use Rattle.bundle.specs.Bundle.{Bundle, sort_of_variable}
 use Rattle.bundle.specs.Limits.{limits}
 use Rattle.bundle.specs.Lists.{same_list, has, different}
 use Rattle.bundle.specs.File.{counts_of}
-use Rattle.bundle.proofs.Fields.{symbols_length}
+use Rattle.bundle.proofs.Fields.{symbols_length, variables_length}
 use Rattle.logic.specs.Symbols.{truth_sort, signature_of, result_sort}
 use Rattle.logic.specs.Terms.{Binder, forAll, exists, binder, number_of, is_binder, Term, Terms, var, app, bind, let_in, none}
 use Rattle.logic.proofs.Tests.{list_same, and_left, and_right}
@@ -91,7 +91,7 @@ module _ (f text : List ℕ) where
   now w cs = bundle_in w (counts_by f cs)
 
   called_is : (w : List ℕ) {x : ℕ} → variable_among (counts_of f).variables w ≡ x → variable_called D w ≡ x
-  called_is w e = sym (variable_called_lem f (counts_of f) w) ∙ e
+  called_is w e = sym (variable_called_lem D w) ∙ (ap (λ (n : ℕ). variable_among n w) (variables_length f (counts_of f)) ∙ e)
 
   symbol_is : (w : Word) (n s : ℕ) → SymbolIs f w n → s ≤ 1 → symbol_for (length D.symbols) w s ≡ equal_on n s
   symbol_is w n s is l = ap (λ (k : ℕ). symbol_for k w s) (symbols_length f (counts_of f)) ∙ is s l

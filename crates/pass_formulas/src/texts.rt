@@ -7,8 +7,8 @@ ghost use Rattle.pass_terms.specs.Passing.{counts_by};
 ghost use Rattle.pass_formulas.specs.PassGives.{TextRead};
 
 use super::one_pass::pass_formula;
-use bundle::Bundle;
 use bundle::digests::DIGESTS;
+use bundle::{Bundle, Counts};
 use filing::filing::file_terms;
 use pass_tokens::blanks::past_blanks;
 use scratch::lists::half;
@@ -16,7 +16,7 @@ use scratch::lists::half;
 // The term of a text's formula, of the sort truth, whose records are appended to those in the words; or 0.
 pub fn pass_text(
     file: &[u8],
-    b: Bundle,
+    b: Counts,
     text: &[u8],
     words: &mut [u32],
     counts: &mut [usize; 2],

@@ -1,19 +1,33 @@
 -- A list compared with the lower halves of pairs, pair by pair. The list is given by an equation: it has ended, or it starts with x.
 --     short, ended     the list has ended, and the pairs have not; the pairs have
 --     differs, on      both have an item: they differ, or the walk goes on
+--     is_over          a walk that gives nothing has ended
 --     none_left        whether as many as are left are none
 --     new_here, new_on, new_none     a number that is in no pair
 use mathlib.Core.Path.{◌≡◌, refl, sym, ap, ◌∙◌}
-use mathlib.Core.Bool.{Bool, true, false, not, ◌&&◌, ◌||◌}
+use mathlib.Core.Bool.{Bool, true, false, not, ◌&&◌, ◌||◌, false≢true}
 use mathlib.Core.List.{List, [], ◌∷◌}
 use Prim.Native.Nat.{ℕ, zero, suc, ◌+◌, ◌≤◌, ◌<◌}
 use native.Mathlib.Omega.{arith}
 use lib.ListN.{length, get_or, replicate}
 use lib.Dec.{eqb, ltb, eqb-suc-zero}
 use borrow.Author.Tests.{eq-eqb, ne_eqb, ltb-true, ltb-false}
+use Rattle.std.proofs.Common.{Some, None}
+use Rattle.std.specs.Prelude.{Option}
+use Rattle.std.specs.Option.{is_some}
+use Rattle.std.specs.Iterator.{YieldsFirst}
 use Rattle.bundle.specs.Lists.{same_list, has}
 use Rattle.scratch.specs.Stack.{half_of, halves}
 use Rattle.scratch.proofs.Halves.{halves_none, halves_more}
+
+-- a list has ended where its walk gives nothing
+pub is_over : (r : Option ℕ) (xs rest : List ℕ) (none : Bool) → YieldsFirst {S = List ℕ} (λ s. s) xs r rest → is_some r ≡ not none
+    → none ≡ same_list xs []
+unfolding same_list
+is_over None xs rest true y e = rw y.0
+is_over None xs rest false y e = absurd (false≢true e)
+is_over (Some x) xs rest true y e = absurd (false≢true (sym e))
+is_over (Some x) xs rest false y e = rw y
 
 pub none_left : (n x : ℕ) → same_list (replicate n x) [] ≡ eqb n 0
 unfolding same_list

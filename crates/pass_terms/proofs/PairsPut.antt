@@ -15,7 +15,7 @@ use lib.ListN.{length, get_or, set}
 use lib.Seq.{get_or-set_same}
 use lib.Dec.{ltb, leb}
 use borrow.Author.Tests.{ltb-false, leb-false}
-use Rattle.bundle.specs.declared.Bundle.{Bundle as Counts}
+use Rattle.bundle.specs.declared.Counts.{Counts}
 use Rattle.bundle.specs.Bundle.{Bundle, TermRecord, sort_of_variable}
 use Rattle.bundle.specs.Limits.{limits}
 use Rattle.bundle.specs.File.{bundle_by, counts_of}

@@ -1,6 +1,6 @@
 -- What is placed in one pass: the words w, the stack st, the index ix and the counts cs of terms and links, after each call that was not given up.
 use Rattle.std.specs.Prelude.{ℕ, ◌≤◌, ◌<◌, ◌≡◌, ◌⊎◌, true, false, List, [], ◌∷◌, length, get_or, set}
-use Rattle.bundle.specs.declared.Bundle.{Bundle as Counts}
+use Rattle.bundle.specs.declared.Counts.{Counts}
 use Rattle.bundle.specs.Bundle.{Bundle, sort_of_variable}
 use Rattle.bundle.specs.Limits.{limits}
 use Rattle.bundle.specs.File.{bundle_at, counts_of}

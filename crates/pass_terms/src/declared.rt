@@ -5,16 +5,23 @@ ghost use Rattle.bundle.specs.Limits.{limits};
 ghost use Rattle.bundle.specs.File.{Whole, counts_of};
 ghost use Rattle.pass_terms.specs.Passing.{counts_by, declared};
 
-use bundle::Bundle;
-use bundle::records::variable_sort;
+use bundle::{Bundle, Counts};
+
+// The declarations as a bundle.
+pub fn declarations<'a>(file: &'a [u8]) -> Bundle<'a>
+    requires { Whole file.now (counts_of file.now) }
+    ensures { result ≡ declared file.now }
+{
+    Bundle::of(file, bundle::words::counts(file))
+}
 
 // The counts of the declarations, with so many terms and links.
-pub fn counts_by(file: &[u8], counts: &[usize; 2]) -> Bundle
+pub fn counts_by(file: &[u8], counts: &[usize; 2]) -> Counts
     requires { Whole file.now (counts_of file.now) }
     ensures { result ≡ counts_by file.now counts.now }
 {
     let b = bundle::words::counts(file);
-    Bundle {
+    Counts {
         version: b.version,
         symbols: b.symbols,
         variables: b.variables,
@@ -45,6 +52,5 @@ pub fn declared_sort(file: &[u8], x: usize) -> usize
     requires { Whole file.now (counts_of file.now) }
     ensures { result ≡ sort_of_variable (declared file.now) x }
 {
-    let b = bundle::words::counts(file);
-    variable_sort(file, b, x)
+    declarations(file).variable_sort(x)
 }

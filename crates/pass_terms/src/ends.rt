@@ -6,7 +6,7 @@ ghost use Rattle.logic.specs.Terms.{is_binder};
 ghost use Rattle.endings.specs.ReadOutcomes.{Held};
 ghost use Rattle.pass_terms.specs.Passing.{counts_by, Ended, AlonePut, ApplicationPut, BinderPut, LetPut, TruthClosed, Named};
 
-use super::declared::{counts_by, declared_sort};
+use super::declared::{counts_by, declarations, declared_sort};
 use super::sorts::takes;
 use bundle::Bundle;
 use bundle::digests::DIGESTS;
@@ -66,12 +66,12 @@ pub fn apply(
         × ((result ≡ 0 → ⊥) → ApplicationPut file.now words.old stack.old counts.old symbol from to end
         words.new stack.new index.new counts.new result) }
 {
-    let b = bundle::words::counts(file);
-    let s = signature_of(b, symbol);
-    if !takes(file, b, s, stack, from, to) {
+    let bundle = declarations(file);
+    let s = signature_of(&bundle, symbol);
+    if !takes(&bundle, s, stack, from, to) {
         return 0;
     }
-    let sort = result_sort(file, b, s);
+    let sort = result_sort(&bundle, s);
     let c = counts_by(file, counts);
     let p = place_application(words, c, symbol, stack, from, to, index);
     ended(p, stack, counts, from, sort, end)

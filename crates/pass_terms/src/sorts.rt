@@ -1,7 +1,6 @@
 // The sorts that a symbol takes, and the variables of a let.
 ghost use Rattle.std.specs.Prelude.{◌≡◌, false, not, ◌≤◌, length, replicate};
 ghost use Rattle.bundle.specs.Limits.{limits};
-ghost use Rattle.bundle.specs.File.{Whole, bundle_at};
 ghost use Rattle.bundle.specs.Links.{items};
 ghost use Rattle.bundle.specs.Lists.{same_list, has};
 ghost use Rattle.logic.specs.Symbols.{argument_sorts};
@@ -9,8 +8,6 @@ ghost use Rattle.scratch.specs.Stack.{halves};
 ghost use Rattle.pass_tokens.specs.Tokens.{equal_on};
 
 use bundle::Bundle;
-use bundle::lists::{first_link, next_link};
-use bundle::records::{link_field, symbol_field};
 use logic::Signature;
 use scratch::lists::half;
 
@@ -31,8 +28,7 @@ fn all_of_sort(stack: &[u64], from: usize, to: usize, count: usize, sort: usize)
     ensures { result ≡ same_list (replicate count sort) (halves false stack.now from to) }
 {
     let mut left = count;
-    let mut at = from;
-    while at < to {
+    for at in from..to {
         if left == 0 {
             return false;
         }
@@ -41,37 +37,32 @@ fn all_of_sort(stack: &[u64], from: usize, to: usize, count: usize, sort: usize)
             return false;
         }
         left -= 1;
-        at += 1;
     }
     left == 0
 }
 
 // Whether the pairs from `from` to before `to` have the sorts of a list, one each.
-fn sorts_of(file: &[u8], b: Bundle, list: usize, stack: &[u64], from: usize, to: usize) -> bool
-    requires { Whole file.now b × (from ≤ to) × (to ≤ length stack.now) }
-    ensures { result ≡ same_list (items (bundle_at file.now b) list) (halves false stack.now from to) }
+fn sorts_of(bundle: &Bundle, list: usize, stack: &[u64], from: usize, to: usize) -> bool
+    requires { (from ≤ to) × (to ≤ length stack.now) }
+    ensures { result ≡ same_list (items bundle.now list) (halves false stack.now from to) }
 {
-    let mut i = first_link(b, list);
-    let mut at = from;
-    while at < to {
-        if i == 0 {
+    let mut sorts = bundle.items(list);
+    for at in from..to {
+        let Some(sort) = sorts.next() else {
             return false;
-        }
-        let sort = link_field(file, b, i, 0);
+        };
         let pair = stack[at];
         if sort != half(pair, false) {
             return false;
         }
-        i = next_link(file, b, i);
-        at += 1;
     }
-    i == 0
+    sorts.next().is_none()
 }
 
 // Whether a symbol of this signature takes the sorts of the pairs from `from` to before `to`.
-pub fn takes(file: &[u8], b: Bundle, s: Signature, stack: &[u64], from: usize, to: usize) -> bool
-    requires { Whole file.now b × (from ≤ to) × (to ≤ length stack.now) }
-    ensures { result ≡ same_list (argument_sorts (bundle_at file.now b) s) (halves false stack.now from to) }
+pub fn takes(bundle: &Bundle, s: Signature, stack: &[u64], from: usize, to: usize) -> bool
+    requires { (from ≤ to) × (to ≤ length stack.now) }
+    ensures { result ≡ same_list (argument_sorts bundle.now s) (halves false stack.now from to) }
 {
     match s {
         Signature::BuiltIn {
@@ -80,8 +71,8 @@ pub fn takes(file: &[u8], b: Bundle, s: Signature, stack: &[u64], from: usize, t
             result: _,
         } => all_of_sort(stack, from, to, count, sort),
         Signature::Declared(i) => {
-            let list = symbol_field(file, b, i, 1);
-            sorts_of(file, b, list, stack, from, to)
+            let list = bundle.symbol_field(i, 1);
+            sorts_of(bundle, list, stack, from, to)
         }
         Signature::Unknown => from == to,
     }
@@ -99,13 +90,11 @@ fn not_among(stack: &[u64], from: usize, to: usize, x: usize) -> bool
     requires { (from ≤ to) × (to ≤ length stack.now) }
     ensures { result ≡ not (has x (halves false stack.now from to)) }
 {
-    let mut at = from;
-    while at < to {
+    for at in from..to {
         let pair = stack[at];
         if x == half(pair, false) {
             return false;
         }
-        at += 1;
     }
     true
 }

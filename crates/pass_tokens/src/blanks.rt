@@ -14,8 +14,7 @@ fn line_end(text: &[u8], i: usize) -> usize
     requires { i ≤ length text.now }
     ensures { LineEnd text.now i result }
 {
-    let mut j = i;
-    while j < text.len() {
+    for j in i..text.len() {
         let c = text[j];
         if c == 10 {
             return j;
@@ -23,9 +22,8 @@ fn line_end(text: &[u8], i: usize) -> usize
         if c == 13 {
             return j;
         }
-        j += 1;
     }
-    j
+    text.len()
 }
 
 // A byte from i on, no white space and no comment before it.
@@ -34,6 +32,7 @@ pub fn past_blanks(text: &[u8], i: usize) -> usize
     ensures { Blanks text.now i result }
 {
     let mut j = i;
+    // No `for`: a comment is skipped as a whole.
     while j < text.len() {
         let c = text[j];
         if c > 32 {

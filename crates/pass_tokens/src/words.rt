@@ -4,7 +4,6 @@ ghost use Rattle.bundle.specs.Limits.{limits};
 ghost use Rattle.pass_tokens.specs.Tokens.{goes_on, RunStops, DigitsAt, WordStands, WordAt};
 
 use super::Token;
-use lexing::runs::wide;
 
 // Digits, from a byte on: their value, and the byte after them.
 #[derive(Clone, Copy)]
@@ -61,9 +60,8 @@ fn numeral(text: &[u8], from: usize, high: usize) -> Digits
     ensures { DigitsAt text.now from high result }
 {
     let mut n = 0;
-    let mut j = from;
-    while j < text.len() {
-        let c = wide(text[j]);
+    for j in from..text.len() {
+        let c = usize::from(text[j]);
         if c < 48 {
             return Digits { value: n, end: j };
         }
@@ -77,9 +75,11 @@ fn numeral(text: &[u8], from: usize, high: usize) -> Digits
         if n == 0 {
             return Digits { value: 0, end: j };
         }
-        j += 1;
     }
-    Digits { value: n, end: j }
+    Digits {
+        value: n,
+        end: text.len(),
+    }
 }
 
 // Whether a word stands at byte `start`, where its first byte does, and the run ends with it.
@@ -91,12 +91,10 @@ fn word_stands(text: &[u8], start: usize, spelled: &[u8]) -> bool
     if text.len() - start < n {
         return false;
     }
-    let mut k = 1;
-    while k < n {
+    for k in 1..n {
         if text[start + k] != spelled[k] {
             return false;
         }
-        k += 1;
     }
     run_stops(text, start + n)
 }

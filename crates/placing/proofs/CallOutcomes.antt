@@ -18,7 +18,7 @@ use mathlib.Core.List.{List, [], ◌∷◌}
 use Prim.Native.Nat.{ℕ, zero, suc, ◌≤◌}
 use native.Mathlib.Omega.{arith}
 use lib.ListN.{length, length-append}
-use Rattle.bundle.specs.declared.Bundle.{Bundle as Counts}
+use Rattle.bundle.specs.declared.Counts.{Counts}
 use Rattle.bundle.specs.Bundle.{Bundle, TermRecord, Context, sort_of_variable}
 use Rattle.bundle.specs.Limits.{limits}
 use Rattle.logic.specs.declared.Image.TheVariants.{Own, Gives}

@@ -12,7 +12,7 @@ use mathlib.Core.List.{List, [], ◌∷◌}
 use Prim.Native.Nat.{ℕ, zero, suc, ◌+◌, ◌≤◌, ◌<◌}
 use native.Mathlib.Omega.{arith}
 use lib.ListN.{length, get_or, length-append}
-use Rattle.bundle.specs.declared.Bundle.{Bundle as Counts}
+use Rattle.bundle.specs.declared.Counts.{Counts}
 use Rattle.bundle.specs.Bundle.{Bundle, TermRecord, Context, Step}
 use Rattle.bundle.specs.File.{bundle_by}
 use Rattle.bundle.specs.Limits.{limits, Within}

@@ -2,7 +2,7 @@
 -- one does.
 use Rattle.logic.specs.Terms.{binder, number_of}
 use Rattle.std.specs.Prelude.{◌≡◌, true, false, List, ℕ, ◌+◌, ◌≤◌, ◌<◌, ◌⊎◌, length, take}
-use Rattle.bundle.specs.declared.Bundle.{Bundle as Counts}
+use Rattle.bundle.specs.declared.Counts.{Counts}
 use Rattle.bundle.specs.Bundle.{Bundle, link_of, term_of}
 use Rattle.bundle.specs.Limits.{limits, Within}
 use Rattle.logic.specs.Lists.{Number}

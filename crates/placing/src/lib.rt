@@ -13,8 +13,8 @@ ghost use Rattle.expansion.specs.Placed.{place_variable, place_application, plac
 ghost use Rattle.expansion.specs.Visit.{fresh};
 ghost use Rattle.placing.specs.Outcomes.{VisitOutcome, OpenOutcome, PlaceOutcome, AddOutcome, RecordIndexed};
 
-use bundle::Bundle;
 use bundle::digests::DIGESTS;
+use bundle::{Bundle, Counts};
 use filing::filing::{file_term, mixed_halves, pairs_digest, root_digest};
 use filing::lookups::{find_application, find_binder, find_let, find_variable};
 use logic::kinds::{APPLICATION, LET, VARIABLE};
@@ -27,7 +27,7 @@ use scratch::records::variable_sort;
 #[derive(Clone, Copy)]
 pub enum Visited {
     Done {
-        counts: Bundle,
+        counts: Counts,
         result: usize,
         step: usize,
     },
@@ -37,7 +37,7 @@ pub enum Visited {
 // What a visit to a list answers: the counts, and where the stack of pairs ends.
 #[derive(Clone, Copy)]
 pub enum Listed {
-    Done { counts: Bundle, height: usize },
+    Done { counts: Counts, height: usize },
     Full,
 }
 
@@ -45,7 +45,7 @@ pub enum Listed {
 // its limit.
 #[derive(Clone, Copy)]
 pub enum Recorded {
-    Done { counts: Bundle, number: usize },
+    Done { counts: Counts, number: usize },
     Full,
 }
 
@@ -54,7 +54,7 @@ pub enum Recorded {
 #[derive(Clone, Copy)]
 pub enum Opened {
     Done {
-        counts: Bundle,
+        counts: Counts,
         context: usize,
         variable: usize,
     },
@@ -66,7 +66,7 @@ pub enum Opened {
 // The results, or the steps, of the pairs from `from` to before `to`, as a list.
 pub fn add_halves(
     words: &mut [u32],
-    c: Bundle,
+    c: Counts,
     stack: &[u64],
     upper: bool,
     from: usize,
@@ -90,7 +90,7 @@ pub fn add_halves(
 }
 
 // One value, as a list.
-pub fn add_value(words: &mut [u32], c: Bundle, value: usize) -> Recorded
+pub fn add_value(words: &mut [u32], c: Counts, value: usize) -> Recorded
     requires { Ready words.old c × (value ≤ 4294967295) }
     ensures { (length words.new ≡ length words.old)
         × AddOutcome (bundle_in words.old c) (value ∷ []) words.new result }
@@ -109,7 +109,7 @@ pub fn add_value(words: &mut [u32], c: Bundle, value: usize) -> Recorded
 // A term, filed by its digest, which is d.
 pub fn add_term(
     words: &mut [u32],
-    c: Bundle,
+    c: Counts,
     kind: usize,
     first: usize,
     second: usize,
@@ -144,7 +144,7 @@ pub fn add_term(
 // term.
 fn add_listed_term(
     words: &mut [u32],
-    c: Bundle,
+    c: Counts,
     kind: usize,
     first: usize,
     stack: &[u64],
@@ -178,7 +178,7 @@ fn add_listed_term(
 
 pub fn add_context(
     words: &mut [u32],
-    c: Bundle,
+    c: Counts,
     kind: usize,
     first: usize,
     second: usize,
@@ -206,7 +206,7 @@ pub fn add_context(
 
 pub fn add_step(
     words: &mut [u32],
-    c: Bundle,
+    c: Counts,
     rule: usize,
     context: usize,
     left: usize,
@@ -239,7 +239,7 @@ pub fn add_step(
 // The term of a symbol at the results of the pairs from `from` to before `to`, looked up before it is appended.
 pub fn place_application(
     words: &mut [u32],
-    c: Bundle,
+    c: Counts,
     symbol: usize,
     stack: &[u64],
     from: usize,
@@ -266,7 +266,7 @@ pub fn place_application(
 // The term of the variable y, looked up before it is appended.
 pub fn place_variable(
     words: &mut [u32],
-    c: Bundle,
+    c: Counts,
     y: usize,
     index: &mut [u16; DIGESTS + Bundle::TERMS + 1],
 ) -> Recorded
@@ -288,7 +288,7 @@ pub fn place_variable(
 // A new variable of the sort of x, and its term.
 pub fn place_fresh(
     words: &mut [u32],
-    c: Bundle,
+    c: Counts,
     x: usize,
     index: &mut [u16; DIGESTS + Bundle::TERMS + 1],
 ) -> Recorded
@@ -309,7 +309,7 @@ pub fn place_fresh(
 // The term of a binder of y in the term `body`, looked up before it is appended.
 pub fn place_binder(
     words: &mut [u32],
-    c: Bundle,
+    c: Counts,
     kind: usize,
     y: usize,
     body: usize,
@@ -336,7 +336,7 @@ pub fn place_binder(
 // the upper halves are the terms that they are bound to.
 pub fn place_let(
     words: &mut [u32],
-    c: Bundle,
+    c: Counts,
     body: usize,
     stack: &[u64],
     from: usize,

@@ -16,12 +16,12 @@ use mathlib.Core.List.{List, []}
 use lib.ListN.{length, take}
 use lib.Dec.{eqb}
 use borrow.Author.Tests.{eqb-true}
-use Rattle.bundle.specs.declared.Bundle.{Bundle as Counts}
+use Rattle.bundle.specs.declared.Counts.{Counts}
 use Rattle.bundle.specs.Bundle.{Bundle}
 use Rattle.bundle.specs.Limits.{limits, bytes_of}
 use Rattle.bundle.specs.File.{Whole, bundle_at, bundle_of}
 use Rattle.bundle.proofs.Limits.{within_words}
-use Rattle.logic.specs.declared.Fault.{Fault}
+use Rattle.logic.specs.Tests.{Fault}
 use Rattle.logic.specs.Tests.{fault}
 use Rattle.logic.specs.Symbols.{truth_sort}
 use Rattle.logic.specs.WellFormed.{TablesFormed}

@@ -1,30 +1,26 @@
 -- The checks of the declarations, as the code makes them.
---     bare_is                                          18, by the counts and words that the code has read
+--     bare_is                                          18, by the counts and words
 --     header_here, section_here, not_bare, all_hold    1 to 4, 5 and 6, 18 and none
 use Prim.Native.Nat.{ℕ}
 use mathlib.Core.Path.{◌≡◌, refl, sym, ap, ◌∙◌}
 use mathlib.Core.Bool.{Bool, true, false, cond, ◌&&◌}
 use mathlib.Core.List.{List}
+use lib.ListN.{length}
 use lib.Dec.{eqb}
-use Rattle.bundle.specs.declared.Bundle.{Bundle as Counts}
 use Rattle.bundle.specs.Bundle.{Bundle}
-use Rattle.bundle.specs.Words.{word_at}
-use Rattle.bundle.specs.File.{bundle_at, bundle_of, counts_of}
-use Rattle.bundle.proofs.Fields.{left_is, right_is, terms_length, contexts_length, steps_length}
-use Rattle.logic.specs.declared.Fault.{Fault}
+use Rattle.bundle.specs.File.{bundle_of}
+use Rattle.logic.specs.Tests.{Fault}
 use Rattle.logic.specs.Tests.{passed, first_failing, fault, or_else}
 use Rattle.logic.specs.Checks.{header_fault}
 use Rattle.logic.proofs.Firsts.{or_else_on, or_else_here}
-use Rattle.logic.proofs.Headers.{bundle_is}
 use Rattle.declarations.specs.Sections.{declared_fault}
 use Rattle.declarations.proofs.Sections.{sections_here, sections_on}
 use Rattle.expansion.specs.Expansion.{long_enough}
 use Rattle.reading.specs.Reading.{is_declarations, last_tests, declarations_fault}
 
-pub bare_is : (f : List ℕ) (c : Counts) {left right : ℕ} → left ≡ word_at f 7 → right ≡ word_at f 8
-    → eqb c.terms 0 && eqb c.contexts 0 && eqb c.steps 0 && eqb left 0 && eqb right 0 ≡ is_declarations (bundle_at f c)
+pub bare_is : (b : Bundle) → eqb (length b.terms) 0 && eqb (length b.contexts) 0 && eqb (length b.steps) 0 && eqb b.left 0 && eqb b.right 0 ≡ is_declarations b
 unfolding passed
-bare_is f c l r = rw (terms_length, contexts_length, steps_length, left_is, right_is, ← l, ← r)
+bare_is b = refl
 
 -- what 18 says
 last_fault : Bundle → Fault
@@ -43,11 +39,11 @@ module _ (f : List ℕ) (out words sets : ℕ) where
   unfolding declarations_fault
   header_here n e ne = rw (← e) (sym (or_else_here n 0 _ ne))
 
-  -- 1 to 4 do not fail; r is what 5 and 6 find, by the counts c that the code has read
-  module _ (none : header_fault f (long_enough out words sets) 3 ≡ 0) (c : Counts) (counted : c ≡ counts_of f) (r : Fault)
-      (found : r ≡ declared_fault (bundle_at f c)) where
+  -- 1 to 4 do not fail; r is what 5 and 6 find in the bundle b that the code has opened
+  module _ (none : header_fault f (long_enough out words sets) 3 ≡ 0) {b : Bundle} (opened : b ≡ bundle_of f) (r : Fault)
+      (found : r ≡ declared_fault b) where
     found_is : r ≡ declared_fault (bundle_of f)
-    found_is = found ∙ ap declared_fault (bundle_is f counted)
+    found_is = found ∙ ap declared_fault opened
 
     pub section_here : (r.number ≡ 0 → ⊥) → r ≡ declarations_fault f out words sets
     unfolding declarations_fault last_fault
@@ -58,10 +54,10 @@ module _ (f : List ℕ) (out words sets : ℕ) where
     last_left z = sections_on (bundle_of f) (last_fault (bundle_of f)) r found_is z ∙ sym (or_else_on _ 0 _ none)
 
     -- p is what the code answers for 18
-    module _ (z : r.number ≡ 0) (p : Bool) (said : p ≡ is_declarations (bundle_at f c)) where
+    module _ (z : r.number ≡ 0) (p : Bool) (said : p ≡ is_declarations b) where
       by_test : cond p (fault 0 0) (fault 18 0) ≡ declarations_fault f out words sets
       by_test =
-          ap (λ (q : Bool). cond q (fault 0 0) (fault 18 0)) (said ∙ ap (λ (b : Bundle). is_declarations b) (bundle_is f counted))
+          ap (λ (q : Bool). cond q (fault 0 0) (fault 18 0)) (said ∙ ap (λ (b : Bundle). is_declarations b) opened)
           ∙ sym (last_is (bundle_of f)) ∙ last_left z
 
       pub not_bare : p ≡ false → fault 18 0 ≡ declarations_fault f out words sets

@@ -11,7 +11,7 @@ use Rattle.bundle.specs.Bundle.{Bundle}
 use Rattle.bundle.specs.Limits.{limits, bytes_of}
 use Rattle.bundle.specs.File.{counts_of, bundle_of}
 use Rattle.bundle.proofs.Limits.{within_words}
-use Rattle.logic.specs.declared.Fault.{Fault}
+use Rattle.logic.specs.Tests.{Fault}
 use Rattle.logic.specs.Tests.{first_failing, fault, or_else, or_next}
 use Rattle.logic.specs.Checks.{header_fault, links_fault, symbols_fault, variables_fault, terms_fault, sections_fault, tables_fault}
 use Rattle.judgement.specs.Order.{FirstFailing}

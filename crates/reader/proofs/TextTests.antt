@@ -1,16 +1,15 @@
 -- What refuses a text, as the code finds it.
---     scan_refuses     19 or 20
+--     scan_unread, scan_unknown     19 or 20
+--     scan_neither     neither
 --     scan_passes      neither, and what is said of the sorts
 use Prim.Native.Nat.{ℕ}
 use native.Mathlib.Omega.{arith}
 use mathlib.Core.Path.{◌≡◌, refl, sym, ap, ◌∙◌}
 use mathlib.Core.Bool.{Bool, true, false, cond}
 use mathlib.Core.List.{List}
-use Rattle.bundle.specs.declared.Bundle.{Bundle as Counts}
+use lib.ListN.{length}
 use Rattle.bundle.specs.Bundle.{Bundle}
-use Rattle.bundle.specs.File.{bundle_at}
-use Rattle.bundle.proofs.Fields.{symbols_length, variables_length}
-use Rattle.logic.specs.declared.Fault.{Fault}
+use Rattle.logic.specs.Tests.{Fault}
 use Rattle.logic.specs.Tests.{fault}
 use Rattle.grammar.specs.Names.{Name, Resolved, resolved, unread_at, unknown_at, resolve}
 use Rattle.grammar.proofs.NamesExact.{resolved_exactly}
@@ -22,20 +21,17 @@ use Rattle.spots.specs.Judgement.{declared_by, verdict_of}
 use Rattle.node_tests.specs.Tests.{Judges}
 use Rattle.reader.specs.Texts.{text_fault}
 
-module _ (f : List ℕ) (c : Counts) where
-  abbrev D : Bundle
-  D = bundle_at f c
-
-  -- the counts that the code has read say which names are known
-  known_at : (x : Name) → declared_by c.symbols c.variables x ≡ known_in D x
+module _ (D : Bundle) where
+  -- the counts say which names are known
+  known_at : (x : Name) → declared_by (length D.symbols) (length D.variables) x ≡ known_in D x
   unfolding declared_by known_in
-  known_at x = sym (rw (symbols_length, variables_length) at ((counts_suffice D x.spelled).known x.place))
+  known_at x = sym ((counts_suffice D x.spelled).known x.place)
 
-  known_is : declared_by c.symbols c.variables ≡ known_in D
+  known_is : declared_by (length D.symbols) (length D.variables) ≡ known_in D
   known_is = λ i x. known_at x i
 
   -- v is the verdict
-  module _ (text : List ℕ) (v : Verdict) (told : v ≡ verdict_of (resolve (declared_by c.symbols c.variables) text)) where
+  module _ (text : List ℕ) (v : Verdict) (told : v ≡ verdict_of (resolve (declared_by (length D.symbols) (length D.variables)) text)) where
     told_is : v ≡ verdict_of (resolve (known_in D) text)
     told_is = told ∙ ap (λ (known : Name → Bool). verdict_of (resolve known text)) known_is
 
@@ -45,10 +41,27 @@ module _ (f : List ℕ) (c : Counts) where
     refuses (unread_at n) ne = refl
     refuses (unknown_at n) ne = refl
 
-    pub scan_refuses : (v.number ≡ 0 → ⊥) → fault v.number v.byte ≡ text_fault D (resolve (known_in D) text)
+    scan_refuses : (v.number ≡ 0 → ⊥) → fault v.number v.byte ≡ text_fault D (resolve (known_in D) text)
     scan_refuses ne =
         ap (λ (x : Verdict). fault x.number x.byte) told_is
         ∙ refuses (resolve (known_in D) text) (λ z. ne (ap (λ (x : Verdict). x.number) told_is ∙ z))
+
+    pub scan_unread : v.number ≡ 19 → fault 19 v.byte ≡ text_fault D (resolve (known_in D) text)
+    scan_unread e = ap (λ (n : ℕ). fault n v.byte) (sym e) ∙ scan_refuses (λ z. omega arith)
+
+    pub scan_unknown : v.number ≡ 20 → fault 20 v.byte ≡ text_fault D (resolve (known_in D) text)
+    scan_unknown e = ap (λ (n : ℕ). fault n v.byte) (sym e) ∙ scan_refuses (λ z. omega arith)
+
+    no_others : (r : Resolved) → ((verdict_of r).number ≡ 19 → ⊥) → ((verdict_of r).number ≡ 20 → ⊥) → (verdict_of r).number ≡ 0
+    unfolding verdict_of
+    no_others (resolved φ) a b = refl
+    no_others (unread_at n) a b = absurd (a refl)
+    no_others (unknown_at n) a b = absurd (b refl)
+
+    pub scan_neither : (v.number ≡ 19 → ⊥) → (v.number ≡ 20 → ⊥) → v.number ≡ 0
+    scan_neither a b =
+        let is : v.number ≡ (verdict_of (resolve (known_in D) text)).number = ap (λ (x : Verdict). x.number) told_is in
+        is ∙ no_others (resolve (known_in D) text) (λ z. a (is ∙ z)) (λ z. b (is ∙ z))
 
     -- p is what is said of the sorts
     module _ (p : Bool) (judged : Judges D text p) where

@@ -1,6 +1,6 @@
 -- What storing the job of a text asks and gives, beside declarations of which no check fails.
 use Rattle.std.specs.Prelude.{ℕ, ◌≡◌, List, length}
-use Rattle.bundle.specs.declared.Bundle.{Bundle as Counts}
+use Rattle.bundle.specs.declared.Counts.{Counts}
 use Rattle.bundle.specs.File.{counts_of}
 use Rattle.expansion.specs.declared.Answer.{Answer}
 use Rattle.expansion.specs.AreasAfter.{Stored}

@@ -1,7 +1,7 @@
 -- What refuses a text before its records are placed.
 use Rattle.std.specs.Prelude.{Bool, cond, ◌&&◌, eqb}
 use Rattle.bundle.specs.Bundle.{Bundle}
-use Rattle.logic.specs.declared.Fault.{Fault}
+use Rattle.logic.specs.Tests.{Fault}
 use Rattle.logic.specs.Tests.{fault}
 use Rattle.logic.specs.Symbols.{truth_sort}
 use Rattle.grammar.specs.Grammar.{Formula}

@@ -1,41 +1,47 @@
 // The checks of the declarations: 1 to 6, then 18.
-ghost use Rattle.std.specs.Prelude.{◌≡◌};
-ghost use Rattle.bundle.specs.File.{Whole, bundle_at};
+ghost use Rattle.std.specs.Prelude.{◌≡◌, IfOk};
+ghost use Rattle.bundle.specs.File.{bundle_of};
+ghost use Rattle.logic.specs.Failures.{fault_in};
 ghost use Rattle.reading.specs.Reading.{is_declarations, declarations_fault};
 
 use bundle::Bundle;
-use bundle::words::{claim_left, claim_right};
-use logic::{Fault, no_fault};
+use declarations::header::opened;
+use logic::checks::{Check, Failure};
 
 // Whether T, C, P and both claim words are 0.
-fn is_declarations(file: &[u8], b: Bundle) -> bool
-    requires { Whole file.now b }
-    ensures { result ≡ is_declarations (bundle_at file.now b) }
+fn is_declarations(bundle: &Bundle) -> bool
+    ensures { result ≡ is_declarations bundle.now }
 {
-    let left = claim_left(file);
-    let right = claim_right(file);
-    (b.terms == 0) & (b.contexts == 0) & (b.steps == 0) & (left == 0) & (right == 0)
+    let terms = bundle.terms();
+    let contexts = bundle.contexts();
+    let steps = bundle.steps();
+    let left = bundle.claim_left();
+    let right = bundle.claim_right();
+    (terms == 0) & (contexts == 0) & (steps == 0) & (left == 0) & (right == 0)
 }
 
-// The first of the checks 1 to 6 and 18 that the declarations fail, where the lent areas have these lengths.
-pub fn declarations_fault(file: &[u8], out: usize, words: usize, sets: usize) -> Fault
-    ensures { result ≡ declarations_fault file.now out words sets }
+// The declarations as a bundle; or the first of the checks 1 to 6 and 18 that they fail, where the lent areas have these lengths.
+pub fn declarations_fault(
+    file: &[u8],
+    out: usize,
+    words: usize,
+    sets: usize,
+) -> Result<Bundle<'_>, Failure>
+    ensures fault { fault_in result ≡ declarations_fault file.now out words sets }
+    ensures bundle { IfOk result (λ b. b ≡ bundle_of file.now) }
 {
     let enough = areas::long_enough(out, words, sets);
-    let number = declarations::header::header_fault(file, enough, 3);
-    if number != 0 {
-        return Fault { number, record: 0 };
+    match opened(file, enough, 3) {
+        Err(check) => Err(Failure { check, record: 0 }),
+        Ok(bundle) => {
+            declarations::sections_fault(&bundle)?;
+            if !is_declarations(&bundle) {
+                return Err(Failure {
+                    check: Check::Job,
+                    record: 0,
+                });
+            }
+            Ok(bundle)
+        }
     }
-    let b = bundle::words::counts(file);
-    let early = declarations::sections_fault(file, b);
-    if early.number != 0 {
-        return early;
-    }
-    if !is_declarations(file, b) {
-        return Fault {
-            number: 18,
-            record: 0,
-        };
-    }
-    no_fault()
 }

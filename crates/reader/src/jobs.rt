@@ -3,14 +3,15 @@ ghost use Rattle.std.specs.Prelude.{◌≡◌, length};
 ghost use Rattle.expansion.specs.declared.Answer.TheVariants.{Written};
 ghost use Rattle.reader.specs.Storing.{Cleared, TextStored};
 
-use bundle::Bundle;
+use bundle::{Bundle, Counts};
 use endings::ReadTerm;
 use expansion::Answer;
+use logic::checks::Check;
 
 // By one pass over the text: the length of the job; or 0 where the pass is given up.
 pub fn store_passed(
     declarations: &[u8],
-    b: Bundle,
+    b: Counts,
     text: &[u8],
     out: &mut [u8],
     words: &mut [u32],
@@ -34,7 +35,7 @@ pub fn store_passed(
 // By every check in its order: what refuses the text; or its records are placed.
 pub fn store_checked(
     declarations: &[u8],
-    b: Bundle,
+    b: Counts,
     text: &[u8],
     out: &mut [u8],
     words: &mut [u32],
@@ -43,18 +44,18 @@ pub fn store_checked(
     ensures { TextStored declarations.now b text.now out.old words.old out.new
         words.new result }
 {
-    let found = super::texts::text_fault(declarations, b, text, out);
-    if found.number != 0 {
+    let bundle = Bundle::of(declarations, b);
+    if let Err(found) = super::texts::text_fault(&bundle, text, out) {
         return Answer::Refused {
-            number: found.number,
+            number: found.check.number(),
             record: found.record,
         };
     }
     files::copies::copy_job(declarations, b, words);
-    let records = formulas::texts::read_records(declarations, b, text, words, b);
+    let records = formulas::texts::read_records(&bundle, text, words, b);
     match records {
         ReadTerm::Full => Answer::Refused {
-            number: 16,
+            number: Check::Room.number(),
             record: 0,
         },
         ReadTerm::Done {

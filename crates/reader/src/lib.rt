@@ -23,14 +23,17 @@ fn store_read(
     ensures { Stored (reading declarations.now text.now (length out.old) (length words.old)
         (length sets.old)) out.old words.old sets.old out.new words.new sets.new result }
 {
-    let early = checks::declarations_fault(declarations, out.len(), words.len(), sets.len());
-    if early.number != 0 {
-        return Answer::Refused {
-            number: early.number,
-            record: early.record,
-        };
-    }
-    let b = bundle::words::counts(declarations);
+    let opened = checks::declarations_fault(declarations, out.len(), words.len(), sets.len());
+    let bundle = match opened {
+        Err(early) => {
+            return Answer::Refused {
+                number: early.check.number(),
+                record: early.record,
+            };
+        }
+        Ok(bundle) => bundle,
+    };
+    let b = bundle.counts();
     let length = jobs::store_passed(declarations, b, text, out, words);
     if length != 0 {
         return Answer::Written { length };

@@ -11,7 +11,7 @@ use lib.ListN.{length}
 use borrow.Author.Tests.{eqb-true, eq-eqb}
 use Rattle.bundle.specs.Bundle.{Bundle}
 use Rattle.bundle.specs.File.{bundle_of}
-use Rattle.logic.specs.declared.Fault.{Fault}
+use Rattle.logic.specs.Tests.{Fault}
 use Rattle.logic.specs.Tests.{first_failing, fault, or_else, or_next}
 use Rattle.logic.specs.Checks.{header_tests, header_fault, link_tests, link_fault, links_fault, symbol_tests, symbol_fault, symbols_fault, variable_tests, variable_fault}
 use Rattle.logic.specs.Checks.{variables_fault}

@@ -2,7 +2,7 @@
 use Rattle.std.specs.Prelude.{ℕ, zero, suc, Bool, List, [], ◌∷◌, length, eqb}
 use Rattle.bundle.specs.Bundle.{Bundle}
 use Rattle.bundle.specs.File.{bundle_of}
-use Rattle.logic.specs.declared.Fault.{Fault}
+use Rattle.logic.specs.Tests.{Fault}
 use Rattle.logic.specs.Tests.{passed, Test, test, first_failing, fault, or_else, or_next}
 use Rattle.logic.specs.Checks.{header_fault, links_fault, symbols_fault, variables_fault}
 use Rattle.expansion.specs.File.{file_of}

@@ -1,16 +1,18 @@
 -- BIND's side over a set of any number of words: word by word.
 --     apart           the side for one variable
 --     words_on        one word more
---     words_end, words_past      all variables are gone over; or all words are
+--     words_end       all words are gone over, or all variables
 --     words_fail      one variable is hit
+--     set_word        a word of the set, in the part of the words where it stands
 --     apart_none      a number that is no term's has no free variables
 use native.Mathlib.Omega.{arith}
 use native.Mathlib.Decide.{dec_le}
 use Prim.Native.Nat.{ℕ, ◌+◌, ◌*◌, ◌-◌, ◌/◌, ◌%◌, ◌≤◌, ◌<◌}
-use mathlib.Core.Path.{◌≡◌, refl, sym, ap, ◌∙◌}
+use mathlib.Core.Path.{◌≡◌, refl, sym, ◌∙◌}
 use mathlib.Core.Bool.{Bool, true, false, cond, not, ◌||◌, false≢true}
 use mathlib.Core.List.{List}
-use lib.ListN.{get_or}
+use lib.ListN.{get_or, take, drop}
+use lib.Seq.{get_or-take, get_or-drop}
 use Rattle.sets.specs.Sets.{bit_at, holds, member}
 use Rattle.sets.proofs.Members.{held, member_bit}
 use Rattle.logic.specs.Tests.{up_to}
@@ -25,6 +27,9 @@ apart free hit z = not (free z) || not (hit z)
 
 pub apart_none : (free hit : ℕ → Bool) (last : ℕ) → ((x : ℕ) → free x ≡ false) → up_to last (apart free hit) ≡ true
 apart_none free hit last none = up_to_all last (apart free hit) (λ x one few. rw (none x))
+
+pub set_word : (w : List ℕ) (at m k : ℕ) → k < m → get_or (take (at + m - at) (drop at w)) k 0 ≡ get_or w (at + k) 0
+set_word w at m k low = get_or-take (at + m - at) (drop at w) k 0 (omega arith) ∙ get_or-drop at w k 0
 
 -- a number that no word of the set has a bit for
 not_member : (w : List ℕ) (at n x : ℕ) → 64 * n < x → member w at n x ≡ false
@@ -62,15 +67,14 @@ module _ (terms : ℕ) (w : List ℕ) (n left last : ℕ) (hit : ℕ → Bool) (
           rw e at
           (both (free (64 * k + 1 + i)) (hit (64 * k + 1 + i)) (λ m. word i bit (omega arith) (sym (free_bit k i low bit) ∙ m)))
 
-  pub words_end : (m : ℕ) → last ≤ m → Apart m → up_to last (apart free hit) ≡ true
-  words_end m all done = up_to_all last (apart free hit) (λ x one most. done x one (omega arith) most)
-
-  pub words_past : (k : ℕ) → n ≤ k → k ≤ n → Apart (64 * k) → up_to last (apart free hit) ≡ true
-  words_past k past here done = up_to_all last (apart free hit) (λ x one most. go x one most (dec_le x (64 * k)))
+  pub words_end : (k : ℕ) → (k < n → last ≤ 64 * k) → Apart (64 * k) → up_to last (apart free hit) ≡ true
+  words_end k over done = up_to_all last (apart free hit) (λ x one most. go x one most (dec_le x (64 * k)))
     where
       go : (x : ℕ) → 1 ≤ x → x ≤ last → Dec (x ≤ 64 * k) → apart free hit x ≡ true
       go x one most (yes l) = done x one l most
-      go x one most (no l) = rw (free_some terms w n left x some few, not_member w (n * (left - 1)) n x (omega arith))
+      go x one most (no l) =
+          let past : k < n → ⊥ = λ low. omega (arith, over low) in
+          rw (free_some terms w n left x some few, not_member w (n * (left - 1)) n x (omega (arith, past)))
 
   pub words_fail : (k : ℕ) → k < n → WordHit (get_or w (n * (left - 1) + k) 0) (64 * k) last hit → up_to last (apart free hit) ≡ false
   words_fail k low word = go (up_to last (apart free hit)) refl

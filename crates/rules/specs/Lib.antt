@@ -1,7 +1,5 @@
 -- What the contracts of this crate say of the code's steps.
---     StepWords      a step as the code holds it
 --     WalkLists      the lists that the walk of CONG and LET takes
 --     WordSides      a side of BIND, for the variables of one word of a set
-pub mod StepWords
 pub mod WalkLists
 pub mod WordSides

@@ -3,16 +3,6 @@
 
 pub mod rules; // rules.rt: REFL, CONG, TRANS, BIND, LET
 
-// The words of a step.
-#[derive(Clone, Copy)]
-pub struct StepWords {
-    pub rule: usize,
-    pub context: usize,
-    pub left: usize,
-    pub right: usize,
-    pub premises: usize,
-}
-
 // What a step's walk takes beside its premises: the context in which they carry the terms of one list to those of another, and whether one more is left
 // over for a let's body. `good` says whether the rest of what the rule asks for is there.
 #[derive(Clone, Copy)]

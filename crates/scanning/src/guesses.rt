@@ -6,7 +6,7 @@ ghost use Rattle.spots.specs.Guesses.{guess_column, if_between, guess_inside, gu
 
 use crate::runs::{lexeme_from, run_end};
 use crate::tables::cell;
-use lexing::runs::{class_code, wide, word_code};
+use lexing::runs::{class_code, word_code};
 use spots::Guess;
 
 // A cell of the table, for what may be no spot.
@@ -14,7 +14,7 @@ fn guess_cell(spot: u8, column: usize) -> u8
     requires { column < 14 }
     ensures { result ≡ get_or table (spot * 14 + column) 0 }
 {
-    let at = wide(spot) * 14 + column;
+    let at = usize::from(spot) * 14 + column;
     if at < 294 {
         return cell(at);
     }
@@ -147,6 +147,7 @@ pub fn find_levels(text: &[u8], area: &mut [u8], stop: usize, low: usize, top: u
         spot: 1,
     };
     let mut i = lexeme_from(text, 0);
+    // No `for`: a turn goes on to the next lexeme.
     while i < stop {
         g = guess_turn(text, area, g, i, low, top);
         i = g.next;

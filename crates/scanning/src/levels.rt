@@ -6,7 +6,6 @@ ghost use Rattle.spots.specs.Turns.{Closing, Popped};
 
 use crate::guesses::find_levels;
 use crate::tables::cell;
-use lexing::runs::wide;
 use spots::Place;
 
 // An opening bracket: its spot is held, and the scan goes inside. A full area is begun anew.
@@ -62,7 +61,7 @@ pub fn pop(text: &[u8], area: &mut [u8], p: Place, back: usize, i: usize) -> Pla
         let low = lowest(base);
         find_levels(text, area, i, low, base);
         let below = base - low - 1;
-        let held = wide(area[below]);
+        let held = usize::from(area[below]);
         return Place {
             spot: held,
             height: below,
@@ -77,7 +76,7 @@ pub fn pop(text: &[u8], area: &mut [u8], p: Place, back: usize, i: usize) -> Pla
             base,
         };
     }
-    let held = wide(area[below]);
+    let held = usize::from(area[below]);
     Place {
         spot: held,
         height: below,

@@ -10,17 +10,15 @@ pub fn lexeme_from(text: &[u8], from: usize) -> usize
     requires { from ≤ length text.now }
     ensures { result ≡ lexeme_from text.now from }
 {
-    let mut j = from;
     let mut comment = false;
-    while j < text.len() {
+    for j in from..text.len() {
         let class = class_code(text[j]);
         if !(comment | (class < 3)) {
             return j;
         }
         comment = (comment & (class != 1)) | (class == 2);
-        j += 1;
     }
-    j
+    text.len()
 }
 
 // The byte behind the run from a byte on.
@@ -28,16 +26,13 @@ pub fn run_end(text: &[u8], from: usize) -> usize
     requires { from ≤ length text.now }
     ensures { result ≡ run_end text.now from }
 {
-    let mut j = from;
-    while j < text.len() {
+    for j in from..text.len() {
         let class = class_code(text[j]);
-        if (class == 5) | (class == 6) {
-            j += 1;
-        } else {
+        if !((class == 5) | (class == 6)) {
             return j;
         }
     }
-    j
+    text.len()
 }
 
 // How many bytes of a run may start a sort.

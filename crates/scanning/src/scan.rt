@@ -8,7 +8,7 @@ use crate::levels::{pop, push};
 use crate::runs::{lexeme_from, run_end};
 use crate::tables::cell;
 use crate::words::word;
-use lexing::runs::{class_code, wide};
+use lexing::runs::class_code;
 use spots::{Place, Turn, Verdict};
 
 // One lexeme.
@@ -36,7 +36,7 @@ fn turn(text: &[u8], symbols: usize, variables: usize, area: &mut [u8], p: Place
         };
     }
     if class == 3 {
-        let inside = wide(cell(spot * 14));
+        let inside = usize::from(cell(spot * 14));
         if inside < 20 {
             let next = lexeme_from(text, i + 1);
             let q = push(area, p, inside);
@@ -55,7 +55,7 @@ fn turn(text: &[u8], symbols: usize, variables: usize, area: &mut [u8], p: Place
         };
     }
     if class == 4 {
-        let back = wide(cell(spot * 14 + 1));
+        let back = usize::from(cell(spot * 14 + 1));
         if back < 99 {
             let next = lexeme_from(text, i + 1);
             let q = pop(text, area, p, back, i);
@@ -92,6 +92,7 @@ pub fn scan(text: &[u8], symbols: usize, variables: usize, area: &mut [u8]) -> V
         base: 0,
     };
     let mut i = lexeme_from(text, 0);
+    // No `for`: a turn goes on to the next lexeme.
     while i < text.len() {
         let t = turn(text, symbols, variables, area, p, i);
         let number = t.number;

@@ -6,7 +6,7 @@ ghost use Rattle.spots.specs.Judgement.{declared_by, viable_bytes, word_met};
 use crate::runs::sort_start;
 use crate::tables::cell;
 use lexing::names::known_as;
-use lexing::runs::{wide, word_code};
+use lexing::runs::word_code;
 use spots::Met;
 
 // How many bytes of a run could still become a word that is due at a spot.
@@ -14,7 +14,7 @@ fn viable_bytes(text: &[u8], spot: usize, start: usize, end: usize) -> usize
     requires { (spot < 20) × (start ≤ end) × (end ≤ length text.now) }
     ensures { (result ≡ viable_bytes spot (part text.now start end)) × (start + result ≤ end) }
 {
-    let growth = wide(cell(spot * 14 + 11));
+    let growth = usize::from(cell(spot * 14 + 11));
     if growth == 0 {
         return 0;
     }
@@ -38,10 +38,10 @@ pub fn word(
 {
     let row = spot * 14;
     let code = word_code(&text[start..end]);
-    let next = wide(cell(row + code));
+    let next = usize::from(cell(row + code));
     if next < 20 {
         if code == 9 {
-            let kind = wide(cell(row + 12));
+            let kind = usize::from(cell(row + 12));
             if known_as(symbols, variables, kind, &text[start..end]) {
                 return Met {
                     number: 0,

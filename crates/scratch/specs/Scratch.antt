@@ -1,6 +1,6 @@
 -- The bundle that lent words of 32 bits stand for.
 use Rattle.std.specs.Prelude.{ℕ, ◌≤◌, ◌≡◌, List, length, get_or}
-use Rattle.bundle.specs.declared.Bundle.{Bundle as Counts}
+use Rattle.bundle.specs.declared.Counts.{Counts}
 use Rattle.bundle.specs.Bundle.{Bundle}
 use Rattle.bundle.specs.Limits.{limits, words_of, Within}
 use Rattle.bundle.specs.File.{bundle_by}

@@ -4,17 +4,17 @@ ghost use Rattle.bundle.specs.Limits.{limits};
 ghost use Rattle.logic.specs.Longer.{with_variables, with_terms, with_links, with_contexts, with_steps};
 ghost use Rattle.scratch.specs.Scratch.{bundle_in, Roomy};
 
-use bundle::Bundle;
+use bundle::Counts;
 use bundle::words::as_word;
 
-pub fn append_variable(words: &mut [u32], c: Bundle, sort: usize) -> Bundle
+pub fn append_variable(words: &mut [u32], c: Counts, sort: usize) -> Counts
     requires { Roomy words.old c × (c.variables < limits.variables) × (sort ≤ 4294967295) }
     ensures { Roomy words.new result × (length words.new ≡ length words.old)
         × (bundle_in words.new result ≡ with_variables (bundle_in words.old c) (sort ∷ [])) × (result.version ≡ c.version) }
 {
     let mut after = c;
     let count = c.variables;
-    let at = Bundle::largest().variables_at() + count;
+    let at = Counts::largest().variables_at() + count;
     words[at] = as_word(sort);
     after.variables = count + 1;
     after
@@ -22,12 +22,12 @@ pub fn append_variable(words: &mut [u32], c: Bundle, sort: usize) -> Bundle
 
 pub fn append_term(
     words: &mut [u32],
-    c: Bundle,
+    c: Counts,
     kind: usize,
     first: usize,
     second: usize,
     third: usize,
-) -> Bundle
+) -> Counts
     requires { Roomy words.old c × (c.terms < limits.terms) × (kind ≤ 4294967295) × (first ≤ 4294967295) × (second ≤ 4294967295)
         × (third ≤ 4294967295) }
     ensures { Roomy words.new result × (length words.new ≡ length words.old)
@@ -36,7 +36,7 @@ pub fn append_term(
 {
     let mut after = c;
     let count = c.terms;
-    let at = Bundle::largest().terms_at() + 4 * count;
+    let at = Counts::largest().terms_at() + 4 * count;
     words[at] = as_word(kind);
     words[at + 1] = as_word(first);
     words[at + 2] = as_word(second);
@@ -45,7 +45,7 @@ pub fn append_term(
     after
 }
 
-pub fn append_link(words: &mut [u32], c: Bundle, value: usize, next: usize) -> Bundle
+pub fn append_link(words: &mut [u32], c: Counts, value: usize, next: usize) -> Counts
     requires { Roomy words.old c × (c.links < limits.links) × (value ≤ 4294967295) × (next ≤ 4294967295) }
     ensures { Roomy words.new result × (length words.new ≡ length words.old)
         × (bundle_in words.new result ≡ with_links (bundle_in words.old c) (record { value = value; next = next } ∷ []))
@@ -53,7 +53,7 @@ pub fn append_link(words: &mut [u32], c: Bundle, value: usize, next: usize) -> B
 {
     let mut after = c;
     let count = c.links;
-    let at = Bundle::largest().links_at() + 2 * count;
+    let at = Counts::largest().links_at() + 2 * count;
     words[at] = as_word(value);
     words[at + 1] = as_word(next);
     after.links = count + 1;
@@ -62,12 +62,12 @@ pub fn append_link(words: &mut [u32], c: Bundle, value: usize, next: usize) -> B
 
 pub fn append_context(
     words: &mut [u32],
-    c: Bundle,
+    c: Counts,
     kind: usize,
     first: usize,
     second: usize,
     parent: usize,
-) -> Bundle
+) -> Counts
     requires { Roomy words.old c × (c.contexts < limits.contexts) × (kind ≤ 4294967295) × (first ≤ 4294967295) × (second ≤ 4294967295)
         × (parent ≤ 4294967295) }
     ensures { Roomy words.new result × (length words.new ≡ length words.old)
@@ -76,7 +76,7 @@ pub fn append_context(
 {
     let mut after = c;
     let count = c.contexts;
-    let at = Bundle::largest().contexts_at() + 4 * count;
+    let at = Counts::largest().contexts_at() + 4 * count;
     words[at] = as_word(kind);
     words[at + 1] = as_word(first);
     words[at + 2] = as_word(second);
@@ -87,13 +87,13 @@ pub fn append_context(
 
 pub fn append_step(
     words: &mut [u32],
-    c: Bundle,
+    c: Counts,
     rule: usize,
     context: usize,
     left: usize,
     right: usize,
     premises: usize,
-) -> Bundle
+) -> Counts
     requires { Roomy words.old c × (c.steps < limits.steps) × (rule ≤ 4294967295) × (context ≤ 4294967295) × (left ≤ 4294967295) × (right ≤ 4294967295)
         × (premises ≤ 4294967295) }
     ensures { Roomy words.new result × (length words.new ≡ length words.old)
@@ -102,7 +102,7 @@ pub fn append_step(
 {
     let mut after = c;
     let count = c.steps;
-    let at = Bundle::largest().steps_at() + 5 * count;
+    let at = Counts::largest().steps_at() + 5 * count;
     words[at] = as_word(rule);
     words[at + 1] = as_word(context);
     words[at + 2] = as_word(left);

@@ -7,18 +7,18 @@ ghost use Rattle.scratch.specs.Scratch.{bundle_in, Roomy};
 
 use super::lists::next_link;
 use super::records::{context_field, link_field};
-use bundle::Bundle;
-use bundle::lists::first_link;
+use bundle::Counts;
+use bundle::items::starting;
 use logic::kinds::{FIXES, REPLACES};
 use logic::{Image, Mention};
 
 // What a list of variables and a list of terms, side by side, say of the variable x.
-fn lookup_in(words: &[u32], c: Bundle, variables: usize, terms: usize, x: usize) -> Mention
+fn lookup_in(words: &[u32], c: Counts, variables: usize, terms: usize, x: usize) -> Mention
     requires { Roomy words.now c }
     ensures { result ≡ lookup (items (bundle_in words.now c) variables) (items (bundle_in words.now c) terms) x }
 {
-    let mut i = first_link(c, variables);
-    let mut j = first_link(c, terms);
+    let mut i = starting(c.links, variables);
+    let mut j = starting(c.links, terms);
     while i != 0 {
         if j == 0 {
             return Mention::Absent;
@@ -35,7 +35,7 @@ fn lookup_in(words: &[u32], c: Bundle, variables: usize, terms: usize, x: usize)
 }
 
 // What the entry of context k says of the variable x.
-fn mention_in(words: &[u32], c: Bundle, k: usize, x: usize) -> Mention
+fn mention_in(words: &[u32], c: Counts, k: usize, x: usize) -> Mention
     requires { Roomy words.now c }
     ensures { result ≡ mention (bundle_in words.now c) (context_of (bundle_in words.now c) k) x }
 {
@@ -55,7 +55,7 @@ fn mention_in(words: &[u32], c: Bundle, k: usize, x: usize) -> Mention
 }
 
 // The image of variable x in a context: towards the empty context, the first entry that mentions x.
-pub fn image_in(words: &[u32], c: Bundle, context: usize, x: usize) -> Image
+pub fn image_in(words: &[u32], c: Counts, context: usize, x: usize) -> Image
     requires { Roomy words.now c }
     ensures { result ≡ image (bundle_in words.now c) context x }
 {

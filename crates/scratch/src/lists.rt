@@ -9,11 +9,11 @@ ghost use Rattle.scratch.specs.Stack.{half_of, halves};
 
 use super::appends::append_link;
 use super::records::link_field;
-use bundle::Bundle;
-use bundle::lists::first_link;
+use bundle::Counts;
+use bundle::items::starting;
 
 // The link that follows link i, 0 where the list ends.
-pub fn next_link(words: &[u32], c: Bundle, i: usize) -> usize
+pub fn next_link(words: &[u32], c: Counts, i: usize) -> usize
     requires { Roomy words.now c }
     ensures { result ≡ next_of (bundle_in words.now c).links i }
 {
@@ -47,7 +47,7 @@ pub fn pack(res: usize, step: usize) -> u64
 // Whether a list has just the results, or the steps, of the pairs from `from` to before `to`.
 pub fn same_halves(
     words: &[u32],
-    c: Bundle,
+    c: Counts,
     list: usize,
     stack: &[u64],
     upper: bool,
@@ -57,7 +57,7 @@ pub fn same_halves(
     requires { Roomy words.now c × (from ≤ to) × (to ≤ length stack.now) }
     ensures { result ≡ same_list (items (bundle_in words.now c) list) (halves upper stack.now from to) }
 {
-    let mut i = first_link(c, list);
+    let mut i = starting(c.links, list);
     let mut at = from;
     while at < to {
         if i == 0 {
@@ -75,7 +75,7 @@ pub fn same_halves(
 }
 
 // The first link of a list of n values that is appended next: 0 for the empty list.
-pub fn list_start(c: Bundle, n: usize) -> usize
+pub fn list_start(c: Counts, n: usize) -> usize
     requires { c.links ≤ limits.links }
     ensures { (n ≡ 0 → result ≡ 0) × ((n ≡ 0 → ⊥) → result ≡ suc c.links) }
 {
@@ -85,12 +85,12 @@ pub fn list_start(c: Bundle, n: usize) -> usize
 // Appends the results, or the steps, of the pairs from `from` to before `to` as a list.
 pub fn push_halves(
     words: &mut [u32],
-    c: Bundle,
+    c: Counts,
     stack: &[u64],
     upper: bool,
     from: usize,
     to: usize,
-) -> Bundle
+) -> Counts
     requires { Roomy words.old c × (from ≤ to) × (to ≤ length stack.now) × (c.links + (to - from) ≤ limits.links) }
     ensures { Roomy words.new result × (length words.new ≡ length words.old)
         × (bundle_in words.new result ≡ add_list (bundle_in words.old c) (halves upper stack.now from to))
@@ -110,7 +110,7 @@ pub fn push_halves(
 }
 
 // Appends a list of one value.
-pub fn push_one(words: &mut [u32], c: Bundle, value: usize) -> Bundle
+pub fn push_one(words: &mut [u32], c: Counts, value: usize) -> Counts
     requires { Roomy words.old c × (c.links < limits.links) × (value ≤ 4294967295) }
     ensures { Roomy words.new result × (length words.new ≡ length words.old)
         × (bundle_in words.new result ≡ add_list (bundle_in words.old c) (value ∷ [])) × (result.version ≡ c.version) }

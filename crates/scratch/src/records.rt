@@ -4,7 +4,7 @@ ghost use Rattle.bundle.specs.Bundle.{at, sort_of_variable, term_of, link_of, co
 ghost use Rattle.bundle.specs.File.{tab, record_by};
 ghost use Rattle.scratch.specs.Scratch.{word_in, bundle_in, Roomy};
 
-use bundle::Bundle;
+use bundle::Counts;
 use bundle::words::wide;
 
 // Word k of record i of a section: the section starts at word `start` and has `count` records of `size` words.
@@ -21,13 +21,13 @@ fn field(words: &[u32], start: usize, size: usize, count: usize, i: usize, k: us
     wide(words[start + size * (i - 1) + k])
 }
 
-pub fn variable_sort(words: &[u32], c: Bundle, i: usize) -> usize
+pub fn variable_sort(words: &[u32], c: Counts, i: usize) -> usize
     requires { Roomy words.now c }
     ensures { (result ≡ sort_of_variable (bundle_in words.now c) i) × (result ≤ 4294967295) }
 {
     field(
         words,
-        Bundle::largest().variables_at(),
+        Counts::largest().variables_at(),
         1,
         c.variables,
         i,
@@ -35,23 +35,23 @@ pub fn variable_sort(words: &[u32], c: Bundle, i: usize) -> usize
     )
 }
 
-pub fn term_field(words: &[u32], c: Bundle, i: usize, k: usize) -> usize
+pub fn term_field(words: &[u32], c: Counts, i: usize, k: usize) -> usize
     requires { Roomy words.now c × (k < 4) }
     ensures { (result ≡ term_field (term_of (bundle_in words.now c) i) k) × (result ≤ 4294967295) }
 {
-    field(words, Bundle::largest().terms_at(), 4, c.terms, i, k)
+    field(words, Counts::largest().terms_at(), 4, c.terms, i, k)
 }
 
-pub fn link_field(words: &[u32], c: Bundle, i: usize, k: usize) -> usize
+pub fn link_field(words: &[u32], c: Counts, i: usize, k: usize) -> usize
     requires { Roomy words.now c × (k < 2) }
     ensures { (result ≡ link_field (link_of (bundle_in words.now c) i) k) × (result ≤ 4294967295) }
 {
-    field(words, Bundle::largest().links_at(), 2, c.links, i, k)
+    field(words, Counts::largest().links_at(), 2, c.links, i, k)
 }
 
-pub fn context_field(words: &[u32], c: Bundle, i: usize, k: usize) -> usize
+pub fn context_field(words: &[u32], c: Counts, i: usize, k: usize) -> usize
     requires { Roomy words.now c × (k < 4) }
     ensures { (result ≡ context_field (context_of (bundle_in words.now c) i) k) × (result ≤ 4294967295) }
 {
-    field(words, Bundle::largest().contexts_at(), 4, c.contexts, i, k)
+    field(words, Counts::largest().contexts_at(), 4, c.contexts, i, k)
 }

@@ -222,18 +222,10 @@ module _ (w : List ℕ) (first : ℕ) (v : List ℕ) (second : ℕ) where
   abbrev common : ℕ → ℕ
   common k = bit_and (get_or w (first + k) 0) (get_or v (second + k) 0)
 
-  -- a turn of a loop that counts k down: words k - 1 have no bit in common, or have one
-  pub disjoint_on : (k : ℕ) → (k ≡ 0 → ⊥) → common (k - 1) ≡ 0 → disjoint_of w first v second k ≡ disjoint_of w first v second (k - 1)
+  -- one word more
+  pub disjoint_on : (k : ℕ) → disjoint_of w first v second k ≡ true → common k ≡ 0 → disjoint_of w first v second (k + 1) ≡ true
   unfolding disjoint_of
-  disjoint_on zero ne e = absurd (ne refl)
-  disjoint_on (suc k) ne e = let p : suc k - 1 ≡ k = omega arith in rw p (rw (rw p at e))
-
-  pub disjoint_here : (k : ℕ) → (k ≡ 0 → ⊥) → (common (k - 1) ≡ 0 → ⊥) → disjoint_of w first v second k ≡ false
-  unfolding disjoint_of
-  disjoint_here zero ne some = absurd (ne refl)
-  disjoint_here (suc k) ne some =
-      let p : suc k - 1 ≡ k = omega arith in
-      rw (ne_eqb (common k) 0 (λ e. some (rw p e)))
+  disjoint_on k e z = rw (add-one k, z, e)
 
   disjoint_word : (n k : ℕ) → disjoint_of w first v second n ≡ true → k < n → common k ≡ 0
   unfolding disjoint_of
@@ -245,6 +237,14 @@ module _ (w : List ℕ) (first : ℕ) (v : List ℕ) (second : ℕ) where
       go true d r (yes q) ih = rw q (eqb-true (common m) 0 d)
       go true d r (no ne) ih = ih r (omega arith)
       go false d r q ih = absurd (false≢true r)
+
+  -- words that have a bit in common
+  pub disjoint_at : (n k : ℕ) → k < n → (common k ≡ 0 → ⊥) → disjoint_of w first v second n ≡ false
+  disjoint_at n k l some = go (disjoint_of w first v second n) refl
+    where
+      go : (p : Bool) → disjoint_of w first v second n ≡ p → p ≡ false
+      go true e = absurd (some (disjoint_word n k e l))
+      go false e = refl
 
   word_disjoint : (n : ℕ) → ((k : ℕ) → k < n → common k ≡ 0) → disjoint_of w first v second n ≡ true
   unfolding disjoint_of

@@ -14,7 +14,7 @@ use native.Mathlib.Decide.{ℕ_discrete}
 use lib.ListN.{get_or}
 use lib.Dec.{eqb}
 use lib.Bits.{bit_and, bit_or, and_le_l, or_lt}
-use borrow.Author.Tests.{eqb-true, eq-eqb, ne_eqb}
+use borrow.Author.Tests.{eqb-true, eq-eqb}
 use Rattle.sets.specs.Sets.{bit_at, holds, member, subset_of}
 use Rattle.sets.proofs.Digits.{bit_or_lem, bit_and_lem, bits_same}
 use Rattle.sets.proofs.Members.{held, member_bit}

@@ -33,7 +33,7 @@ pub fn lowest_bit(x: u64, k: usize) -> usize
     requires { k < 64 }
     ensures { LeastBit x k result }
 {
-    k + u64::trailing_zeros(x >> k) as usize
+    k + (x >> k).trailing_zeros() as usize
 }
 
 // ---- Sets: the n words of `area` from `at` on. Most files have no more variables than one word has bits: the first word takes no loop.
@@ -87,10 +87,8 @@ fn clear_words(area: &mut [u64], at: usize, n: usize)
     requires { at + n ≤ length area.old }
     ensures { area.new ≡ cleared area.old at n }
 {
-    let mut k = 0;
-    while k < n {
+    for k in 0..n {
         area[at + k] = 0;
-        k += 1;
     }
 }
 
@@ -110,12 +108,10 @@ pub fn unite_words(area: &mut [u64], to: usize, from: usize, n: usize)
     requires { (from + n ≤ to) × (to + n ≤ length area.old) }
     ensures { area.new ≡ united area.old to from n }
 {
-    let mut k = 0;
-    while k < n {
+    for k in 0..n {
         let x = area[to + k];
         let y = area[from + k];
         area[to + k] = x | y;
-        k += 1;
     }
 }
 
@@ -138,9 +134,7 @@ pub fn disjoint(area: &[u64], first: usize, other: &[u64], second: usize, n: usi
     requires { (first + n ≤ length area.now) × (second + n ≤ length other.now) }
     ensures { result ≡ disjoint_of area.now first other.now second n }
 {
-    let mut k = n;
-    while k != 0 {
-        k -= 1;
+    for k in 0..n {
         let x = area[first + k];
         let y = other[second + k];
         if (x & y) != 0 {
@@ -155,11 +149,8 @@ pub fn copy(area: &mut [u64], to: usize, from: usize, n: usize)
     requires { (from + n ≤ to) × (to + n ≤ length area.old) }
     ensures { area.new ≡ copied area.old to from n }
 {
-    let mut k = 0;
-    while k < n {
-        let x = area[from + k];
-        area[to + k] = x;
-        k += 1;
+    for k in 0..n {
+        area[to + k] = area[from + k];
     }
 }
 
@@ -176,14 +167,12 @@ pub fn both_subsets(first: &[u64], second: &[u64], all: &[u64], n: usize) -> boo
     if (either & among) != either {
         return false;
     }
-    let mut k = 1;
-    while k < n {
+    for k in 1..n {
         let x = first[k] | second[k];
         let y = all[k];
         if (x & y) != x {
             return false;
         }
-        k += 1;
     }
     true
 }

@@ -2,10 +2,8 @@
 // With the argument --dot it prints its steps as a graph, for Graphviz; the rest is comments there. With --rule it prints the formula of its left alone.
 #![tactic(auto)]
 
-ghost use Rattle.bundle.specs.File.{Whole};
-
-use bundle::Bundle;
 use bundle::words::{claim_left, claim_right, counts};
+use bundle::{Bundle, Counts};
 use judgement::Answer;
 use show_text::out;
 use std::rt::Env;
@@ -17,15 +15,15 @@ fn line_start(is_dot: bool) {
     }
 }
 
-fn header_line(b: Bundle, left: usize, right: usize, is_dot: bool) {
+fn header_line(counts: Counts, left: usize, right: usize, is_dot: bool) {
     line_start(is_dot);
-    out::name(b"version ", b.version);
-    out::name(b", symbols ", b.symbols);
-    out::name(b", variables ", b.variables);
-    out::name(b", terms ", b.terms);
-    out::name(b", links ", b.links);
-    out::name(b", contexts ", b.contexts);
-    out::name(b", steps ", b.steps);
+    out::name(b"version ", counts.version);
+    out::name(b", symbols ", counts.symbols);
+    out::name(b", variables ", counts.variables);
+    out::name(b", terms ", counts.terms);
+    out::name(b", links ", counts.links);
+    out::name(b", contexts ", counts.contexts);
+    out::name(b", steps ", counts.steps);
     out::name(b", left ", left);
     out::name(b", right ", right);
     out::line_end();
@@ -56,19 +54,17 @@ fn begin_why(answer: Answer, is_dot: bool) {
 }
 
 // What a whole file says, then the answer.
-fn show_bundle(file: &[u8], b: Bundle, left: usize, right: usize, answer: Answer, is_dot: bool)
-    requires { Whole file.now b }
-{
+fn show_bundle(bundle: &Bundle, left: usize, right: usize, answer: Answer, is_dot: bool) {
     if is_dot {
-        show_records::dot::nodes(file, b);
+        show_records::dot::nodes(bundle);
     } else {
-        show_records::records::all_lines(file, b, left, right);
+        show_records::records::all_lines(bundle, left, right);
     }
     match answer {
         Answer::Accepted(a) => answer_line(b"accepted ", a.left, a.right, is_dot),
         Answer::Refused { number, record } => {
             begin_refusal(number, record, is_dot);
-            show_steps::steps::sentence(file, b, left, right, number, record);
+            show_steps::steps::sentence(bundle, left, right, number, record);
             out::line_end();
         }
     }
@@ -86,9 +82,9 @@ fn show_foreign(version: usize, answer: Answer, is_dot: bool) {
     out::line_end();
 }
 
-fn show_oversize(b: Bundle, answer: Answer, is_dot: bool) {
+fn show_oversize(counts: Counts, answer: Answer, is_dot: bool) {
     begin_why(answer, is_dot);
-    show_tables::tables::oversize(b);
+    show_tables::tables::oversize(counts);
     out::line_end();
 }
 
@@ -121,7 +117,7 @@ fn show_file(file: &[u8], answer: Answer, is_dot: bool) {
         show_length(file.len(), bytes, answer, is_dot);
         return;
     }
-    show_bundle(file, b, left, right, answer, is_dot);
+    show_bundle(&Bundle::of(file, b), left, right, answer, is_dot);
 }
 
 // The most parts of a formula that --rule prints: the longest text that the program read takes has fewer.
@@ -136,10 +132,8 @@ fn refusal_of(answer: Answer) -> usize {
 }
 
 // The formula of the left, on one line. One that is too large is cut, and a line on standard error says so.
-fn print_left(file: &[u8], b: Bundle, left: usize)
-    requires { Whole file.now b }
-{
-    let rest = show_text::terms::term(file, b, left, PARTS);
+fn print_left(bundle: &Bundle, left: usize) {
+    let rest = show_text::terms::term(bundle, left, PARTS);
     out::line_end();
     if rest == 0 {
         io::write_all(2, b"show: the formula has more than 524,288 parts\n");
@@ -174,7 +168,7 @@ fn show_rule(file: &[u8], refusal: usize) {
         no_formula();
         return;
     }
-    print_left(file, b, left);
+    print_left(&Bundle::of(file, b), left);
 }
 
 // Whether the first argument is this one, of at most 8 bytes.

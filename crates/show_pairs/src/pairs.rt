@@ -1,15 +1,12 @@
 // What differs at one pair of terms, by the definition of the walk (crates/logic/specs/ReflWalk.antt).
 ghost use Rattle.std.specs.Prelude.{◌*◌, ◌≤◌, length};
 ghost use Rattle.bundle.specs.Limits.{set_words};
-ghost use Rattle.bundle.specs.File.{Whole};
 
 use super::binders::{captured, nearest, partner};
 use super::contexts::image;
 use super::path;
 use super::path::ROOM;
 use bundle::Bundle;
-use bundle::lists::{first_link, next_link};
-use bundle::records::{link_field, term_field, variable_sort};
 use images::images::is_variable;
 use logic::kinds::{APPLICATION, LET, VARIABLE, is_binder};
 
@@ -50,24 +47,21 @@ pub struct Reason {
 }
 
 fn bound_reason(
-    file: &[u8],
-    b: Bundle,
+    bundle: &Bundle,
     path: &[usize; ROOM],
     level: usize,
     levels: usize,
     x: usize,
     r: usize,
-) -> Reason
-    requires { Whole file.now b }
-{
-    let y = partner(file, b, path, level, x);
-    if !is_variable(file, b, r, y) {
+) -> Reason {
+    let y = partner(bundle, path, level, x);
+    if !is_variable(bundle, r, y) {
         return Reason {
             number: UNMATCHED,
             about: y,
         };
     }
-    if nearest(file, b, path, level, levels, path::RIGHT, y) != 0 {
+    if nearest(bundle, path, level, levels, path::RIGHT, y) != 0 {
         return Reason {
             number: HIDDEN,
             about: y,
@@ -80,18 +74,15 @@ fn bound_reason(
 }
 
 // Whether term r is the image of x: the term t, or the variable itself where t is 0.
-fn is_image(file: &[u8], b: Bundle, t: usize, x: usize, r: usize) -> bool
-    requires { Whole file.now b }
-{
+fn is_image(bundle: &Bundle, t: usize, x: usize, r: usize) -> bool {
     if t == 0 {
-        return is_variable(file, b, r, x);
+        return is_variable(bundle, r, x);
     }
     t == r
 }
 
 fn free_reason(
-    file: &[u8],
-    b: Bundle,
+    bundle: &Bundle,
     area: &[u64],
     path: &[usize; ROOM],
     levels: usize,
@@ -99,16 +90,16 @@ fn free_reason(
     x: usize,
     r: usize,
 ) -> Reason
-    requires { Whole file.now b × (set_words * b.terms ≤ length area.now) }
+    requires { (set_words * length bundle.now.terms ≤ length area.now) }
 {
-    let t = image(file, b, context, x);
-    if !is_image(file, b, t, x, r) {
+    let t = image(bundle, context, x);
+    if !is_image(bundle, t, x, r) {
         return Reason {
             number: IMAGE,
             about: t,
         };
     }
-    let y = captured(file, b, area, path, levels, r);
+    let y = captured(bundle, area, path, levels, r);
     if y != 0 {
         return Reason {
             number: CAPTURE,
@@ -122,55 +113,44 @@ fn free_reason(
 }
 
 // Whether two variables have one sort.
-fn one_sort(file: &[u8], b: Bundle, x: usize, y: usize) -> bool
-    requires { Whole file.now b }
-{
-    variable_sort(file, b, x) == variable_sort(file, b, y)
+fn one_sort(bundle: &Bundle, x: usize, y: usize) -> bool {
+    bundle.variable_sort(x) == bundle.variable_sort(y)
 }
 
 // Whether two lists of variables are as long and have the same sorts.
-fn same_sorts(file: &[u8], b: Bundle, first: usize, second: usize) -> bool
-    requires { Whole file.now b }
-{
-    let mut i = first_link(b, first);
-    let mut j = first_link(b, second);
-    while i != 0 {
-        if j == 0 {
+fn same_sorts(bundle: &Bundle, first: usize, second: usize) -> bool {
+    let mut others = bundle.items(second);
+    for x in bundle.items(first) {
+        let Some(y) = others.next() else {
+            return false;
+        };
+        if !one_sort(bundle, x, y) {
             return false;
         }
-        let x = link_field(file, b, i, 0);
-        let y = link_field(file, b, j, 0);
-        if !one_sort(file, b, x, y) {
-            return false;
-        }
-        i = next_link(file, b, i);
-        j = next_link(file, b, j);
     }
-    j == 0
+    others.next().is_none()
 }
 
 // What differs at two records, where left is no variable.
-fn head_reason(file: &[u8], b: Bundle, l: usize, r: usize) -> usize
-    requires { Whole file.now b }
-{
-    let kind = term_field(file, b, l, 0);
-    let first = term_field(file, b, l, 1);
-    let second = term_field(file, b, r, 1);
-    if kind != term_field(file, b, r, 0) {
+fn head_reason(bundle: &Bundle, l: usize, r: usize) -> usize {
+    let kind = bundle.term_field(l, 0);
+    let first = bundle.term_field(l, 1);
+    let second = bundle.term_field(r, 1);
+    if kind != bundle.term_field(r, 0) {
         return KIND;
     }
     if kind == APPLICATION {
         return if first == second { SAME } else { SYMBOL };
     }
     if kind == LET {
-        return if same_sorts(file, b, first, second) {
+        return if same_sorts(bundle, first, second) {
             SAME
         } else {
             SORTS
         };
     }
     if is_binder(kind) {
-        return if one_sort(file, b, first, second) {
+        return if one_sort(bundle, first, second) {
             SAME
         } else {
             SORTS
@@ -181,8 +161,7 @@ fn head_reason(file: &[u8], b: Bundle, l: usize, r: usize) -> usize
 
 // What differs at the pair of l and r, below the path.
 pub fn pair_reason(
-    file: &[u8],
-    b: Bundle,
+    bundle: &Bundle,
     area: &[u64],
     path: &[usize; ROOM],
     levels: usize,
@@ -190,18 +169,18 @@ pub fn pair_reason(
     l: usize,
     r: usize,
 ) -> Reason
-    requires { Whole file.now b × (set_words * b.terms ≤ length area.now) }
+    requires { (set_words * length bundle.now.terms ≤ length area.now) }
 {
-    if term_field(file, b, l, 0) != VARIABLE {
+    if bundle.term_field(l, 0) != VARIABLE {
         return Reason {
-            number: head_reason(file, b, l, r),
+            number: head_reason(bundle, l, r),
             about: 0,
         };
     }
-    let x = term_field(file, b, l, 1);
-    let level = nearest(file, b, path, 0, levels, path::LEFT, x);
+    let x = bundle.term_field(l, 1);
+    let level = nearest(bundle, path, 0, levels, path::LEFT, x);
     if level != 0 {
-        return bound_reason(file, b, path, level, levels, x, r);
+        return bound_reason(bundle, path, level, levels, x, r);
     }
-    free_reason(file, b, area, path, levels, context, x, r)
+    free_reason(bundle, area, path, levels, context, x, r)
 }

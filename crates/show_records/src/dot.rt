@@ -1,9 +1,6 @@
 // The derivation as a graph, for Graphviz: a node for each step, an edge from each premise to its step.
-ghost use Rattle.bundle.specs.File.{Whole};
 
 use bundle::Bundle;
-use bundle::lists::{first_link, next_link};
-use bundle::records::{link_field, step_field};
 use show_text::out;
 
 // `  s1 -> s3;`.
@@ -13,25 +10,19 @@ fn edge(premise: usize, step: usize) {
     out::text(b";\n");
 }
 
-fn edges(file: &[u8], b: Bundle, step: usize, list: usize)
-    requires { Whole file.now b }
-{
-    let mut i = first_link(b, list);
-    while i != 0 {
-        edge(link_field(file, b, i, 0), step);
-        i = next_link(file, b, i);
+fn edges(bundle: &Bundle, step: usize, list: usize) {
+    for premise in bundle.items(list) {
+        edge(premise, step);
     }
 }
 
 // `  s3 [label="3 CONG\nc1 ▷ t3 ≃ t4"];`, and its edges.
-fn node(file: &[u8], b: Bundle, i: usize)
-    requires { Whole file.now b }
-{
-    let rule = step_field(file, b, i, 0);
-    let context = step_field(file, b, i, 1);
-    let left = step_field(file, b, i, 2);
-    let right = step_field(file, b, i, 3);
-    let list = step_field(file, b, i, 4);
+fn node(bundle: &Bundle, i: usize) {
+    let rule = bundle.step_field(i, 0);
+    let context = bundle.step_field(i, 1);
+    let left = bundle.step_field(i, 2);
+    let right = bundle.step_field(i, 3);
+    let list = bundle.step_field(i, 4);
     out::name(b"  s", i);
     out::name(b" [label=\"", i);
     out::space();
@@ -39,16 +30,11 @@ fn node(file: &[u8], b: Bundle, i: usize)
     out::text(b"\\n");
     out::judgement(context, left, right);
     out::text(b"\"];\n");
-    edges(file, b, i, list);
+    edges(bundle, i, list);
 }
 
-pub fn nodes(file: &[u8], b: Bundle)
-    requires { Whole file.now b }
-{
-    let steps = b.steps;
-    let mut i = 1;
-    while i <= steps {
-        node(file, b, i);
-        i += 1;
+pub fn nodes(bundle: &Bundle) {
+    for i in 1..bundle.steps() + 1 {
+        node(bundle, i);
     }
 }

@@ -1,10 +1,7 @@
 // A line for each record: declarations, terms by the numbers of their parts, contexts, steps.
 ghost use Rattle.std.specs.Prelude.{◌≤◌};
-ghost use Rattle.bundle.specs.File.{Whole};
 
 use bundle::Bundle;
-use bundle::lists::{first_link, next_link};
-use bundle::records::{context_field, link_field, step_field, symbol_field, variable_sort};
 use logic::kinds::{FIXES, REPLACES};
 use show_text::out;
 use show_text::terms::term;
@@ -15,47 +12,37 @@ fn sort_item(s: usize) {
 }
 
 // The argument sorts of a symbol, each before a space.
-fn argument_sorts(file: &[u8], b: Bundle, list: usize)
-    requires { Whole file.now b }
-{
-    let mut i = first_link(b, list);
-    while i != 0 {
-        sort_item(link_field(file, b, i, 0));
-        i = next_link(file, b, i);
+fn argument_sorts(bundle: &Bundle, list: usize) {
+    for s in bundle.items(list) {
+        sort_item(s);
     }
 }
 
 // `f34 : Item Item -> Bool`.
-fn symbol_line(file: &[u8], b: Bundle, i: usize)
-    requires { Whole file.now b }
-{
-    let result = symbol_field(file, b, i, 0);
-    let sorts = symbol_field(file, b, i, 1);
+fn symbol_line(bundle: &Bundle, i: usize) {
+    let result = bundle.symbol_field(i, 0);
+    let sorts = bundle.symbol_field(i, 1);
     out::declared(i);
     out::text(b" : ");
-    argument_sorts(file, b, sorts);
-    if first_link(b, sorts) != 0 {
+    argument_sorts(bundle, sorts);
+    if bundle.first_link(sorts) != 0 {
         out::text(b"-> ");
     }
     out::sort(result);
 }
 
 // `v1 : Item`.
-fn variable_line(file: &[u8], b: Bundle, i: usize)
-    requires { Whole file.now b }
-{
+fn variable_line(bundle: &Bundle, i: usize) {
     out::name(b"v", i);
     out::text(b" : ");
-    out::sort(variable_sort(file, b, i));
+    out::sort(bundle.variable_sort(i));
 }
 
 // `t5 = (f34 t2 t2)`: with no budget, parts are numbers.
-fn term_line(file: &[u8], b: Bundle, i: usize)
-    requires { Whole file.now b }
-{
+fn term_line(bundle: &Bundle, i: usize) {
     out::name(b"t", i);
     out::text(b" = ");
-    term(file, b, i, 0);
+    term(bundle, i, 0);
 }
 
 fn replacement(v: usize, t: usize) {
@@ -63,35 +50,26 @@ fn replacement(v: usize, t: usize) {
     out::name(b" := t", t);
 }
 
-// `, v1 := t2, v3 := t4`.
-fn replacements(file: &[u8], b: Bundle, variables: usize, terms: usize)
-    requires { Whole file.now b }
-{
-    let mut i = first_link(b, variables);
-    let mut j = first_link(b, terms);
-    while i != 0 {
-        let v = link_field(file, b, i, 0);
-        let t = link_field(file, b, j, 0);
-        replacement(v, t);
-        i = next_link(file, b, i);
-        j = next_link(file, b, j);
+// `, v1 := t2, v3 := t4`, with t0 where there is no term for a variable.
+fn replacements(bundle: &Bundle, variables: usize, terms: usize) {
+    let mut others = bundle.items(terms);
+    for v in bundle.items(variables) {
+        replacement(v, others.next().unwrap_or(0));
     }
 }
 
 // `c2 = c1, v1 fixed` or `c3 = c2, v1 := t2`.
-fn context_line(file: &[u8], b: Bundle, i: usize)
-    requires { Whole file.now b }
-{
-    let kind = context_field(file, b, i, 0);
-    let first = context_field(file, b, i, 1);
-    let second = context_field(file, b, i, 2);
+fn context_line(bundle: &Bundle, i: usize) {
+    let kind = bundle.context_field(i, 0);
+    let first = bundle.context_field(i, 1);
+    let second = bundle.context_field(i, 2);
     out::name(b"c", i);
-    out::name(b" = c", context_field(file, b, i, 3));
+    out::name(b" = c", bundle.context_field(i, 3));
     if kind == FIXES {
         out::name(b", v", first);
         out::text(b" fixed");
     } else if kind == REPLACES {
-        replacements(file, b, first, second);
+        replacements(bundle, first, second);
     } else {
         out::name(b", kind ", kind);
         out::name(b" ", first);
@@ -99,82 +77,65 @@ fn context_line(file: &[u8], b: Bundle, i: usize)
     }
 }
 
-// `1, 2`, where there are any.
-fn premises(file: &[u8], b: Bundle, list: usize)
-    requires { Whole file.now b }
-{
-    let start = first_link(b, list);
-    let mut i = start;
-    while i != 0 {
-        out::comma_unless(i == start);
-        out::number(link_field(file, b, i, 0));
-        i = next_link(file, b, i);
+// `  from 1, 2`, where there are any.
+fn premises(bundle: &Bundle, list: usize) {
+    let mut before: &[u8] = b"  from ";
+    for premise in bundle.items(list) {
+        out::name(before, premise);
+        before = b", ";
     }
 }
 
 // `3. CONG  c1 ▷ t3 ≃ t4  from 1, 2`.
-fn step_line(file: &[u8], b: Bundle, i: usize)
-    requires { Whole file.now b }
-{
-    let context = step_field(file, b, i, 1);
-    let left = step_field(file, b, i, 2);
-    let right = step_field(file, b, i, 3);
-    let list = step_field(file, b, i, 4);
+fn step_line(bundle: &Bundle, i: usize) {
+    let context = bundle.step_field(i, 1);
+    let left = bundle.step_field(i, 2);
+    let right = bundle.step_field(i, 3);
+    let list = bundle.step_field(i, 4);
     out::number(i);
     out::text(b". ");
-    out::rule(step_field(file, b, i, 0));
+    out::rule(bundle.step_field(i, 0));
     out::text(b"  ");
     out::judgement(context, left, right);
-    if first_link(b, list) != 0 {
-        out::text(b"  from ");
-    }
-    premises(file, b, list);
+    premises(bundle, list);
 }
 
 // The line of record i of a section: 1 symbols, 2 variables, 3 terms, 4 contexts, 5 steps.
-fn record_line(file: &[u8], b: Bundle, section: usize, i: usize)
-    requires { Whole file.now b }
-{
+fn record_line(bundle: &Bundle, section: usize, i: usize) {
     match section {
-        1 => symbol_line(file, b, i),
-        2 => variable_line(file, b, i),
-        3 => term_line(file, b, i),
-        4 => context_line(file, b, i),
-        _ => step_line(file, b, i),
+        1 => symbol_line(bundle, i),
+        2 => variable_line(bundle, i),
+        3 => term_line(bundle, i),
+        4 => context_line(bundle, i),
+        _ => step_line(bundle, i),
     }
     out::line_end();
 }
 
 // The lines of a section of `count` records.
-fn section_lines(file: &[u8], b: Bundle, section: usize, count: usize)
-    requires { Whole file.now b × (count ≤ 1024) }
+fn section_lines(bundle: &Bundle, section: usize, count: usize)
+    requires { (count ≤ 1024) }
 {
-    let mut i = 1;
-    while i <= count {
-        record_line(file, b, section, i);
-        i += 1;
+    for i in 1..count + 1 {
+        record_line(bundle, section, i);
     }
 }
 
 // A term written out, as far as its first 4,000 parts.
-fn whole_term(file: &[u8], b: Bundle, t: usize)
-    requires { Whole file.now b }
-{
-    let left = term(file, b, t, 4000);
+fn whole_term(bundle: &Bundle, t: usize) {
+    let left = term(bundle, t, 4000);
     if left == 0 {
         out::text(b"  (cut: a term that is only named here has a line below)");
     }
 }
 
 // The claim's left or right.
-fn claimed(file: &[u8], b: Bundle, side: &[u8], t: usize)
-    requires { Whole file.now b }
-{
+fn claimed(bundle: &Bundle, side: &[u8], t: usize) {
     out::text(side);
     out::name(b" t", t);
-    if (0 < t) & (t <= b.terms) {
+    if (0 < t) & (t <= bundle.terms()) {
         out::text(b" = ");
-        whole_term(file, b, t);
+        whole_term(bundle, t);
     } else {
         out::text(b", which is not there");
     }
@@ -182,14 +143,12 @@ fn claimed(file: &[u8], b: Bundle, side: &[u8], t: usize)
 }
 
 // All sections, and the claim after the declarations.
-pub fn all_lines(file: &[u8], b: Bundle, left: usize, right: usize)
-    requires { Whole file.now b }
-{
-    section_lines(file, b, 1, b.symbols);
-    section_lines(file, b, 2, b.variables);
-    claimed(file, b, b"left ", left);
-    claimed(file, b, b"right", right);
-    section_lines(file, b, 3, b.terms);
-    section_lines(file, b, 4, b.contexts);
-    section_lines(file, b, 5, b.steps);
+pub fn all_lines(bundle: &Bundle, left: usize, right: usize) {
+    section_lines(bundle, 1, bundle.symbols());
+    section_lines(bundle, 2, bundle.variables());
+    claimed(bundle, b"left ", left);
+    claimed(bundle, b"right", right);
+    section_lines(bundle, 3, bundle.terms());
+    section_lines(bundle, 4, bundle.contexts());
+    section_lines(bundle, 5, bundle.steps());
 }

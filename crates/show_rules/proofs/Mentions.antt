@@ -1,7 +1,7 @@
 -- What no entry of a context mentions.
 --     only_above         what an entry does not mention is mentioned above it, or not at all; by kind: `not_fixed`, `not_replaced`, `no_entry`
 use mathlib.Core.Path.{◌≡◌, sym, ◌∙◌, subst}
-use mathlib.Core.Bool.{Bool, true, false, false≢true}
+use mathlib.Core.Bool.{Bool, false, false≢true}
 use Prim.Native.Nat.{ℕ}
 use native.Mathlib.Omega.{arith}
 use lib.Dec.{eqb}

@@ -3,43 +3,37 @@
 ghost use Rattle.std.specs.Prelude.{◌≡◌, false, ◌*◌, ◌-◌, ◌≤◌, length};
 ghost use Rattle.bundle.specs.Limits.{set_words};
 ghost use Rattle.bundle.specs.Bundle.{context_of};
-ghost use Rattle.bundle.specs.File.{Whole, bundle_at};
 ghost use Rattle.logic.specs.Contexts.{Mentioned};
 
 use bundle::Bundle;
-use bundle::lists::{first_link, has_item, next_link};
-use bundle::records::{context_field, link_field};
 use images::images::is_free;
 use logic::kinds::{FIXES, REPLACES};
 
 // Whether the entry of context c fixes x or replaces it. One that it does not mention is mentioned above it, or not at all.
-fn entry_mentions(file: &[u8], b: Bundle, c: usize, x: usize) -> bool
-    requires { Whole file.now b }
-    ensures { let bundle = bundle_at file.now b in
-        result ≡ false → Mentioned bundle c x → Mentioned bundle (context_of bundle c).parent x }
+fn entry_mentions(bundle: &Bundle, c: usize, x: usize) -> bool
+    ensures { result ≡ false → Mentioned bundle.now c x → Mentioned bundle.now (context_of bundle.now c).parent x }
 {
-    let kind = context_field(file, b, c, 0);
-    let first = context_field(file, b, c, 1);
+    let kind = bundle.context_field(c, 0);
+    let first = bundle.context_field(c, 1);
     if kind == FIXES {
         return first == x;
     }
     if kind == REPLACES {
-        return has_item(file, b, first, x);
+        return bundle.has_item(first, x);
     }
     false
 }
 
 // Whether an entry of a context mentions x. Where it says no, none does.
-pub fn mentions(file: &[u8], b: Bundle, context: usize, x: usize) -> bool
-    requires { Whole file.now b }
-    ensures { result ≡ false → Mentioned (bundle_at file.now b) context x → ⊥ }
+pub fn mentions(bundle: &Bundle, context: usize, x: usize) -> bool
+    ensures { result ≡ false → Mentioned bundle.now context x → ⊥ }
 {
     let mut c = context;
     while c != 0 {
-        if entry_mentions(file, b, c, x) {
+        if entry_mentions(bundle, c, x) {
             return true;
         }
-        let parent = context_field(file, b, c, 3);
+        let parent = bundle.context_field(c, 3);
         if parent >= c {
             return true;
         }
@@ -51,11 +45,10 @@ pub fn mentions(file: &[u8], b: Bundle, context: usize, x: usize) -> bool
 // ---- Up to the empty context
 
 // The parent of context c, or 0 where that is not lower.
-fn above(file: &[u8], b: Bundle, c: usize) -> usize
-    requires { Whole file.now b }
+fn above(bundle: &Bundle, c: usize) -> usize
     ensures { result ≤ c - 1 }
 {
-    let parent = context_field(file, b, c, 3);
+    let parent = bundle.context_field(c, 3);
     if parent < c { parent } else { 0 }
 }
 
@@ -66,16 +59,14 @@ pub struct Chain {
     pub last: usize,
 }
 
-pub fn chain_of(file: &[u8], b: Bundle, context: usize) -> Chain
-    requires { Whole file.now b }
-{
+pub fn chain_of(bundle: &Bundle, context: usize) -> Chain {
     let mut entries = 0;
     let mut last = 0;
     let mut c = context;
     while c != 0 {
         entries += 1;
         last = c;
-        c = above(file, b, c);
+        c = above(bundle, c);
     }
     Chain {
         entries: entries,
@@ -84,33 +75,30 @@ pub fn chain_of(file: &[u8], b: Bundle, context: usize) -> Chain
 }
 
 // Whether x is free in a term of a list.
-fn free_in_some(file: &[u8], b: Bundle, area: &[u64], list: usize, x: usize) -> bool
-    requires { Whole file.now b × (set_words * b.terms ≤ length area.now) }
+fn free_in_some(bundle: &Bundle, area: &[u64], list: usize, x: usize) -> bool
+    requires { (set_words * length bundle.now.terms ≤ length area.now) }
 {
-    let mut i = first_link(b, list);
-    while i != 0 {
-        let t = link_field(file, b, i, 0);
-        if is_free(b, area, Bundle::SET_WORDS, t, x) {
+    for t in bundle.items(list) {
+        if is_free(bundle, area, Bundle::SET_WORDS, t, x) {
             return true;
         }
-        i = next_link(file, b, i);
     }
     false
 }
 
 // The nearest entry that replaces by a term in which x is free; 0 where none does.
-pub fn replacer(file: &[u8], b: Bundle, area: &[u64], context: usize, x: usize) -> usize
-    requires { Whole file.now b × (set_words * b.terms ≤ length area.now) }
+pub fn replacer(bundle: &Bundle, area: &[u64], context: usize, x: usize) -> usize
+    requires { (set_words * length bundle.now.terms ≤ length area.now) }
 {
     let mut c = context;
     while c != 0 {
-        if context_field(file, b, c, 0) == REPLACES {
-            let terms = context_field(file, b, c, 2);
-            if free_in_some(file, b, area, terms, x) {
+        if bundle.context_field(c, 0) == REPLACES {
+            let terms = bundle.context_field(c, 2);
+            if free_in_some(bundle, area, terms, x) {
                 return c;
             }
         }
-        c = above(file, b, c);
+        c = above(bundle, c);
     }
     0
 }

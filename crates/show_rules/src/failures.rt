@@ -1,22 +1,17 @@
 // What a refusal by 13, 14 or 21 means: a step that is no instance of its rule, a side that fails, or a REFL whose walk is too long.
 // Each function goes through the tests of its rule, up to the first that fails; where only one is left, it is that one.
-ghost use Rattle.bundle.specs.File.{Whole};
 
 use bundle::Bundle;
-use bundle::lists::first_link;
-use bundle::records::{link_field, step_field, term_field};
 use logic::kinds;
 use logic::kinds::{APPLICATION, is_binder};
 use logic::rules::{BIND, CONG, LET, REFL, TRANS};
 use show_text::out;
 use show_walks::sentences::{failed_walk, spent_walk};
 
-fn false_cong(file: &[u8], b: Bundle, context: usize, left: usize, right: usize)
-    requires { Whole file.now b }
-{
-    let applied = term_field(file, b, left, 0) == APPLICATION;
-    let result = term_field(file, b, right, 0) == APPLICATION;
-    let same = term_field(file, b, left, 1) == term_field(file, b, right, 1);
+fn false_cong(bundle: &Bundle, context: usize, left: usize, right: usize) {
+    let applied = bundle.term_field(left, 0) == APPLICATION;
+    let result = bundle.term_field(right, 0) == APPLICATION;
+    let same = bundle.term_field(left, 1) == bundle.term_field(right, 1);
     out::name(b" is CONG, and t", left);
     if !(applied & result & same) {
         out::name(b" and t", right);
@@ -28,19 +23,17 @@ fn false_cong(file: &[u8], b: Bundle, context: usize, left: usize, right: usize)
     }
 }
 
-fn false_bind(file: &[u8], b: Bundle, context: usize, left: usize, right: usize)
-    requires { Whole file.now b }
-{
-    let kind = term_field(file, b, left, 0);
-    let same = kind == term_field(file, b, right, 0);
-    let x = term_field(file, b, left, 1);
-    let y = term_field(file, b, right, 1);
+fn false_bind(bundle: &Bundle, context: usize, left: usize, right: usize) {
+    let kind = bundle.term_field(left, 0);
+    let same = kind == bundle.term_field(right, 0);
+    let x = bundle.term_field(left, 1);
+    let y = bundle.term_field(right, 1);
     if same & is_binder(kind) {
         out::name(
             b" is BIND, and its premise does not carry t",
-            term_field(file, b, left, 2),
+            bundle.term_field(left, 2),
         );
-        out::name(b" to t", term_field(file, b, right, 2));
+        out::name(b" to t", bundle.term_field(right, 2));
         out::name(b" in a context that replaces v", x);
         out::name(b" alone by v", y);
         out::name(b", over one that fixes v", y);
@@ -52,10 +45,8 @@ fn false_bind(file: &[u8], b: Bundle, context: usize, left: usize, right: usize)
     }
 }
 
-fn false_let(file: &[u8], b: Bundle, context: usize, left: usize, right: usize)
-    requires { Whole file.now b }
-{
-    if term_field(file, b, left, 0) == kinds::LET {
+fn false_let(bundle: &Bundle, context: usize, left: usize, right: usize) {
+    if bundle.term_field(left, 0) == kinds::LET {
         out::name(
             b" is LET, and its premises do not carry the bound terms of t",
             left,
@@ -73,19 +64,17 @@ fn false_let(file: &[u8], b: Bundle, context: usize, left: usize, right: usize)
 }
 
 // 13: any other mismatch with its rule.
-pub fn false_step(file: &[u8], b: Bundle, k: usize)
-    requires { Whole file.now b }
-{
-    let rule = step_field(file, b, k, 0);
-    let context = step_field(file, b, k, 1);
-    let left = step_field(file, b, k, 2);
-    let right = step_field(file, b, k, 3);
+pub fn false_step(bundle: &Bundle, k: usize) {
+    let rule = bundle.step_field(k, 0);
+    let context = bundle.step_field(k, 1);
+    let left = bundle.step_field(k, 2);
+    let right = bundle.step_field(k, 3);
     out::name(b"step ", k);
     match rule {
-        REFL => failed_walk(file, b, context, left, right),
-        CONG => false_cong(file, b, context, left, right),
-        BIND => false_bind(file, b, context, left, right),
-        LET => false_let(file, b, context, left, right),
+        REFL => failed_walk(bundle, context, left, right),
+        CONG => false_cong(bundle, context, left, right),
+        BIND => false_bind(bundle, context, left, right),
+        LET => false_let(bundle, context, left, right),
         _ => {
             out::name(b" is TRANS, and its premises do not carry t", left);
             out::name(b" to a middle term and that to t", right);
@@ -95,22 +84,20 @@ pub fn false_step(file: &[u8], b: Bundle, k: usize)
 }
 
 // 14: TRANS's middle not settled, or a BIND side fails.
-pub fn failed_side(file: &[u8], b: Bundle, k: usize)
-    requires { Whole file.now b }
-{
-    let context = step_field(file, b, k, 1);
-    let left = step_field(file, b, k, 2);
-    let right = step_field(file, b, k, 3);
-    let premise = link_field(file, b, first_link(b, step_field(file, b, k, 4)), 0);
+pub fn failed_side(bundle: &Bundle, k: usize) {
+    let context = bundle.step_field(k, 1);
+    let left = bundle.step_field(k, 2);
+    let right = bundle.step_field(k, 3);
+    let premise = bundle.link_field(bundle.first_link(bundle.step_field(k, 4)), 0);
     out::name(b"step ", k);
-    if step_field(file, b, k, 0) == TRANS {
+    if bundle.step_field(k, 0) == TRANS {
         out::name(
             b" is TRANS, and its middle term, t",
-            step_field(file, b, premise, 3),
+            bundle.step_field(premise, 3),
         );
         out::name(b", has a free variable that is moved in c", context);
     } else {
-        out::name(b" is BIND, and v", term_field(file, b, right, 1));
+        out::name(b" is BIND, and v", bundle.term_field(right, 1));
         out::name(b" is free in t", left);
         out::name(b", or in the image in c", context);
         out::text(b" of a variable free there");
@@ -118,11 +105,9 @@ pub fn failed_side(file: &[u8], b: Bundle, k: usize)
 }
 
 // 21: a REFL that would visit too many pairs.
-pub fn spent_step(file: &[u8], b: Bundle, k: usize)
-    requires { Whole file.now b }
-{
-    let left = step_field(file, b, k, 2);
-    let right = step_field(file, b, k, 3);
+pub fn spent_step(bundle: &Bundle, k: usize) {
+    let left = bundle.step_field(k, 2);
+    let right = bundle.step_field(k, 3);
     out::name(b"step ", k);
     spent_walk(left, right);
 }

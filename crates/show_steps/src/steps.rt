@@ -1,11 +1,8 @@
 // What a refusal by 12 to 15, 21 or 22 means, in one sentence, and the sentence for every number.
 // Each function goes through the tests of its check, up to the first that fails; where only one is left, it is that one.
-ghost use Rattle.bundle.specs.File.{Whole};
 
 use super::strays::stray_step;
 use bundle::Bundle;
-use bundle::lists::all_numbers;
-use bundle::records::step_field;
 use logic::rules::{BIND, REFL, RULES, TRANS};
 use show_rules::failures::{failed_side, false_step, spent_step};
 use show_tables::tables::{bad_link, bad_sort, before, is_number, no_list, not_to};
@@ -24,12 +21,14 @@ fn wrong_count(rule: usize) {
     }
 }
 
-fn bad_premises(file: &[u8], b: Bundle, k: usize, rule: usize, list: usize)
-    requires { Whole file.now b }
-{
-    if list > b.links {
-        no_list(b": its list of premises starts at link ", list, b.links);
-    } else if !all_numbers(file, b, list, before(k)) {
+fn bad_premises(bundle: &Bundle, k: usize, rule: usize, list: usize) {
+    if list > bundle.links() {
+        no_list(
+            b": its list of premises starts at link ",
+            list,
+            bundle.links(),
+        );
+    } else if !bundle.all_numbers(list, before(k)) {
         out::text(b": a premise is not an earlier step");
     } else {
         wrong_count(rule);
@@ -37,33 +36,29 @@ fn bad_premises(file: &[u8], b: Bundle, k: usize, rule: usize, list: usize)
 }
 
 // 12: a step's rule or reference, or premise count of REFL, TRANS, BIND.
-fn bad_step(file: &[u8], b: Bundle, k: usize)
-    requires { Whole file.now b }
-{
-    let rule = step_field(file, b, k, 0);
-    let context = step_field(file, b, k, 1);
-    let left = step_field(file, b, k, 2);
-    let right = step_field(file, b, k, 3);
-    let list = step_field(file, b, k, 4);
+fn bad_step(bundle: &Bundle, k: usize) {
+    let rule = bundle.step_field(k, 0);
+    let context = bundle.step_field(k, 1);
+    let left = bundle.step_field(k, 2);
+    let right = bundle.step_field(k, 3);
+    let list = bundle.step_field(k, 4);
     out::name(b"step ", k);
-    if context > b.contexts {
+    if context > bundle.contexts() {
         out::name(b": its context is ", context);
-        out::name(b", not 0 to ", b.contexts);
-    } else if !is_number(left, b.terms) {
-        not_to(b": its left is ", left, b.terms);
-    } else if !is_number(right, b.terms) {
-        not_to(b": its right is ", right, b.terms);
+        out::name(b", not 0 to ", bundle.contexts());
+    } else if !is_number(left, bundle.terms()) {
+        not_to(b": its left is ", left, bundle.terms());
+    } else if !is_number(right, bundle.terms()) {
+        not_to(b": its right is ", right, bundle.terms());
     } else {
-        bad_premises(file, b, k, rule, list);
+        bad_premises(bundle, k, rule, list);
     }
 }
 
 // ---- 15: the claim
 
-fn other_claim(file: &[u8], b: Bundle, left: usize, right: usize)
-    requires { Whole file.now b }
-{
-    let last = b.steps;
+fn other_claim(bundle: &Bundle, left: usize, right: usize) {
+    let last = bundle.steps();
     if last == 0 {
         out::text(b"there is no step");
     } else {
@@ -72,31 +67,29 @@ fn other_claim(file: &[u8], b: Bundle, left: usize, right: usize)
         out::name(b", and the last step, ", last);
         out::text(b", gives ");
         out::judgement(
-            step_field(file, b, last, 1),
-            step_field(file, b, last, 2),
-            step_field(file, b, last, 3),
+            bundle.step_field(last, 1),
+            bundle.step_field(last, 2),
+            bundle.step_field(last, 3),
         );
     }
 }
 
 // The sentence for a file that is whole and claims left and right.
-pub fn sentence(file: &[u8], b: Bundle, left: usize, right: usize, number: usize, record: usize)
-    requires { Whole file.now b }
-{
+pub fn sentence(bundle: &Bundle, left: usize, right: usize, number: usize, record: usize) {
     match number {
-        5 => bad_link(file, b, record),
-        6 => bad_sort(file, b, record),
-        7 => bad_term(file, b, record),
-        8 => missorted(file, b, record),
-        9 => repeated_term(file, b, record),
-        10 => bad_context(file, b, record),
-        11 => unsettled(file, b, record),
-        12 => bad_step(file, b, record),
-        13 => false_step(file, b, record),
-        14 => failed_side(file, b, record),
-        15 => other_claim(file, b, left, right),
-        21 => spent_step(file, b, record),
-        22 => stray_step(file, b, record),
+        5 => bad_link(bundle, record),
+        6 => bad_sort(bundle, record),
+        7 => bad_term(bundle, record),
+        8 => missorted(bundle, record),
+        9 => repeated_term(bundle, record),
+        10 => bad_context(bundle, record),
+        11 => unsettled(bundle, record),
+        12 => bad_step(bundle, record),
+        13 => false_step(bundle, record),
+        14 => failed_side(bundle, record),
+        15 => other_claim(bundle, left, right),
+        21 => spent_step(bundle, record),
+        22 => stray_step(bundle, record),
         _ => out::text(b"the area lent to the checker is too short"),
     }
 }

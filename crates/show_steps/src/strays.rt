@@ -1,17 +1,13 @@
 // What a refusal by 22 means: a variable that is free in a side of a step, and that no entry of its context mentions.
-ghost use Rattle.bundle.specs.File.{Whole};
 
 use bundle::Bundle;
-use bundle::records::step_field;
 use show_rules::chains::chain_of;
 use show_rules::strays::find;
 use show_text::out;
 
 // Where the context ends, and that no entry up to there mentions x.
-fn not_mentioned(file: &[u8], b: Bundle, context: usize, x: usize)
-    requires { Whole file.now b }
-{
-    let chain = chain_of(file, b, context);
+fn not_mentioned(bundle: &Bundle, context: usize, x: usize) {
+    let chain = chain_of(bundle, context);
     if context == 0 {
         out::text(b", and its context is the empty one, c0");
     } else if chain.entries == 1 {
@@ -38,13 +34,11 @@ fn advice(context: usize, t: usize, x: usize) {
 }
 
 // 22: a free variable of a side that no entry mentions.
-pub fn stray_step(file: &[u8], b: Bundle, k: usize)
-    requires { Whole file.now b }
-{
-    let context = step_field(file, b, k, 1);
-    let left = step_field(file, b, k, 2);
-    let right = step_field(file, b, k, 3);
-    let stray = find(file, b, context, left, right);
+pub fn stray_step(bundle: &Bundle, k: usize) {
+    let context = bundle.step_field(k, 1);
+    let left = bundle.step_field(k, 2);
+    let right = bundle.step_field(k, 3);
+    let stray = find(bundle, context, left, right);
     out::name(b"step ", k);
     out::name(b": v", stray.variable);
     out::name(b" is free in t", stray.term);
@@ -53,7 +47,7 @@ pub fn stray_step(file: &[u8], b: Bundle, k: usize)
     } else {
         out::text(b", its right");
     }
-    not_mentioned(file, b, context, stray.variable);
+    not_mentioned(bundle, context, stray.variable);
     if stray.replacer != 0 {
         out::name(b" (c", stray.replacer);
         out::name(b" has v", stray.variable);

@@ -1,9 +1,8 @@
 // What a refusal by 1 to 6 means: document 01's word for each number, and one sentence that says what is wrong there.
 // Each function goes through the tests of its check, up to the first that fails; where only one is left, it is that one.
-ghost use Rattle.bundle.specs.File.{Whole};
 
-use bundle::Bundle;
-use bundle::records::{link_field, symbol_field, variable_sort};
+use bundle::{Bundle, Counts};
+use declarations::{Section, section_fault};
 use show_text::out;
 
 // The words are document 01's, as it prints them, and document 02's for 21 and 22.
@@ -84,72 +83,61 @@ fn over(what: &[u8], count: usize, limit: usize) {
 }
 
 // The first count over its limit.
-pub fn oversize(b: Bundle) {
-    if b.symbols > Bundle::SYMBOLS {
-        over(b" symbols", b.symbols, Bundle::SYMBOLS);
-    } else if b.variables > Bundle::VARIABLES {
-        over(b" variables", b.variables, Bundle::VARIABLES);
-    } else if b.terms > Bundle::TERMS {
-        over(b" terms", b.terms, Bundle::TERMS);
-    } else if b.links > Bundle::LINKS {
-        over(b" links", b.links, Bundle::LINKS);
-    } else if b.contexts > Bundle::CONTEXTS {
-        over(b" contexts", b.contexts, Bundle::CONTEXTS);
+pub fn oversize(counts: Counts) {
+    if counts.symbols > Bundle::SYMBOLS {
+        over(b" symbols", counts.symbols, Bundle::SYMBOLS);
+    } else if counts.variables > Bundle::VARIABLES {
+        over(b" variables", counts.variables, Bundle::VARIABLES);
+    } else if counts.terms > Bundle::TERMS {
+        over(b" terms", counts.terms, Bundle::TERMS);
+    } else if counts.links > Bundle::LINKS {
+        over(b" links", counts.links, Bundle::LINKS);
+    } else if counts.contexts > Bundle::CONTEXTS {
+        over(b" contexts", counts.contexts, Bundle::CONTEXTS);
     } else {
-        over(b" steps", b.steps, Bundle::STEPS);
+        over(b" steps", counts.steps, Bundle::STEPS);
     }
 }
 
 // ---- 5: links
 
-pub fn bad_link(file: &[u8], b: Bundle, i: usize)
-    requires { Whole file.now b }
-{
+pub fn bad_link(bundle: &Bundle, i: usize) {
     out::name(b"link ", i);
-    out::name(b": its next is ", link_field(file, b, i, 1));
+    out::name(b": its next is ", bundle.link_field(i, 1));
     out::name(b", neither 0 nor a link after ", i);
-    out::name(b", and the last link is ", b.links);
+    out::name(b", and the last link is ", bundle.links());
 }
 
 // ---- 6: symbols and variables
 
-fn bad_variable(file: &[u8], b: Bundle, i: usize)
-    requires { Whole file.now b }
-{
+fn bad_variable(bundle: &Bundle, i: usize) {
     out::name(b"v", i);
-    out::name(b": its sort is ", variable_sort(file, b, i));
+    out::name(b": its sort is ", bundle.variable_sort(i));
     out::text(b", not 0 (Bool) or 1 (Item)");
 }
 
-fn bad_symbol(file: &[u8], b: Bundle, i: usize)
-    requires { Whole file.now b }
-{
-    let result = symbol_field(file, b, i, 0);
-    let sorts = symbol_field(file, b, i, 1);
+fn bad_symbol(bundle: &Bundle, i: usize) {
+    let result = bundle.symbol_field(i, 0);
+    let sorts = bundle.symbol_field(i, 1);
     out::declared(i);
     if result > 1 {
         out::name(b": its result sort is ", result);
         out::text(b", not 0 (Bool) or 1 (Item)");
-    } else if sorts > b.links {
-        no_list(b": its list of sorts starts at link ", sorts, b.links);
+    } else if sorts > bundle.links() {
+        no_list(
+            b": its list of sorts starts at link ",
+            sorts,
+            bundle.links(),
+        );
     } else {
         out::text(b": an argument sort is not 0 (Bool) or 1 (Item)");
     }
 }
 
 // The number is the symbols' where one of them is bad, for they come first.
-pub fn bad_sort(file: &[u8], b: Bundle, i: usize)
-    requires { Whole file.now b }
-{
-    let in_symbols = declarations::section_fault(
-        file,
-        b,
-        declarations::Section::Symbols,
-        b.symbols,
-    );
-    if in_symbols.number != 0 {
-        bad_symbol(file, b, i);
-    } else {
-        bad_variable(file, b, i);
+pub fn bad_sort(bundle: &Bundle, i: usize) {
+    match section_fault(bundle, Section::Symbols, bundle.symbols()) {
+        Err(_) => bad_symbol(bundle, i),
+        Ok(()) => bad_variable(bundle, i),
     }
 }

@@ -1,43 +1,42 @@
 // What a refusal by 7 to 9 means, in one sentence. Each function goes through the tests of its check, up to the first that fails; where only one is
 // left, it is that one.
-ghost use Rattle.bundle.specs.File.{Whole};
 
 use bundle::Bundle;
-use bundle::lists::{all_different, all_numbers, first_link};
-use bundle::records::term_field;
 use duplicates::same_term;
 use logic::kinds::{APPLICATION, LET, TERM_KINDS, VARIABLE, is_binder};
 use show_tables::tables::{before, is_number, no_list, not_lower, not_to};
 use show_text::out;
 
-fn bad_variable_term(b: Bundle, v: usize) {
-    if !is_number(v, b.variables) {
-        not_to(b" is variable ", v, b.variables);
+fn bad_variable_term(bundle: &Bundle, v: usize) {
+    if !is_number(v, bundle.variables()) {
+        not_to(b" is variable ", v, bundle.variables());
     } else {
         out::text(b" is a variable, and a field that it does not use is not 0");
     }
 }
 
-fn bad_application(file: &[u8], b: Bundle, i: usize, f: usize, list: usize)
-    requires { Whole file.now b }
-{
-    let last = 32 + b.symbols;
+fn bad_application(bundle: &Bundle, i: usize, f: usize, list: usize) {
+    let last = 32 + bundle.symbols();
     if (f == 0) | ((8 < f) & (f < 33)) | (last < f) {
         out::name(b" applies symbol ", f);
         out::name(b", neither built in (1 to 8) nor declared (33 up to ", last);
         out::close();
-    } else if list > b.links {
-        no_list(b": its list of arguments starts at link ", list, b.links);
-    } else if !all_numbers(file, b, list, before(i)) {
+    } else if list > bundle.links() {
+        no_list(
+            b": its list of arguments starts at link ",
+            list,
+            bundle.links(),
+        );
+    } else if !bundle.all_numbers(list, before(i)) {
         not_lower(b": an argument", i);
     } else {
         out::text(b" is an application, and the field that it does not use is not 0");
     }
 }
 
-fn bad_quantifier(b: Bundle, i: usize, v: usize, body: usize) {
-    if !is_number(v, b.variables) {
-        not_to(b" binds variable ", v, b.variables);
+fn bad_quantifier(bundle: &Bundle, i: usize, v: usize, body: usize) {
+    if !is_number(v, bundle.variables()) {
+        not_to(b" binds variable ", v, bundle.variables());
     } else if !is_number(body, before(i)) {
         out::name(b": its body, t", body);
         not_lower(b",", i);
@@ -46,20 +45,22 @@ fn bad_quantifier(b: Bundle, i: usize, v: usize, body: usize) {
     }
 }
 
-fn bad_let(file: &[u8], b: Bundle, i: usize, variables: usize, terms: usize, body: usize)
-    requires { Whole file.now b }
-{
-    if variables > b.links {
+fn bad_let(bundle: &Bundle, i: usize, variables: usize, terms: usize, body: usize) {
+    if variables > bundle.links() {
         no_list(
             b": its list of variables starts at link ",
             variables,
-            b.links,
+            bundle.links(),
         );
-    } else if !all_numbers(file, b, variables, b.variables) {
-        out::name(b": one of its variables is not 1 to ", b.variables);
-    } else if terms > b.links {
-        no_list(b": its list of bound terms starts at link ", terms, b.links);
-    } else if !all_numbers(file, b, terms, before(i)) {
+    } else if !bundle.all_numbers(variables, bundle.variables()) {
+        out::name(b": one of its variables is not 1 to ", bundle.variables());
+    } else if terms > bundle.links() {
+        no_list(
+            b": its list of bound terms starts at link ",
+            terms,
+            bundle.links(),
+        );
+    } else if !bundle.all_numbers(terms, before(i)) {
         not_lower(b": a bound term", i);
     } else {
         out::name(b": its body, t", body);
@@ -68,33 +69,29 @@ fn bad_let(file: &[u8], b: Bundle, i: usize, variables: usize, terms: usize, bod
 }
 
 // 7: a term's kind, unused field or reference.
-pub fn bad_term(file: &[u8], b: Bundle, i: usize)
-    requires { Whole file.now b }
-{
-    let kind = term_field(file, b, i, 0);
-    let first = term_field(file, b, i, 1);
-    let second = term_field(file, b, i, 2);
-    let third = term_field(file, b, i, 3);
+pub fn bad_term(bundle: &Bundle, i: usize) {
+    let kind = bundle.term_field(i, 0);
+    let first = bundle.term_field(i, 1);
+    let second = bundle.term_field(i, 2);
+    let third = bundle.term_field(i, 3);
     out::name(b"t", i);
     if is_binder(kind) {
-        bad_quantifier(b, i, first, second);
+        bad_quantifier(bundle, i, first, second);
         return;
     }
     match kind {
-        VARIABLE => bad_variable_term(b, first),
-        APPLICATION => bad_application(file, b, i, first, second),
-        LET => bad_let(file, b, i, first, second, third),
+        VARIABLE => bad_variable_term(bundle, first),
+        APPLICATION => bad_application(bundle, i, first, second),
+        LET => bad_let(bundle, i, first, second, third),
         _ => not_to(b" has kind ", kind, TERM_KINDS),
     }
 }
 
 // The lists of a let or of a replacing context do not agree.
-pub fn bad_pairs(file: &[u8], b: Bundle, variables: usize)
-    requires { Whole file.now b }
-{
-    if first_link(b, variables) == 0 {
+pub fn bad_pairs(bundle: &Bundle, variables: usize) {
+    if bundle.first_link(variables) == 0 {
         out::text(b" has no variables");
-    } else if !all_different(file, b, variables) {
+    } else if !bundle.all_different(variables) {
         out::text(b" has a variable twice");
     } else {
         out::text(b": its terms are not as many as its variables, or not of the same sorts");
@@ -102,12 +99,10 @@ pub fn bad_pairs(file: &[u8], b: Bundle, variables: usize)
 }
 
 // 8: argument, body or let counts, sorts, repeats.
-pub fn missorted(file: &[u8], b: Bundle, i: usize)
-    requires { Whole file.now b }
-{
-    let kind = term_field(file, b, i, 0);
-    let first = term_field(file, b, i, 1);
-    let second = term_field(file, b, i, 2);
+pub fn missorted(bundle: &Bundle, i: usize) {
+    let kind = bundle.term_field(i, 0);
+    let first = bundle.term_field(i, 1);
+    let second = bundle.term_field(i, 2);
     out::name(b"t", i);
     if kind == APPLICATION {
         out::name(b": its arguments are not as many as symbol ", first);
@@ -115,7 +110,7 @@ pub fn missorted(file: &[u8], b: Bundle, i: usize)
         out::symbol(first);
         out::text(b") takes, or not of its sorts");
     } else if kind == LET {
-        bad_pairs(file, b, first);
+        bad_pairs(bundle, first);
     } else {
         out::name(b": its body, t", second);
         out::text(b", is not of the sort Bool");
@@ -123,23 +118,17 @@ pub fn missorted(file: &[u8], b: Bundle, i: usize)
 }
 
 // The first term that is the same as term i, i itself where there is no earlier one.
-fn first_same(file: &[u8], b: Bundle, i: usize) -> usize
-    requires { Whole file.now b }
-{
-    let mut j = 1;
-    while j < i {
-        if same_term(file, b, j, i) {
+fn first_same(bundle: &Bundle, i: usize) -> usize {
+    for j in 1..i {
+        if same_term(bundle, j, i) {
             return j;
         }
-        j += 1;
     }
     i
 }
 
 // 9: a term equal to an earlier one.
-pub fn repeated_term(file: &[u8], b: Bundle, i: usize)
-    requires { Whole file.now b }
-{
+pub fn repeated_term(bundle: &Bundle, i: usize) {
     out::name(b"t", i);
-    out::name(b" is the same term as t", first_same(file, b, i));
+    out::name(b" is the same term as t", first_same(bundle, i));
 }

@@ -28,13 +28,6 @@ pub fn line_end() {
     text(b"\n");
 }
 
-// A comma and a space before an item that is not the first.
-pub fn comma_unless(first: bool) {
-    if !first {
-        text(b", ");
-    }
-}
-
 pub fn sort(s: usize) {
     match s {
         0 => text(b"Bool"),

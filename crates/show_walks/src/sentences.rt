@@ -1,9 +1,7 @@
 // What is said of a REFL that fails: the pair where its walk ends, and why; or that its walk is too long.
-ghost use Rattle.bundle.specs.File.{Whole};
 
 use super::walk::first_difference;
 use bundle::Bundle;
-use bundle::records::term_field;
 use show_pairs::pairs::{CAPTURE, COUNT, HIDDEN, IMAGE, KIND, SORTS, SYMBOL, UNMATCHED};
 use show_text::out;
 
@@ -52,11 +50,9 @@ fn why(context: usize, right: usize, x: usize, number: usize, about: usize) {
 }
 
 // 13: the walk of a REFL ends at a difference.
-pub fn failed_walk(file: &[u8], b: Bundle, context: usize, left: usize, right: usize)
-    requires { Whole file.now b }
-{
-    let end = first_difference(file, b, context, left, right);
-    let x = term_field(file, b, end.left, 1);
+pub fn failed_walk(bundle: &Bundle, context: usize, left: usize, right: usize) {
+    let end = first_difference(bundle, context, left, right);
+    let x = bundle.term_field(end.left, 1);
     out::name(b" is REFL, and t", left);
     out::name(b" is not taken to t", right);
     out::name(b" by the images in c", context);

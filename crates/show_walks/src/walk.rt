@@ -2,11 +2,9 @@
 // its result, and the checker's own walk is another.
 ghost use Rattle.std.specs.Prelude.{◌*◌, ◌≤◌, length};
 ghost use Rattle.bundle.specs.Limits.{set_words};
-ghost use Rattle.bundle.specs.File.{Whole};
 
+use super::area::free_sets;
 use bundle::Bundle;
-use bundle::lists::{first_link, next_link};
-use bundle::records::{link_field, term_field};
 use logic::PAIR_LIMIT;
 use logic::kinds::{APPLICATION, LET, VARIABLE, is_binder};
 use show_pairs::pairs::pair_reason;
@@ -35,17 +33,8 @@ struct Turn {
 }
 
 // Opens a level for the parts of the pair l and r; a variable has none.
-fn open(
-    file: &[u8],
-    b: Bundle,
-    path: &mut [usize; ROOM],
-    levels: usize,
-    l: usize,
-    r: usize,
-) -> usize
-    requires { Whole file.now b }
-{
-    let kind = term_field(file, b, l, 0);
+fn open(bundle: &Bundle, path: &mut [usize; ROOM], levels: usize, l: usize, r: usize) -> usize {
+    let kind = bundle.term_field(l, 0);
     if kind == VARIABLE {
         return levels;
     }
@@ -54,12 +43,12 @@ fn open(
     }
     let level = levels + 1;
     let listed = (kind == APPLICATION) | (kind == LET);
-    let i = if listed { term_field(file, b, l, 2) } else { 0 };
-    let j = if listed { term_field(file, b, r, 2) } else { 0 };
+    let i = if listed { bundle.term_field(l, 2) } else { 0 };
+    let j = if listed { bundle.term_field(r, 2) } else { 0 };
     path::set(path, level, path::LEFT, l);
     path::set(path, level, path::RIGHT, r);
-    path::set(path, level, path::LEFT_LINK, first_link(b, i));
-    path::set(path, level, path::RIGHT_LINK, first_link(b, j));
+    path::set(path, level, path::LEFT_LINK, bundle.first_link(i));
+    path::set(path, level, path::RIGHT_LINK, bundle.first_link(j));
     path::set(path, level, path::IN_BODY, 0);
     level
 }
@@ -75,12 +64,10 @@ fn body_field(kind: usize) -> usize
 }
 
 // The bodies of the last level, once; then the level is left.
-fn next_body(file: &[u8], b: Bundle, path: &mut [usize; ROOM], levels: usize) -> Turn
-    requires { Whole file.now b }
-{
+fn next_body(bundle: &Bundle, path: &mut [usize; ROOM], levels: usize) -> Turn {
     let l = path::get(path, levels, path::LEFT);
     let r = path::get(path, levels, path::RIGHT);
-    let body = body_field(term_field(file, b, l, 0));
+    let body = body_field(bundle.term_field(l, 0));
     if (body == 0) | (path::get(path, levels, path::IN_BODY) != 0) {
         return Turn {
             left: 0,
@@ -91,21 +78,19 @@ fn next_body(file: &[u8], b: Bundle, path: &mut [usize; ROOM], levels: usize) ->
     }
     path::set(path, levels, path::IN_BODY, 1);
     Turn {
-        left: term_field(file, b, l, body),
-        right: term_field(file, b, r, body),
+        left: bundle.term_field(l, body),
+        right: bundle.term_field(r, body),
         levels: levels,
         number: pairs::SAME,
     }
 }
 
 // The next parts of the last level.
-fn next_turn(file: &[u8], b: Bundle, path: &mut [usize; ROOM], levels: usize) -> Turn
-    requires { Whole file.now b }
-{
+fn next_turn(bundle: &Bundle, path: &mut [usize; ROOM], levels: usize) -> Turn {
     let i = path::get(path, levels, path::LEFT_LINK);
     let j = path::get(path, levels, path::RIGHT_LINK);
     if (i == 0) & (j == 0) {
-        return next_body(file, b, path, levels);
+        return next_body(bundle, path, levels);
     }
     if (i == 0) | (j == 0) {
         return Turn {
@@ -115,11 +100,11 @@ fn next_turn(file: &[u8], b: Bundle, path: &mut [usize; ROOM], levels: usize) ->
             number: pairs::COUNT,
         };
     }
-    path::set(path, levels, path::LEFT_LINK, next_link(file, b, i));
-    path::set(path, levels, path::RIGHT_LINK, next_link(file, b, j));
+    path::set(path, levels, path::LEFT_LINK, bundle.next_link(i));
+    path::set(path, levels, path::RIGHT_LINK, bundle.next_link(j));
     Turn {
-        left: link_field(file, b, i, 0),
-        right: link_field(file, b, j, 0),
+        left: bundle.link_field(i, 0),
+        right: bundle.link_field(j, 0),
         levels: levels,
         number: pairs::SAME,
     }
@@ -135,60 +120,42 @@ fn ends(left: usize, right: usize, number: usize, about: usize) -> Difference {
 }
 
 // The walk, over the free sets of all terms.
-fn walk(
-    file: &[u8],
-    b: Bundle,
-    area: &[u64],
-    context: usize,
-    left: usize,
-    right: usize,
-) -> Difference
-    requires { Whole file.now b × (set_words * b.terms ≤ length area.now) }
+fn walk(bundle: &Bundle, area: &[u64], context: usize, left: usize, right: usize) -> Difference
+    requires { (set_words * length bundle.now.terms ≤ length area.now) }
 {
     let mut path = [0usize; ROOM];
     let mut levels = 0;
     let mut l = left;
     let mut r = right;
     let mut visited = 0;
-    let mut turn = 0;
-    while turn < TURNS {
+    for _ in 0..TURNS {
         if l != 0 {
             if visited >= PAIR_LIMIT {
                 return ends(l, r, pairs::SPENT, 0);
             }
             visited += 1;
-            let reason = pair_reason(file, b, area, &path, levels, context, l, r);
+            let reason = pair_reason(bundle, area, &path, levels, context, l, r);
             if reason.number != pairs::SAME {
                 return ends(l, r, reason.number, reason.about);
             }
-            levels = open(file, b, &mut path, levels, l, r);
+            levels = open(bundle, &mut path, levels, l, r);
         }
         if levels == 0 {
             return ends(left, right, pairs::SAME, 0);
         }
-        let next = next_turn(file, b, &mut path, levels);
+        let next = next_turn(bundle, &mut path, levels);
         if next.number != pairs::SAME {
             return ends(next.left, next.right, next.number, 0);
         }
         levels = next.levels;
         l = next.left;
         r = next.right;
-        turn += 1;
     }
     ends(left, right, pairs::SAME, 0)
 }
 
 // Where the walk of a REFL with these sides in a context ends.
-pub fn first_difference(
-    file: &[u8],
-    b: Bundle,
-    context: usize,
-    left: usize,
-    right: usize,
-) -> Difference
-    requires { Whole file.now b }
-{
-    let mut area = [0u64; Bundle::SET_WORDS * Bundle::TERMS];
-    free_variables::free_sets(file, b, &mut area, Bundle::SET_WORDS);
-    walk(file, b, &area, context, left, right)
+pub fn first_difference(bundle: &Bundle, context: usize, left: usize, right: usize) -> Difference {
+    let area = free_sets(bundle);
+    walk(bundle, &area, context, left, right)
 }

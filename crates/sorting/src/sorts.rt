@@ -1,10 +1,9 @@
 // Signatures of symbols, sorts of terms, and lists of sorts compared.
-ghost use Rattle.std.specs.Prelude.{◌≡◌, true, ◌&&◌, map, replicate, get_or, ◌≤◌};
+ghost use Rattle.std.specs.Prelude.{◌≡◌, true, ◌&&◌, map, replicate, get_or, ◌≤◌, length};
 ghost use Rattle.bundle.specs.Limits.{limits};
 ghost use Rattle.bundle.specs.Bundle.{sort_of_variable};
 ghost use Rattle.bundle.specs.Links.{items};
 ghost use Rattle.bundle.specs.Lists.{same_list, different};
-ghost use Rattle.bundle.specs.File.{Whole, bundle_at};
 ghost use Rattle.logic.specs.declared.Signature.TheVariants.{BuiltIn};
 ghost use Rattle.logic.specs.Symbols.{truth_sort, symbol_kind, signature, known, argument_sorts, result_sort};
 ghost use Rattle.logic.specs.Sorts.{sort_at};
@@ -12,9 +11,6 @@ ghost use Rattle.logic.specs.Checks.{not_empty};
 ghost use Rattle.sorting.specs.Notes.{Sorted, Fitting};
 
 use bundle::Bundle;
-use bundle::halves::wide;
-use bundle::lists::{all_different, first_link, next_link};
-use bundle::records::{link_field, symbol_field, variable_sort};
 use logic::Signature;
 
 // Built in: so many arguments, each of that sort. The result is truth.
@@ -49,12 +45,10 @@ fn signature_in(symbols: usize, f: usize) -> Signature
 }
 
 // The signature of symbol f.
-pub fn signature_of(b: Bundle, f: usize) -> Signature
-    requires { b.symbols ≤ limits.symbols }
-    ensures { result ≡ signature (symbol_kind b.symbols f) }
+pub fn signature_of(bundle: &Bundle, f: usize) -> Signature
+    ensures { result ≡ signature (symbol_kind (length bundle.now.symbols) f) }
 {
-    let symbols = b.symbols;
-    signature_in(symbols, f)
+    signature_in(bundle.symbols(), f)
 }
 
 // Whether there is such a symbol.
@@ -73,9 +67,8 @@ pub fn is_known(s: Signature) -> bool
 }
 
 // The result sort.
-pub fn result_sort(file: &[u8], b: Bundle, s: Signature) -> usize
-    requires { Whole file.now b }
-    ensures { result ≡ result_sort (bundle_at file.now b) s }
+pub fn result_sort(bundle: &Bundle, s: Signature) -> usize
+    ensures { result ≡ result_sort bundle.now s }
 {
     match s {
         Signature::BuiltIn {
@@ -83,7 +76,7 @@ pub fn result_sort(file: &[u8], b: Bundle, s: Signature) -> usize
             sort: _,
             result,
         } => result,
-        Signature::Declared(i) => symbol_field(file, b, i, 0),
+        Signature::Declared(i) => bundle.symbol_field(i, 0),
         Signature::Unknown => 0,
     }
 }
@@ -96,175 +89,140 @@ pub fn sort_in(sorts: &[usize], t: usize) -> usize
 }
 
 // Whether the terms of a list are so many, each of the same sort.
-fn all_of_sort(
-    file: &[u8],
-    b: Bundle,
-    sorts: &[usize],
-    count: usize,
-    sort: usize,
-    terms: usize,
-) -> bool
-    requires { Whole file.now b × Sorted file.now b sorts.now }
-    ensures { let bundle = bundle_at file.now b in
-        result ≡ same_list (replicate count sort) (map (sort_at bundle) (items bundle terms)) }
+fn all_of_sort(bundle: &Bundle, sorts: &[usize], count: usize, sort: usize, terms: usize) -> bool
+    requires { Sorted bundle.now sorts.now }
+    ensures { result ≡ same_list (replicate count sort) (map (sort_at bundle.now) (items bundle.now terms)) }
 {
-    let mut left = count;
-    let mut i = first_link(b, terms);
-    while left != 0 {
-        if i == 0 {
+    let mut rest = bundle.items(terms);
+    for _ in 0..count {
+        let Some(t) = rest.next() else {
+            return false;
+        };
+        if sort != sort_in(sorts, t) {
             return false;
         }
-        let t = link_field(file, b, i, 0);
-        let s = sort_in(sorts, t);
-        if sort != s {
-            return false;
-        }
-        left -= 1;
-        i = next_link(file, b, i);
     }
-    i == 0
+    rest.next().is_none()
 }
 
 // Whether the terms from link `terms` on have the sorts from link `list` on, one each: up to a link from which that is noted. Each link on the
 // way is noted before the rest of its list is known, so what is noted holds only where the answer is yes.
 fn far_sorts(
-    file: &[u8],
-    b: Bundle,
+    bundle: &Bundle,
     sorts: &[usize],
     fitting: &mut [u16],
     list: usize,
     terms: usize,
 ) -> bool
-    requires { Whole file.now b × Sorted file.now b sorts.now × Fitting file.now b fitting.old × (list ≤ b.links) × (terms ≤ b.links) }
-    ensures { let bundle = bundle_at file.now b in
-        (result ≡ same_list (items bundle list) (map (sort_at bundle) (items bundle terms))) × (result ≡ true → Fitting file.now b fitting.new) }
+    requires { Sorted bundle.now sorts.now × Fitting bundle.now fitting.old × (list ≤ length bundle.now.links) × (terms ≤ length bundle.now.links) }
+    ensures { (result ≡ same_list (items bundle.now list) (map (sort_at bundle.now) (items bundle.now terms))) × (result ≡ true → Fitting bundle.now fitting.new) }
 {
+    // There are few enough links that a link's number fits in 16 bits.
+    prove!(bundle.links() <= Bundle::LINKS);
     let mut i = list;
     let mut j = terms;
+    // By links, since what is noted is kept by them.
     while i != 0 {
         if j == 0 {
             return false;
         }
-        if wide(fitting[j]) == i {
+        if usize::from(fitting[j]) == i {
             return true;
         }
         fitting[j] = i as u16;
-        let sort = link_field(file, b, i, 0);
-        let t = link_field(file, b, j, 0);
-        let s = sort_in(sorts, t);
-        if sort != s {
+        let sort = bundle.link_field(i, 0);
+        let t = bundle.link_field(j, 0);
+        if sort != sort_in(sorts, t) {
             return false;
         }
-        i = next_link(file, b, i);
-        j = next_link(file, b, j);
+        i = bundle.next_link(i);
+        j = bundle.next_link(j);
     }
     j == 0
 }
 
 // Whether the terms of a list have the sorts of a list of sorts, one each. Most lists end before anything is noted.
 fn same_sorts(
-    file: &[u8],
-    b: Bundle,
+    bundle: &Bundle,
     sorts: &[usize],
     fitting: &mut [u16],
     list: usize,
     terms: usize,
 ) -> bool
-    requires { Whole file.now b × Sorted file.now b sorts.now × Fitting file.now b fitting.old }
-    ensures { let bundle = bundle_at file.now b in
-        (result ≡ same_list (items bundle list) (map (sort_at bundle) (items bundle terms))) × (result ≡ true → Fitting file.now b fitting.new) }
+    requires { Sorted bundle.now sorts.now × Fitting bundle.now fitting.old }
+    ensures { (result ≡ same_list (items bundle.now list) (map (sort_at bundle.now) (items bundle.now terms))) × (result ≡ true → Fitting bundle.now fitting.new) }
 {
-    let mut i = first_link(b, list);
-    let mut j = first_link(b, terms);
-    let mut left = 8usize;
-    while left != 0 {
+    let mut i = bundle.first_link(list);
+    let mut j = bundle.first_link(terms);
+    // By links, since the two that it comes to are handed on.
+    for _ in 0..8 {
         if i == 0 {
             return j == 0;
         }
         if j == 0 {
             return false;
         }
-        let sort = link_field(file, b, i, 0);
-        let t = link_field(file, b, j, 0);
-        let s = sort_in(sorts, t);
-        if sort != s {
+        let sort = bundle.link_field(i, 0);
+        let t = bundle.link_field(j, 0);
+        if sort != sort_in(sorts, t) {
             return false;
         }
-        i = next_link(file, b, i);
-        j = next_link(file, b, j);
-        left -= 1;
+        i = bundle.next_link(i);
+        j = bundle.next_link(j);
     }
-    far_sorts(file, b, sorts, fitting, i, j)
+    far_sorts(bundle, sorts, fitting, i, j)
 }
 
 // Whether the terms of a list have the sorts of a symbol's arguments.
 pub fn arguments_fit(
-    file: &[u8],
-    b: Bundle,
+    bundle: &Bundle,
     sorts: &[usize],
     fitting: &mut [u16],
     s: Signature,
     terms: usize,
 ) -> bool
-    requires { Whole file.now b × Sorted file.now b sorts.now × Fitting file.now b fitting.old }
-    ensures { let bundle = bundle_at file.now b in
-        (result ≡ same_list (argument_sorts bundle s) (map (sort_at bundle) (items bundle terms))) × (result ≡ true → Fitting file.now b fitting.exit.now) }
+    requires { Sorted bundle.now sorts.now × Fitting bundle.now fitting.old }
+    ensures { (result ≡ same_list (argument_sorts bundle.now s) (map (sort_at bundle.now) (items bundle.now terms))) × (result ≡ true → Fitting bundle.now fitting.new) }
 {
     match s {
         Signature::BuiltIn {
             count,
             sort,
             result: _,
-        } => all_of_sort(file, b, sorts, count, sort, terms),
+        } => all_of_sort(bundle, sorts, count, sort, terms),
         Signature::Declared(i) => {
-            let list = symbol_field(file, b, i, 1);
-            same_sorts(file, b, sorts, fitting, list, terms)
+            let list = bundle.symbol_field(i, 1);
+            same_sorts(bundle, sorts, fitting, list, terms)
         }
-        Signature::Unknown => first_link(b, terms) == 0,
+        Signature::Unknown => bundle.first_link(terms) == 0,
     }
 }
 
 // Whether the terms of a list have the sorts of the variables of another, one each.
-pub fn variables_fit(
-    file: &[u8],
-    b: Bundle,
-    sorts: &[usize],
-    variables: usize,
-    terms: usize,
-) -> bool
-    requires { Whole file.now b × Sorted file.now b sorts.now }
-    ensures { let bundle = bundle_at file.now b in
-        result ≡ same_list (map (sort_of_variable bundle) (items bundle variables)) (map (sort_at bundle) (items bundle terms)) }
+pub fn variables_fit(bundle: &Bundle, sorts: &[usize], variables: usize, terms: usize) -> bool
+    requires { Sorted bundle.now sorts.now }
+    ensures { result ≡ same_list (map (sort_of_variable bundle.now) (items bundle.now variables)) (map (sort_at bundle.now) (items bundle.now terms)) }
 {
-    let mut i = first_link(b, variables);
-    let mut j = first_link(b, terms);
-    while i != 0 {
-        if j == 0 {
+    let mut others = bundle.items(terms);
+    for v in bundle.items(variables) {
+        let Some(t) = others.next() else {
+            return false;
+        };
+        if bundle.variable_sort(v) != sort_in(sorts, t) {
             return false;
         }
-        let v = link_field(file, b, i, 0);
-        let sort = variable_sort(file, b, v);
-        let t = link_field(file, b, j, 0);
-        let s = sort_in(sorts, t);
-        if sort != s {
-            return false;
-        }
-        i = next_link(file, b, i);
-        j = next_link(file, b, j);
     }
-    j == 0
+    others.next().is_none()
 }
 
 // The lists of a let or of a replacing context agree where the variables are some and all different, and the terms fit them. Two tests, each small
 // enough to be part of its callers' loops.
 
 // Whether there is at least one variable, and all are different.
-pub fn some_different(file: &[u8], b: Bundle, variables: usize) -> bool
-    requires { Whole file.now b }
-    ensures { let bundle = bundle_at file.now b in
-        result ≡ (not_empty (items bundle variables) && different (items bundle variables)) }
+pub fn some_different(bundle: &Bundle, variables: usize) -> bool
+    ensures { result ≡ (not_empty (items bundle.now variables) && different (items bundle.now variables)) }
 {
-    let some = first_link(b, variables) != 0;
-    let different = all_different(file, b, variables);
+    let some = bundle.first_link(variables) != 0;
+    let different = bundle.all_different(variables);
     some & different
 }

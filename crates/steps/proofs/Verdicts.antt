@@ -6,9 +6,12 @@
 --     leaves_at_most            a walk leaves no more pairs than there were
 --     scope_read, stray_judged, in_scope_judged   with check 22
 --     after_refers, after_rule  and with check 12
+--     on_ok                     what holds at any rate holds where nothing is wrong
+--     number_some               a check has a number
 --     last_later                the pairs of the last REFL walked, step by step
-use mathlib.Core.Path.{◌≡◌, refl, sym, ap, ◌∙◌, subst}
-use mathlib.Core.Bool.{Bool, true, false, cond, not, ◌&&◌, ◌||◌}
+use Rattle.std.specs.Prelude.{Result, Ok, Err, IfOk}
+use mathlib.Core.Path.{◌≡◌, refl, sym, ap, ◌∙◌}
+use mathlib.Core.Bool.{Bool, true, false, cond, not, ◌&&◌}
 use Prim.Native.Nat.{ℕ, suc, ◌+◌, ◌-◌, ◌≤◌}
 use mathlib.Core.List.{List, []}
 use native.Mathlib.Omega.{arith}
@@ -16,26 +19,25 @@ use native.Mathlib.Decide.{dec_le}
 use lib.ListN.{length}
 use lib.Dec.{eqb, leb}
 use borrow.Author.Tests.{eqb-true, eqb-false, ne_eqb, le-leb, lt-leb}
-use Rattle.bundle.specs.declared.Bundle.{Bundle as Counts}
 use Rattle.bundle.specs.Bundle.{Bundle, Step}
 use Rattle.bundle.specs.Links.{items}
 use Rattle.bundle.specs.Lists.{numbers, each}
 use Rattle.logic.specs.declared.Image.{Image}
+use Rattle.logic.specs.declared.checks.Check.{Check}
 use Rattle.logic.specs.declared.Limited.{Limited}
-use Rattle.logic.specs.declared.Limited.TheVariants.{Same, Different, Spent}
 use Rattle.logic.specs.declared.Mention.TheVariants.{Absent}
 use Rattle.logic.specs.Contexts.{as_image}
 use Rattle.logic.specs.Tests.{passed, first_failing}
+use Rattle.logic.specs.Failures.{number_of, number_in}
 use Rattle.logic.specs.Readings.{Reading}
-use Rattle.logic.specs.ReflWalk.{PairWalk, refl_walk_by, within_by, pair_limit, limit, ended}
-use Rattle.logic.specs.Rules.{Rule, rule_of, refl_holds_by, refl_matches_by, refl_suffices_by, scoped_by, suffices_by, matches_by, sides_by, refers_where, rule_tests_by, scoped_tests_by}
-use Rattle.logic.specs.Rules.{step_fault_by, walked_by, pairs_by, walked_pairs, last_pairs}
+use Rattle.logic.specs.ReflWalk.{PairWalk, refl_walk_by, within_by, pair_limit, limit}
+use Rattle.logic.specs.Rules.{rule_of, refl_holds_by, refl_matches_by, refl_suffices_by, scoped_by, matches_by, sides_by, refers_where}
+use Rattle.logic.specs.Rules.{walked_by, pairs_by, walked_pairs, last_pairs}
 use Rattle.logic.proofs.ReflWalk.{limit_fits, limit_over, pair_walk_limited}
 use Rattle.logic.proofs.Pairs.{last_more, last_same}
 use Rattle.images.specs.ContextRows.{mention_at, image_at, mentioned_at}
 use Rattle.images.specs.LentReading.{images_in, in_scope_in, all_in_scope_in, reading_in}
-use Rattle.steps.specs.declared.Verdict.{Verdict}
-use Rattle.steps.specs.Verdicts.{LeavesAtMost, verdict, walk_verdict, Judged, JudgedScoped, JudgedAfter, later}
+use Rattle.steps.specs.Verdicts.{LeavesAtMost, walk_verdict, Judged, JudgedScoped, JudgedAfter, later}
 use Rattle.steps.proofs.RuleOf.{fault_refers, fault_rule, no_pairs, refl_tests}
 
 -- ---- what a walk says
@@ -50,45 +52,45 @@ module _ (w : PairWalk) where
       go (no h) p e = rw (limit_over pair_limit w (omega arith)) tt
 
   -- its number, by 21 and 13, and its pairs
-  limit_number : (walk_verdict (limit pair_limit w)).number ≡ cond (leb w.pairs pair_limit) (cond w.same 0 13) 21
+  limit_number : number_in (walk_verdict (limit pair_limit w)) ≡ cond (leb w.pairs pair_limit) (cond w.same 0 13) 21
   unfolding walk_verdict
   limit_number = go (dec_le w.pairs pair_limit) w.same refl
     where
       go : Dec (w.pairs ≤ pair_limit) → (p : Bool) → w.same ≡ p
-          → (walk_verdict (limit pair_limit w)).number ≡ cond (leb w.pairs pair_limit) (cond w.same 0 13) 21
+          → number_in (walk_verdict (limit pair_limit w)) ≡ cond (leb w.pairs pair_limit) (cond w.same 0 13) 21
       go (yes h) true e = rw (limit_fits pair_limit w h, le-leb w.pairs pair_limit h, e)
       go (yes h) false e = rw (limit_fits pair_limit w h, le-leb w.pairs pair_limit h, e)
       go (no h) p e = rw (limit_over pair_limit w (omega arith), lt-leb w.pairs pair_limit (omega arith))
 
-  limit_pairs : (walk_verdict (limit pair_limit w)).number ≡ 0 → (walk_verdict (limit pair_limit w)).pairs ≡ w.pairs
+  limit_pairs : IfOk (walk_verdict (limit pair_limit w)) (λ n. n ≡ w.pairs)
   unfolding walk_verdict
-  limit_pairs z = go (dec_le w.pairs pair_limit) w.same refl
+  limit_pairs = go (dec_le w.pairs pair_limit) w.same refl
     where
-      go : Dec (w.pairs ≤ pair_limit) → (p : Bool) → w.same ≡ p → (walk_verdict (limit pair_limit w)).pairs ≡ w.pairs
+      go : Dec (w.pairs ≤ pair_limit) → (p : Bool) → w.same ≡ p → IfOk (walk_verdict (limit pair_limit w)) (λ n. n ≡ w.pairs)
       go (yes h) true e = rw (limit_fits pair_limit w h, e) (omega arith)
-      go (yes h) false e = let f : ◌≡◌ {A = ℕ} 13 0 = rw (limit_fits pair_limit w h, e) at z in absurd (omega arith)
-      go (no h) p e = let f : ◌≡◌ {A = ℕ} 21 0 = rw (limit_over pair_limit w (omega arith)) at z in absurd (omega arith)
+      go (yes h) false e = rw (limit_fits pair_limit w h, e) tt
+      go (no h) p e = rw (limit_over pair_limit w (omega arith)) tt
 
 pub leaves_at_most : (free : ℕ → ℕ → Bool) (image : ℕ → Image) (b : Bundle) (l r : ℕ) (a : Limited) → a ≡ within_by free image b l [] r pair_limit
     → LeavesAtMost pair_limit a
 leaves_at_most free image b l r a e = rw (e, pair_walk_limited free image b l [] r pair_limit) (limit_leaves _)
 
 -- the images that are read in a context are those of its row
-pub images_here : (c : Counts) (images : List ℕ) (k : ℕ) → k ≤ c.contexts → image_at c.variables images k ≡ images_in c images k
-images_here c images k h = sym (λ i x. as_image (cond (le-leb k c.contexts h i) (mention_at c.variables images k x) Absent))
+pub images_here : (b : Bundle) (images : List ℕ) (k : ℕ) → k ≤ length b.contexts → image_at (length b.variables) images k ≡ images_in b images k
+images_here b images k h = sym (λ i x. as_image (cond (le-leb k (length b.contexts) h i) (mention_at (length b.variables) images k x) Absent))
 
 -- ---- a REFL
 
 module _ (g : Reading) (b : Bundle) (s : Step) (is : s.rule ≡ 1) where
-  pub form_judged : (r : Verdict) → r ≡ verdict 0 0 → refl_holds_by g.settled g.image b s ≡ true → Judged g b s r
+  pub form_judged : refl_holds_by g.settled g.image b s ≡ true → Judged g b s (Ok 0)
   unfolding first_failing refl_suffices_by refl_matches_by pairs_by walked_by
-  form_judged r e h = record {
-    number = ap (λ (x : Verdict). x.number) e ∙ sym (refl_tests g b s is ∙ rw h);
-    pairs = λ z. ap (λ (x : Verdict). x.pairs) e ∙ rw (is, h);
+  form_judged h = record {
+    number = sym (refl_tests g b s is ∙ rw h);
+    pairs = rw (is, h);
   }
 
   pub walk_judged : (a : Limited) (image : ℕ → Image) → image ≡ g.image s.context
-      → a ≡ within_by g.free image b s.left [] s.right pair_limit → refl_holds_by g.settled g.image b s ≡ false → (r : Verdict)
+      → a ≡ within_by g.free image b s.left [] s.right pair_limit → refl_holds_by g.settled g.image b s ≡ false → (r : Result ℕ Check)
       → r ≡ walk_verdict a → Judged g b s r
   unfolding first_failing refl_suffices_by refl_matches_by pairs_by walked_by
   walk_judged a image same e h r r-is =
@@ -97,58 +99,84 @@ module _ (g : Reading) (b : Bundle) (s : Step) (is : s.rule ≡ 1) where
       e ∙ ap (λ (f : ℕ → Image). within_by g.free f b s.left [] s.right pair_limit) same
       ∙ pair_walk_limited g.free (g.image s.context) b s.left [] s.right pair_limit in
       let is-walk : r ≡ walk_verdict (limit pair_limit w) = r-is ∙ ap walk_verdict a-is in
+      let told : pairs_by g b s ≡ w.pairs = rw (is, h) in
       record {
-        number = ap (λ (x : Verdict). x.number) is-walk ∙ limit_number w ∙ sym (refl_tests g b s is ∙ rw h);
-        pairs = λ z. ap (λ (x : Verdict). x.pairs) is-walk ∙ limit_pairs w (sym (ap (λ (x : Verdict). x.number) is-walk) ∙ z) ∙ rw (is, h);
+        number = ap number_in is-walk ∙ limit_number w ∙ sym (refl_tests g b s is ∙ rw h);
+        pairs = rw (is-walk, told) (limit_pairs w);
       }
 
 -- ---- another rule
 
-pub other_judged : (g : Reading) (b : Bundle) (s : Step) (r : Verdict) (k : ℕ) → (s.rule ≡ 1 → ⊥) → r ≡ verdict k 0
-    → k ≡ cond (matches_by g b (rule_of s.rule) s) (cond (sides_by g b (rule_of s.rule) s) 0 14) 13 → Judged g b s r
+pub other_judged : (g : Reading) (b : Bundle) (s : Step) (r : Result ℕ Check) → (s.rule ≡ 1 → ⊥)
+    → number_in r ≡ cond (matches_by g b (rule_of s.rule) s) (cond (sides_by g b (rule_of s.rule) s) 0 14) 13
+    → IfOk r (λ n. n ≡ 0) → Judged g b s r
 unfolding first_failing pairs_by walked_by
-other_judged g b s r k not e n = record {
-  number = ap (λ (x : Verdict). x.number) e ∙ n ∙ sym (rw (no_pairs g b s s.rule not));
-  pairs = λ z. ap (λ (x : Verdict). x.pairs) e ∙ rw (ne_eqb s.rule 1 not);
-}
+other_judged g b s r not n none =
+    let told : pairs_by g b s ≡ 0 = rw (ne_eqb s.rule 1 not) in
+    record {
+      number = n ∙ sym (rw (no_pairs g b s s.rule not));
+      pairs = rw told none;
+    }
 
 -- ---- with check 22
 
 -- what the code asks of the sides is what the reading asks
-pub scope_read : (f : List ℕ) (c : Counts) (w : List ℕ) (n : ℕ) (images scopes bed : List ℕ) (s : Step) → s.context ≤ c.contexts
-    → (in_scope_in c.terms w scopes n (mentioned_at n s.context) s.left && in_scope_in c.terms w scopes n (mentioned_at n s.context) s.right)
-    ≡ scoped_by (reading_in f c w n images scopes bed).in_scope s
+pub scope_read : (b : Bundle) (w : List ℕ) (n : ℕ) (images scopes bed : List ℕ) (s : Step) → s.context ≤ length b.contexts
+    → (in_scope_in (length b.terms) w scopes n (mentioned_at n s.context) s.left && in_scope_in (length b.terms) w scopes n (mentioned_at n s.context) s.right)
+    ≡ scoped_by (reading_in b w n images scopes bed).in_scope s
 unfolding scoped_by reading_in all_in_scope_in
-scope_read f c w n images scopes bed s h = rw (le-leb s.context c.contexts h)
+scope_read b w n images scopes bed s h = rw (le-leb s.context (length b.contexts) h)
 
-module _ (g : Reading) (b : Bundle) (s : Step) (r : Verdict) {p : Bool} (scope : p ≡ scoped_by g.in_scope s) where
-  pub stray_judged : r ≡ verdict 22 0 → p ≡ false → JudgedScoped g b s r
+module _ (g : Reading) (b : Bundle) (s : Step) {p : Bool} (scope : p ≡ scoped_by g.in_scope s) where
+  pub stray_judged : p ≡ false → JudgedScoped g b s (Err Check.Scope)
   unfolding first_failing
-  stray_judged e h = record {
-    number = ap (λ (x : Verdict). x.number) e ∙ rw (← scope, h);
-    pairs = λ z. absurd (let n : r.number ≡ 22 = ap (λ (x : Verdict). x.number) e in omega (arith, n, z));
-  }
+  stray_judged h = record { number = rw (← scope, h); pairs = tt }
 
-  pub in_scope_judged : p ≡ true → Judged g b s r → JudgedScoped g b s r
+  pub in_scope_judged : (r : Result ℕ Check) → p ≡ true → Judged g b s r → JudgedScoped g b s r
   unfolding first_failing
-  in_scope_judged h j = record { number = j.number ∙ rw (← scope, h); pairs = j.pairs }
+  in_scope_judged r h j = record { number = j.number ∙ rw (← scope, h); pairs = j.pairs }
 
 -- ---- and with check 12
 
 module _ (g : Reading) (b : Bundle) (s : Step) (n : ℕ) (s' : Step) (same : s ≡ s') (p : Bool) (walked : p ≡ each (numbers n) (items b s.premises)) where
-  pub after_refers : (r : Verdict) → r ≡ verdict 12 0 → passed (refers_where p b s) ≡ false → JudgedAfter g b n s' r
-  after_refers r e refers = record {
-    number = ap (λ (x : Verdict). x.number) e ∙ fault_refers g b s n s' same p walked refers;
-    pairs = λ z. absurd (let n : r.number ≡ 12 = ap (λ (x : Verdict). x.number) e in omega (arith, n, z));
-  }
+  pub after_refers : passed (refers_where p b s) ≡ false → JudgedAfter g b n s' (Err Check.Step)
+  after_refers refers = record { number = fault_refers g b s n s' same p walked refers; pairs = tt }
 
-  pub after_rule : (r : Verdict) → passed (refers_where p b s) ≡ true → JudgedScoped g b s r → JudgedAfter g b n s' r
+  pub after_rule : (r : Result ℕ Check) → passed (refers_where p b s) ≡ true → JudgedScoped g b s r → JudgedAfter g b n s' r
   after_rule r refers j = record {
-    number = fault_rule g b s n s' same p walked r.number refers j.number;
-    pairs = λ z. j.pairs z ∙ ap (pairs_by g b) same;
+    number = fault_rule g b s n s' same p walked (number_in r) refers j.number;
+    pairs = rw (← same) j.pairs;
   }
 
 -- ---- all steps
+
+pub on_ok : {P : Type 0} (r : Result ℕ Check) → P → IfOk r (λ _. P)
+on_ok (Ok n) h = h
+on_ok (Err k) h = tt
+
+pub number_some : (k : Check) → number_of k ≡ 0 → ⊥
+number_some Check.Length e = omega (arith, e)
+number_some Check.Version e = omega (arith, e)
+number_some Check.Limits e = omega (arith, e)
+number_some Check.Area e = omega (arith, e)
+number_some Check.Next e = omega (arith, e)
+number_some Check.Declared e = omega (arith, e)
+number_some Check.Refers e = omega (arith, e)
+number_some Check.Sorted e = omega (arith, e)
+number_some Check.New e = omega (arith, e)
+number_some Check.Context e = omega (arith, e)
+number_some Check.Settled e = omega (arith, e)
+number_some Check.Step e = omega (arith, e)
+number_some Check.Matches e = omega (arith, e)
+number_some Check.Side e = omega (arith, e)
+number_some Check.Claim e = omega (arith, e)
+number_some Check.Room e = omega (arith, e)
+number_some Check.Closed e = omega (arith, e)
+number_some Check.Job e = omega (arith, e)
+number_some Check.Text e = omega (arith, e)
+number_some Check.Name e = omega (arith, e)
+number_some Check.Pairs e = omega (arith, e)
+number_some Check.Scope e = omega (arith, e)
 
 -- step by step, the pairs of the last REFL walked
 pub last_later : (b : Bundle) (k p q r : ℕ) → 1 ≤ k → p ≡ last_pairs b (k - 1) → q ≡ walked_pairs b k → r ≡ later p q → r ≡ last_pairs b (k + 1 - 1)

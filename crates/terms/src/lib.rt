@@ -1,46 +1,52 @@
-// The checks 7 to 9, and all of 1 to 9, on the lent file in place. `tables_fault` is for a caller with raw bytes; the other functions ask for `Whole`,
-// counts within limits and length exact.
+// The checks 7 to 9, and all of 1 to 9, on the lent file in place.
 #![tactic(auto)]
 
-ghost use Rattle.std.specs.Prelude.{◌≡◌};
-ghost use Rattle.bundle.specs.File.{Whole, bundle_at};
+ghost use Rattle.std.specs.Prelude.{◌≡◌, IfOk};
+ghost use Rattle.bundle.specs.File.{bundle_of};
+ghost use Rattle.logic.specs.Failures.{fault_in};
 ghost use Rattle.logic.specs.Checks.{sections_fault, tables_fault};
 ghost use Rattle.sorting.specs.Notes.{Sorted};
 
 pub mod terms; // terms.rt: 7, 8, and all of a term
 
 use bundle::Bundle;
-use bundle::words::counts;
-use logic::Fault;
+use declarations::header::opened;
+use logic::checks::Failure;
 use sorting::notes::note_sorts;
 
 // The first bad record of links, symbols, variables, terms, where the sorts of all terms are noted.
-pub fn sections_fault(file: &[u8], b: Bundle, sorts: &[usize]) -> Fault
-    requires { Whole file.now b × Sorted file.now b sorts.now }
-    ensures { result ≡ sections_fault (bundle_at file.now b) }
+pub fn sections_fault(bundle: &Bundle, sorts: &[usize]) -> Result<(), Failure>
+    requires { Sorted bundle.now sorts.now }
+    ensures { fault_in result ≡ sections_fault bundle.now }
 {
-    let early = declarations::sections_fault(file, b);
-    if early.number != 0 {
-        return early;
-    }
-    terms::terms_fault(file, b, sorts)
+    declarations::sections_fault(bundle)?;
+    terms::terms_fault(bundle, sorts)
 }
 
-// The first of the checks 1 to 9 that a file fails, where an area of `lent` words is lent and `required` are required.
-pub fn tables_fault(file: &[u8], lent: usize, required: usize) -> Fault
-    ensures { result ≡ tables_fault file.now lent required }
+// The same, with room for the sorts: a file with few terms gets little.
+fn noted_sections(bundle: &Bundle) -> Result<(), Failure>
+    ensures { fault_in result ≡ sections_fault bundle.now }
 {
-    let number = declarations::header::header_fault(file, lent, required);
-    if number != 0 {
-        return Fault { number, record: 0 };
-    }
-    let b = counts(file);
-    if b.terms < 256 {
+    if bundle.terms() < 256 {
         let mut few = [0usize; 256];
-        note_sorts(file, b, &mut few);
-        return sections_fault(file, b, &few);
+        note_sorts(bundle, &mut few);
+        return sections_fault(bundle, &few);
     }
     let mut sorts = [0usize; Bundle::TERMS + 1];
-    note_sorts(file, b, &mut sorts);
-    sections_fault(file, b, &sorts)
+    note_sorts(bundle, &mut sorts);
+    sections_fault(bundle, &sorts)
+}
+
+// The file as a bundle; or the first of the checks 1 to 9 that it fails, where an area of `lent` words is lent and `required` are required.
+pub fn tables_fault(file: &[u8], lent: usize, required: usize) -> Result<Bundle<'_>, Failure>
+    ensures fault { fault_in result ≡ tables_fault file.now lent required }
+    ensures bundle { IfOk result (λ b. b ≡ bundle_of file.now) }
+{
+    match opened(file, lent, required) {
+        Err(check) => Err(Failure { check, record: 0 }),
+        Ok(bundle) => {
+            noted_sections(&bundle)?;
+            Ok(bundle)
+        }
+    }
 }

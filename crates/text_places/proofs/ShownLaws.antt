@@ -6,7 +6,7 @@ use mathlib.Core.Path.{◌≡◌, refl, sym, ap, ap₂, ◌∙◌}
 use mathlib.Core.Bool.{Bool, true, false, cond}
 use mathlib.Core.List.{List, [], ◌∷◌, ◌++◌, map, append-nil}
 use lib.ListN.{length, get_or, take, drop, set, length-drop, length-set}
-use lib.Seq.{take-suc, take-suc-set, get_or-drop}
+use lib.Seq.{take-suc, take-suc-set, get_or-take, get_or-drop}
 use borrow.Author.Tests.{ne_eqb, eq-eqb, lt-ltb, le-ltb}
 use Rattle.text_places.specs.Shown.{part, shown_byte, goes_on, under_byte, under, Shows, Marks, UnderAsMany}
 
@@ -55,6 +55,9 @@ part_more text i j o l =
     rw q
     (take-suc (drop i text) (j - i) 0 (omega (arith, length-drop i text))
     ∙ ap (λ x. take (j - i) (drop i text) ++ (x ∷ [])) (get_or-drop i text (j - i) 0 ∙ ap (λ k. get_or text k 0) p))
+
+pub part_byte : (text : List ℕ) (i j k : ℕ) → i + k < j → get_or (part text i j) k 0 ≡ get_or text (i + k) 0
+part_byte text i j k l = let m : k < j - i = omega arith in get_or-take (j - i) (drop i text) k 0 m ∙ get_or-drop i text k 0
 
 -- ---- the line: n bytes from byte i on are in the area
 

@@ -36,13 +36,11 @@ pub fn place_of(text: &[u8], at: usize) -> Place
 {
     let mut line = 1;
     let mut start = 0;
-    let mut j = 0;
-    while j < at {
+    for j in 0..at {
         if ends_line(text, j) {
             line += 1;
             start = j + 1;
         }
-        j += 1;
     }
     Place {
         line,
@@ -56,17 +54,15 @@ pub fn line_end(text: &[u8], at: usize) -> usize
     requires { at ≤ length text.now }
     ensures { LineEnds text.now at result }
 {
-    let mut j = at;
-    while j < text.len() {
+    for j in at..text.len() {
         if text[j] == 10 {
             return j;
         }
         if text[j] == 13 {
             return j;
         }
-        j += 1;
     }
-    j
+    text.len()
 }
 
 // Whether a byte is white space.
@@ -80,12 +76,10 @@ fn is_space(b: u8) -> bool
 pub fn content_end(text: &[u8]) -> usize
     ensures { ContentEnds text.now result }
 {
-    let mut j = text.len();
-    while 0 < j {
-        if !is_space(text[j - 1]) {
-            return j;
+    for j in (0..text.len()).rev() {
+        if !is_space(text[j]) {
+            return j + 1;
         }
-        j -= 1;
     }
-    j
+    0
 }

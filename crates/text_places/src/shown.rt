@@ -22,14 +22,12 @@ pub fn shown_from(text: &[u8], start: usize, at: usize) -> usize
     if at - start <= BACK {
         return start;
     }
-    let mut j = at - BACK;
-    while j < at {
+    for j in at - BACK..at {
         if !goes_on(text[j]) {
             return j;
         }
-        j += 1;
     }
-    j
+    at
 }
 
 // Where to stop: the line's end, or near the byte `at`, after a whole character.
@@ -41,14 +39,12 @@ pub fn shown_to(text: &[u8], at: usize, end: usize) -> usize
     if end - at <= room {
         return end;
     }
-    let mut j = at + room;
-    while at < j {
+    for j in (at + 1..at + room + 1).rev() {
         if !goes_on(text[j]) {
             return j;
         }
-        j -= 1;
     }
-    j
+    at
 }
 
 // A byte as it is shown: a tab and what is no control byte as it is.
@@ -72,12 +68,10 @@ pub fn shown_line(text: &[u8], from: usize, to: usize, line: &mut [u8; 128]) -> 
     requires { (from ≤ to) × (to ≤ length text.now) × (to ≤ from + 100) × (length line.old ≡ 128) }
     ensures { Shows text.now from to line.new result }
 {
-    let mut n = 0;
-    while from + n < to {
+    for n in 0..to - from {
         line[n] = shown_byte(text[from + n]);
-        n += 1;
     }
-    n
+    to - from
 }
 
 // What stands under a character.
@@ -96,13 +90,11 @@ pub fn mark_line(text: &[u8], from: usize, at: usize, line: &mut [u8; 128]) -> u
     ensures { Marks text.now from at line.new result }
 {
     let mut n = 0;
-    let mut j = from;
-    while j < at {
-        if !goes_on(text[j]) {
-            line[n] = under_byte(text[j]);
+    for b in &text[from..at] {
+        if !goes_on(*b) {
+            line[n] = under_byte(*b);
             n += 1;
         }
-        j += 1;
     }
     line[n] = b'^';
     n + 1

@@ -2,7 +2,8 @@
 --     kept_refl, kept_trans, below_kept, room_kept     what stays while only one set is written
 --     unite_zero, unite_high, unite_low                the set of another term united: none, not lower, lower
 --     remove_put                                       a variable removed
---     adding_turn, adding_end, removing_turn, removing_end     loops over lists: the set so far, and what is left to add or to remove
+--     partly_refl, partly_on, partly_end           loops over lists: the set so far, and what is left to add
+--     removing_turn, removing_end                  the same, and what is left to remove
 use mathlib.Core.Path.{◌≡◌, refl, sym, ap, ◌∙◌}
 use mathlib.Core.Logic.{inl}
 use mathlib.Core.Bool.{Bool, true, false, cond, not, ◌&&◌, ◌||◌, and-true, and-false, or-false, or_assoc}
@@ -19,6 +20,7 @@ use Rattle.sets.specs.Sets.{holds, member, without_bit, changed, removed, united
 use Rattle.sets.proofs.Members.{member_same, member_removed, member_united, changed_length, changed_out, filled_length, filled_out}
 use Rattle.logic.specs.Free.{frees_of}
 use Rattle.unions.specs.Put.{SetRoom, Kept, Put, set_below}
+use Rattle.unions.specs.Unions.{Partly}
 
 but_assoc : (m p q : Bool) → (m && not (p || q)) ≡ ((not p && m) && not q)
 but_assoc true true q = refl
@@ -104,21 +106,25 @@ remove_put w v n at y room e = rw e (record {
 pub room_kept : (w v : List ℕ) (n t at : ℕ) → SetRoom w n t at → Kept w v n at → SetRoom v n t at
 room_kept w v n t at room kept = record { one = room.one; start = room.start; room = omega (arith, room.room, kept.long) }
 
-module _ (w : List ℕ) (n t at : ℕ) (room : SetRoom w n t at) (whole : List ℕ) where
-  abbrev pub Adding : List ℕ → List ℕ → Type 0
-  Adding v ys = (x : ℕ) → (member v at n x || frees_of (set_below w n t) ys x) ≡ (member w at n x || frees_of (set_below w n t) whole x)
+module _ {w : List ℕ} {n t at : ℕ} {whole : List ℕ} where
+  pub partly_refl : Partly w w n t at whole whole
+  partly_refl = record { kept = kept_refl w n at; members = λ x. refl }
 
-  pub adding_turn : (v u ys rest : List ℕ) (i : ℕ) → Kept w v n at → Adding v ys → ys ≡ i ∷ rest
-      → Put v u n at (λ x. member v at n x || set_below v n t i x) → Adding u rest
+  pub partly_on : {v u ys rest : List ℕ} {i : ℕ} → SetRoom w n t at → Partly w v n t at whole ys → ys ≡ i ∷ rest
+      → Put v u n at (λ x. member v at n x || set_below v n t i x) → Partly w u n t at whole rest
   unfolding frees_of
-  adding_turn v u ys rest i kept so e put x =
-      ap (λ (p : Bool). p || frees_of (set_below w n t) rest x) (put.members x ∙ ap (λ (p : Bool). member v at n x || p) (below_kept w v n t at room kept i x))
-      ∙ or_assoc (member v at n x) (set_below w n t i x) (frees_of (set_below w n t) rest x)
-      ∙ (rw e at (so x))
+  partly_on {v} {u} {ys} {rest} {i} room so e put = record {
+    kept = kept_trans w v u n at so.kept put.kept;
+    members = λ x. ap (λ (p : Bool). p || frees_of (set_below w n t) rest x)
+        (put.members x ∙ ap (λ (p : Bool). member v at n x || p) (below_kept w v n t at room so.kept i x))
+        ∙ or_assoc (member v at n x) (set_below w n t i x) (frees_of (set_below w n t) rest x)
+        ∙ (rw e at (so.members x));
+  }
 
-  pub adding_end : (v ys : List ℕ) → Kept w v n at → Adding v ys → ys ≡ [] → Put w v n at (λ x. member w at n x || frees_of (set_below w n t) whole x)
+  pub partly_end : {v ys : List ℕ} → Partly w v n t at whole ys → ys ≡ []
+      → Put w v n at (λ x. member w at n x || frees_of (set_below w n t) whole x)
   unfolding frees_of
-  adding_end v ys kept so e = record { kept = kept; members = λ x. sym (or-false (member v at n x)) ∙ (rw e at (so x)) }
+  partly_end {v} so e = record { kept = so.kept; members = λ x. sym (or-false (member v at n x)) ∙ (rw e at (so.members x)) }
 
 module _ (w : List ℕ) (n at : ℕ) (whole : List ℕ) where
   abbrev pub Removing : List ℕ → List ℕ → Type 0

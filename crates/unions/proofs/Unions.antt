@@ -289,10 +289,10 @@ below_on w v n t at b room so put =
 
 -- ---- the first terms, then the rest
 
-pub partly_put : (w v u : List ℕ) (n t at : ℕ) (whole rest : List ℕ) → SetRoom w n t at → Partly w v n t at whole rest
+pub partly_put : {w v u : List ℕ} {n t at : ℕ} {whole rest : List ℕ} → SetRoom w n t at → Partly w v n t at whole rest
     → Put v u n at (λ x. member v at n x || frees_of (set_below v n t) rest x) → Put w u n at (λ x. member w at n x || frees_of (set_below w n t) whole x)
 unfolding frees_of
-partly_put w v u n t at whole rest room part put = record {
+partly_put {w} {v} {u} {n} {t} {at} {whole} {rest} room part put = record {
   kept = kept_trans w v u n at part.kept put.kept;
   members = λ x. put.members x ∙ ap (λ (p : Bool). member v at n x || p) (same rest x) ∙ part.members x;
 }

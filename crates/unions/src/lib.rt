@@ -6,16 +6,12 @@
 ghost use Rattle.std.specs.Prelude.{◌≡◌, ◌⊎◌, ◌||◌, ◌+◌, ◌*◌, ◌-◌, ◌≤◌, ◌<◌, length};
 ghost use Rattle.bundle.specs.Links.{items};
 ghost use Rattle.bundle.specs.Lists.{numbers};
-ghost use Rattle.bundle.specs.File.{Whole, bundle_at};
 ghost use Rattle.sets.specs.Sets.{member};
 ghost use Rattle.logic.specs.Free.{frees_of};
 ghost use Rattle.unions.specs.Put.{SetRoom, Put, set_below, SetsBelow};
 ghost use Rattle.unions.specs.Unions.{known, unmet, joined, Fewer, Unions, Partly};
 
 use bundle::Bundle;
-use bundle::halves::wide;
-use bundle::lists::{first_link, next_link};
-use bundle::records::link_field;
 
 // The mark of a known link. Any other mark but 0 says that the link was met; while a walk is on its way out, it is the link before.
 const KNOWN: u16 = 65535;
@@ -39,7 +35,8 @@ pub fn unite_term(area: &mut [u64], n: usize, t: usize, at: usize, i: usize)
     sets::unite(area, at, n * (i - 1), n);
 }
 
-// The same for a term far in a list.
+// The same for a term far in a list. A twin of `unite_term`, for speed: with the loop alone over the words of a set, long lists are faster, and short ones
+// without it.
 fn unite_far(area: &mut [u64], n: usize, t: usize, at: usize, i: usize)
     requires { SetRoom area.old n t at }
     ensures { Put area.old area.new n at (λ x. member area.old at n x || set_below area.old n t i x) }
@@ -54,40 +51,37 @@ fn unite_far(area: &mut [u64], n: usize, t: usize, at: usize, i: usize)
 }
 
 // Adds the sets of the terms of a list, one by one.
-fn unite_each(file: &[u8], b: Bundle, area: &mut [u64], n: usize, t: usize, at: usize, list: usize)
-    requires { Whole file.now b × SetRoom area.old n t at }
+fn unite_each(bundle: &Bundle, area: &mut [u64], n: usize, t: usize, at: usize, list: usize)
+    requires { SetRoom area.old n t at }
     ensures { Put area.old area.new n at
-        (λ x. member area.old at n x || frees_of (set_below area.old n t) (items (bundle_at file.now b) list) x) }
+        (λ x. member area.old at n x || frees_of (set_below area.old n t) (items bundle.now list) x) }
 {
-    let mut i = first_link(b, list);
-    while i != 0 {
-        let term = link_field(file, b, i, 0);
+    for term in bundle.items(list) {
         unite_term(area, n, t, at, term);
-        i = next_link(file, b, i);
     }
 }
 
 // Adds the sets of the first terms of a list. Gives the link that is next, 0 where the list has ended.
 fn unite_first(
-    file: &[u8],
-    b: Bundle,
+    bundle: &Bundle,
     area: &mut [u64],
     n: usize,
     t: usize,
     at: usize,
     list: usize,
 ) -> usize
-    requires { Whole file.now b × SetRoom area.old n t at }
-    ensures { let bundle = bundle_at file.now b in
-        (result ≤ b.links) × Partly area.old area.new n t at (items bundle list) (items bundle result) }
+    requires { SetRoom area.old n t at }
+    ensures { (result ≤ length bundle.now.links) × Partly area.old area.new n t at (items bundle.now list) (items bundle.now result) }
 {
-    let mut left = SHORT;
-    let mut i = first_link(b, list);
-    while (i != 0) & (left != 0) {
-        let term = link_field(file, b, i, 0);
+    let mut i = bundle.first_link(list);
+    // by link: the next one is handed on
+    for _ in 0..SHORT {
+        if i == 0 {
+            return 0;
+        }
+        let term = bundle.link_field(i, 0);
         unite_term(area, n, t, at, term);
-        i = next_link(file, b, i);
-        left -= 1;
+        i = bundle.next_link(i);
     }
     i
 }
@@ -118,12 +112,10 @@ fn join(lists: &mut [u64], to: usize, area: &[u64], first: usize, second: usize,
         × (to + n ≤ length lists.old) }
     ensures { lists.new ≡ joined area.now first lists.old second lists.old to n }
 {
-    let mut k = 0;
-    while k < n {
+    for k in 0..n {
         let x = area[first + k];
         let y = lists[second + k];
         lists[to + k] = x | y;
-        k += 1;
     }
 }
 
@@ -132,34 +124,33 @@ fn unite_known(area: &mut [u64], at: usize, lists: &[u64], from: usize, n: usize
     requires { (at + n ≤ length area.old) × (from + n ≤ length lists.now) }
     ensures { area.new ≡ joined area.old at lists.now from area.old at n }
 {
-    let mut k = 0;
-    while k < n {
+    for k in 0..n {
         let x = area[at + k];
         let y = lists[from + k];
         area[at + k] = x | y;
-        k += 1;
     }
 }
 
 // Walks from a link to the first that is known, and marks each link on the way with the one before it. Gives the last that is not known.
-fn walk_out(file: &[u8], b: Bundle, marks: &mut [u16], start: usize) -> usize
-    requires { Whole file.now b × (b.links < length marks.old) × (start ≤ b.links) }
-    ensures { (result ≤ b.links) × Fewer marks.old marks.new }
+fn walk_out(bundle: &Bundle, marks: &mut [u16], start: usize) -> usize
+    requires { (length bundle.now.links < length marks.old) × (start ≤ length bundle.now.links) }
+    ensures { (result ≤ length bundle.now.links) × Fewer marks.old marks.new }
 {
+    let _links = bundle.links(); // at most 2,048: each link fits a mark
     let mut last = 0;
     let mut i = start;
+    // by link: each is marked
     while !is_known(marks, i) {
         marks[i] = last as u16;
         last = i;
-        i = next_link(file, b, i);
+        i = bundle.next_link(i);
     }
     last
 }
 
 // Makes link k known, if the link after it is, and its term is below t. Gives the link that was before it on the walk, 0 if it was the first.
 fn learn_link(
-    file: &[u8],
-    b: Bundle,
+    bundle: &Bundle,
     area: &[u64],
     n: usize,
     t: usize,
@@ -167,13 +158,12 @@ fn learn_link(
     marks: &mut [u16],
     k: usize,
 ) -> usize
-    requires { let bundle = bundle_at file.now b in
-        Whole file.now b × SetsBelow area.now n t bundle × Unions bundle n t lists.old marks.old × (1 ≤ k) × (k ≤ b.links) }
-    ensures { (result < k) × Unions (bundle_at file.now b) n t lists.new marks.new }
+    requires { SetsBelow area.now n t bundle.now × Unions bundle.now n t lists.old marks.old × (1 ≤ k) × (k ≤ length bundle.now.links) }
+    ensures { (result < k) × Unions bundle.now n t lists.new marks.new }
 {
-    let term = link_field(file, b, k, 0);
-    let next = next_link(file, b, k);
-    let before = wide(marks[k]);
+    let term = bundle.link_field(k, 0);
+    let next = bundle.next_link(k);
+    let before = usize::from(marks[k]);
     if before >= k {
         return 0;
     }
@@ -190,8 +180,7 @@ fn learn_link(
 
 // Walks back from a link, and makes each link on the way known.
 fn walk_back(
-    file: &[u8],
-    b: Bundle,
+    bundle: &Bundle,
     area: &[u64],
     n: usize,
     t: usize,
@@ -199,21 +188,20 @@ fn walk_back(
     marks: &mut [u16],
     last: usize,
 )
-    requires { let bundle = bundle_at file.now b in
-        Whole file.now b × SetsBelow area.now n t bundle × Unions bundle n t lists.old marks.old × (last ≤ b.links) }
-    ensures { Unions (bundle_at file.now b) n t lists.new marks.new }
+    requires { SetsBelow area.now n t bundle.now × Unions bundle.now n t lists.old marks.old × (last ≤ length bundle.now.links) }
+    ensures { Unions bundle.now n t lists.new marks.new }
 {
     let mut k = last;
+    // by link, back along the marks
     while k != 0 {
-        k = learn_link(file, b, area, n, t, lists, marks, k);
+        k = learn_link(bundle, area, n, t, lists, marks, k);
     }
 }
 
 // Adds the sets of the terms of the list that starts at link i, which was met before. Each link of it is made known; where a term is not
 // below t, which no file that passes check 7 has, they are added one by one.
 fn unite_met(
-    file: &[u8],
-    b: Bundle,
+    bundle: &Bundle,
     area: &mut [u64],
     n: usize,
     t: usize,
@@ -222,19 +210,18 @@ fn unite_met(
     lists: &mut [u64],
     marks: &mut [u16],
 )
-    requires { let bundle = bundle_at file.now b in
-        Whole file.now b × SetRoom area.old n t at × SetsBelow area.old n t bundle × Unions bundle n t lists.old marks.old × (i ≤ b.links) }
+    requires { SetRoom area.old n t at × SetsBelow area.old n t bundle.now × Unions bundle.now n t lists.old marks.old × (i ≤ length bundle.now.links) }
     ensures put { Put area.old area.new n at
-        (λ x. member area.old at n x || frees_of (set_below area.old n t) (items (bundle_at file.now b) i) x) }
-    ensures unions { Unions (bundle_at file.now b) n t lists.new marks.new }
+        (λ x. member area.old at n x || frees_of (set_below area.old n t) (items bundle.now i) x) }
+    ensures unions { Unions bundle.now n t lists.new marks.new }
 {
-    let last = walk_out(file, b, marks, i);
-    walk_back(file, b, area, n, t, lists, marks, last);
+    let last = walk_out(bundle, marks, i);
+    walk_back(bundle, area, n, t, lists, marks, last);
     if is_known(marks, i) {
         unite_known(area, at, lists, n * i, n);
         return;
     }
-    unite_each(file, b, area, n, t, at, i);
+    unite_each(bundle, area, n, t, at, i);
 }
 
 // Whether k is a link that was not met before.
@@ -249,8 +236,7 @@ fn is_new(marks: &[u16], k: usize) -> bool
 // Adds the sets of the terms of the list that starts at link `start`, up to a link that was met before. Gives that link, 0 where the list has
 // ended. So a list that no other shares is walked once.
 fn unite_new(
-    file: &[u8],
-    b: Bundle,
+    bundle: &Bundle,
     area: &mut [u64],
     n: usize,
     t: usize,
@@ -258,25 +244,24 @@ fn unite_new(
     start: usize,
     marks: &mut [u16],
 ) -> usize
-    requires { Whole file.now b × SetRoom area.old n t at × (b.links < length marks.old) × (start ≤ b.links) }
-    ensures fact { let bundle = bundle_at file.now b in
-        (result ≤ b.links) × Partly area.old area.new n t at (items bundle start) (items bundle result) }
+    requires { SetRoom area.old n t at × (length bundle.now.links < length marks.old) × (start ≤ length bundle.now.links) }
+    ensures fact { (result ≤ length bundle.now.links) × Partly area.old area.new n t at (items bundle.now start) (items bundle.now result) }
     ensures fewer { Fewer marks.old marks.new }
 {
     let mut i = start;
+    // by link: each is marked
     while is_new(marks, i) {
-        let term = link_field(file, b, i, 0);
+        let term = bundle.link_field(i, 0);
         unite_far(area, n, t, at, term);
         marks[i] = MET;
-        i = next_link(file, b, i);
+        i = bundle.next_link(i);
     }
     i
 }
 
 // Adds the sets of the terms of the list that starts at link i: up to a link that was met before one by one, then by what is known.
 fn unite_rest(
-    file: &[u8],
-    b: Bundle,
+    bundle: &Bundle,
     area: &mut [u64],
     n: usize,
     t: usize,
@@ -285,22 +270,20 @@ fn unite_rest(
     lists: &mut [u64],
     marks: &mut [u16],
 )
-    requires { let bundle = bundle_at file.now b in
-        Whole file.now b × SetRoom area.old n t at × SetsBelow area.old n t bundle × Unions bundle n t lists.old marks.old × (i ≤ b.links) }
+    requires { SetRoom area.old n t at × SetsBelow area.old n t bundle.now × Unions bundle.now n t lists.old marks.old × (i ≤ length bundle.now.links) }
     ensures put { Put area.old area.new n at
-        (λ x. member area.old at n x || frees_of (set_below area.old n t) (items (bundle_at file.now b) i) x) }
-    ensures unions { Unions (bundle_at file.now b) n t lists.new marks.new }
+        (λ x. member area.old at n x || frees_of (set_below area.old n t) (items bundle.now i) x) }
+    ensures unions { Unions bundle.now n t lists.new marks.new }
 {
-    let met = unite_new(file, b, area, n, t, at, i, marks);
+    let met = unite_new(bundle, area, n, t, at, i, marks);
     if met != 0 {
-        unite_met(file, b, area, n, t, at, met, lists, marks);
+        unite_met(bundle, area, n, t, at, met, lists, marks);
     }
 }
 
 // Adds the sets of the terms of a list.
 pub fn unite_list(
-    file: &[u8],
-    b: Bundle,
+    bundle: &Bundle,
     area: &mut [u64],
     n: usize,
     t: usize,
@@ -309,14 +292,13 @@ pub fn unite_list(
     lists: &mut [u64],
     marks: &mut [u16],
 )
-    requires { let bundle = bundle_at file.now b in
-        Whole file.now b × SetRoom area.old n t at × SetsBelow area.old n t bundle × Unions bundle n t lists.old marks.old }
+    requires { SetRoom area.old n t at × SetsBelow area.old n t bundle.now × Unions bundle.now n t lists.old marks.old }
     ensures put { Put area.old area.new n at
-        (λ x. member area.old at n x || frees_of (set_below area.old n t) (items (bundle_at file.now b) list) x) }
-    ensures unions { Unions (bundle_at file.now b) n t lists.new marks.new }
+        (λ x. member area.old at n x || frees_of (set_below area.old n t) (items bundle.now list) x) }
+    ensures unions { Unions bundle.now n t lists.new marks.new }
 {
-    let rest = unite_first(file, b, area, n, t, at, list);
+    let rest = unite_first(bundle, area, n, t, at, list);
     if rest != 0 {
-        unite_rest(file, b, area, n, t, at, rest, lists, marks);
+        unite_rest(bundle, area, n, t, at, rest, lists, marks);
     }
 }

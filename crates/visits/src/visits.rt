@@ -4,8 +4,8 @@ ghost use Rattle.scratch.specs.Scratch.{bundle_in};
 ghost use Rattle.filing.specs.Filing.{Indexed};
 ghost use Rattle.placing.specs.Outcomes.{TermAsks, TermGives, ListAsks, ListGives, VisitIndexed, ListIndexed};
 
-use bundle::Bundle;
 use bundle::digests::DIGESTS;
+use bundle::{Bundle, Counts};
 use closers::{
     close_application, close_quantifier, close_variable, conclude, open_let, open_quantifier,
 };
@@ -21,7 +21,7 @@ use scratch::records::{link_field, term_field};
 pub fn visit_term(
     words: &mut [u32],
     stack: &mut [u64],
-    c: Bundle,
+    c: Counts,
     context: usize,
     height: usize,
     term: usize,
@@ -114,7 +114,7 @@ pub fn visit_term(
 pub fn visit_list(
     words: &mut [u32],
     stack: &mut [u64],
-    c: Bundle,
+    c: Counts,
     context: usize,
     height: usize,
     owner: usize,
@@ -146,7 +146,7 @@ pub fn visit_list(
 }
 
 // Visits a term of a job in the empty context: all terms are filed first.
-pub fn visit_job(words: &mut [u32], stack: &mut [u64], c: Bundle, term: usize) -> Visited
+pub fn visit_job(words: &mut [u32], stack: &mut [u64], c: Counts, term: usize) -> Visited
     requires { TermAsks words.old stack.old c 0 0 term × TablesFormed (bundle_in words.old c) }
     ensures { TermGives words.old stack.old c 0 0 term words.new stack.new result }
 {

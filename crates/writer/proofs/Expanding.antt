@@ -14,13 +14,13 @@ use native.Mathlib.Omega.{arith}
 use lib.ListN.{length, get_or, take}
 use lib.Dec.{ltb}
 use borrow.Author.Tests.{ltb-true}
-use Rattle.bundle.specs.declared.Bundle.{Bundle as Counts}
+use Rattle.bundle.specs.declared.Counts.{Counts}
 use Rattle.bundle.specs.Bundle.{Bundle}
 use Rattle.bundle.specs.Words.{word_at}
 use Rattle.bundle.specs.Limits.{bytes_of, Within, within_of}
 use Rattle.bundle.specs.File.{bundle_by, bundle_at, bundle_of, counts_of}
 use Rattle.bundle.proofs.Limits.{within_all, within_true, within_words}
-use Rattle.logic.specs.declared.Fault.{Fault}
+use Rattle.logic.specs.Tests.{Fault}
 use Rattle.logic.specs.WellFormed.{HeaderFormed, TablesFormed}
 use Rattle.logic.specs.Tests.{Test, test, first_failing, fault, or_else}
 use Rattle.logic.specs.Checks.{header_fault, sections_fault, tables_fault}
@@ -109,8 +109,8 @@ pub record Begun (f : List ℕ) (out words sets : ℕ) (w : List ℕ) (c : Count
   pub none : (tables_fault f (long_enough out words sets) 3).number ≡ 0
   pub early : first_failing (early_tests (bundle_of f)) ≡ 0
   pub counted : c ≡ counts_of f
-  pub read : left ≡ word_at f 7
-  pub copied : bundle_in w c ≡ bundle_at f c
+  pub read : left ≡ (bundle_of f).left
+  pub copied : bundle_in w c ≡ bundle_of f
 
 module _ (f : List ℕ) (out words sets : ℕ) where
   refused : (m i : ℕ) → (m ≡ 0 → ⊥) → job_fault f out words sets ≡ fault m i → Refused m i ≡ (expansion f out words sets).answer
@@ -168,11 +168,9 @@ module _ {f : List ℕ} {out words sets : ℕ} {w : List ℕ} {c : Counts} {left
       ap (λ (r : Fault). outcome_of (bundle_of f) r r.number out words sets) e
 
   bundle_is : bundle_in w c ≡ bundle_of f
-  unfolding bundle_of
-  bundle_is = b.copied ∙ ap (bundle_at f) b.counted
+  bundle_is = b.copied
 
   left_is : left ≡ (bundle_of f).left
-  unfolding bundle_of bundle_by
   left_is = b.read
 
   visit_stands : Stands (bundle_in w c) left (node_at (bundle_in w c) left)

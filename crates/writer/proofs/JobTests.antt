@@ -1,61 +1,77 @@
 -- The tests of a job after 1 to 9, as the code makes them.
---     closed_is                                     17, by the free sets in the lent words
---     not_empty_lem, not_known, not_closed, all_hold    18, 15, 17 and none, by the counts and words that the code has read
---     left_known                                    what 15 leaves: the left word is a term
-use Prim.Native.Nat.{ℕ, ◌*◌, ◌-◌, ◌≤◌}
-use mathlib.Core.Path.{◌≡◌, sym, ap, ◌∙◌}
-use mathlib.Core.Bool.{Bool, true, false, cond, not, ◌&&◌}
+--     all_pass, one_fails                               a test of every variable, from the first one on
+--     closed_is                                         17, by the free sets in the lent words
+--     not_empty_lem, not_known, not_closed, all_hold    18, 15, 17 and none
+use Prim.Native.Nat.{ℕ, zero, suc, ◌+◌, ◌*◌, ◌-◌, ◌≤◌, ◌<◌}
+use native.Mathlib.Omega.{arith}
+use native.Mathlib.Numerals.{add-one}
+use native.Mathlib.Decide.{ℕ_discrete}
+use mathlib.Core.Path.{◌≡◌, refl, sym, ap, ◌∙◌}
+use mathlib.Core.Bool.{Bool, true, false, cond, not, ◌&&◌, and-false}
 use mathlib.Core.List.{List}
 use lib.ListN.{length}
 use lib.Dec.{eqb, ltb, leb}
-use borrow.Author.Tests.{not-true, not-false}
-use Rattle.bundle.specs.declared.Bundle.{Bundle as Counts}
-use Rattle.bundle.specs.Words.{word_at}
-use Rattle.bundle.specs.Limits.{set_words}
-use Rattle.bundle.specs.File.{Whole, bundle_at}
-use Rattle.bundle.proofs.Fields.{left_is, right_is, variables_length, terms_length, contexts_length, steps_length}
+use Rattle.bundle.specs.Bundle.{Bundle}
 use Rattle.sets.specs.Sets.{member}
 use Rattle.logic.specs.Tests.{passed, up_to, first_failing}
 use Rattle.logic.specs.Free.{free_at, free_area}
-use Rattle.logic.proofs.Tests.{numbers_of_lem}
-use Rattle.free_variables.proofs.HeldSets.{sets_held}
+use Rattle.free_variables.proofs.HeldSets.{free_sets}
 use Rattle.expansion.specs.Expansion.{early_tests}
 
--- w are the lent words with the free sets, n words each
-pub closed_is : (f : List ℕ) (c : Counts) (n m : ℕ) (w : List ℕ) (t : ℕ) → 1 ≤ n → c.variables ≤ 64 * n → n * c.terms ≤ m
-    → w ≡ free_area (bundle_at f c) n m → 1 ≤ t → t ≤ c.terms
-    → up_to c.variables (λ x. not (member w (n * (t - 1)) n x)) ≡ up_to c.variables (λ x. not (free_at (bundle_at f c) t x))
-closed_is f c n m w t one bits long area lo hi =
-    let sets = sets_held f c n m w one bits long area in
-    let last : t ≤ length (bundle_at f c).terms = rw terms_length hi in
-    ap (up_to c.variables) (λ i x. not (sets.same t x lo last i))
+-- ---- a test of every variable
 
-module _ (f : List ℕ) (c : Counts) (left right : ℕ) (l : left ≡ word_at f 7) (r : right ≡ word_at f 8) where
+module _ (p : ℕ → Bool) where
+  pub all_pass : (n : ℕ) → ((k : ℕ) → k < n → p (k + 1) ≡ true) → up_to n p ≡ true
+  unfolding up_to
+  all_pass zero h = refl
+  all_pass (suc n) h =
+      let here = rw add-one at (h n (omega arith)) in
+      rw (here, all_pass n (λ k l. h k (omega arith)))
+
+  pub one_fails : (n k : ℕ) → k < n → p (k + 1) ≡ false → up_to n p ≡ false
+  unfolding up_to
+  one_fails zero k l e = absurd (omega arith)
+  one_fails (suc n) k l e = go (ℕ_discrete k n) (λ below. one_fails n k below e)
+    where
+      go : Dec (k ≡ n) → (k < n → up_to n p ≡ false) → (p (suc n) && up_to n p) ≡ false
+      go (yes same) rest = let here = rw (same, add-one) at e in rw here
+      go (no ne) rest = rw (rest (omega (arith, ne))) (and-false (p (suc n)))
+
+-- ---- the tests
+
+module _ (b : Bundle) where
   abbrev empty : Bool
-  empty = eqb c.contexts 0 && eqb c.steps 0 && eqb right 0
+  empty = eqb (length b.contexts) 0 && eqb (length b.steps) 0 && eqb b.right 0
 
   abbrev known : Bool
-  known = ltb 0 left && leb left c.terms
+  known = ltb 0 b.left && leb b.left (length b.terms)
 
   abbrev closed : Bool
-  closed = up_to c.variables (λ x. not (free_at (bundle_at f c) left x))
+  closed = up_to (length b.variables) (λ x. not (free_at b b.left x))
 
-  early_is : first_failing (early_tests (bundle_at f c)) ≡ cond empty (cond known (cond closed 0 17) 15) 18
+  -- w are the lent words with the free sets, n words each
+  pub closed_is : (n m : ℕ) (w : List ℕ) {t v : ℕ} → t ≡ b.left → v ≡ length b.variables → 1 ≤ n → v ≤ 64 * n → n * length b.terms ≤ m
+      → w ≡ free_area b n m → 1 ≤ t → t ≤ length b.terms
+      → up_to v (λ x. not (member w (n * (t - 1)) n x)) ≡ closed
+  closed_is n m w {t} {v} read counted one bits long area lo hi =
+      let sets = free_sets b n m w one (omega (arith, counted, bits)) long area in
+      rw counted
+      (ap (up_to (length b.variables)) (λ i x. not (sets.same t x lo hi i))
+      ∙ ap (λ (u : ℕ). up_to (length b.variables) (λ x. not (free_at b u x))) read)
+
+  early_is : first_failing (early_tests b) ≡ cond empty (cond known (cond closed 0 17) 15) 18
   unfolding first_failing passed
-  early_is = rw (contexts_length, steps_length, right_is, left_is, terms_length, variables_length, ← l, ← r)
+  early_is = refl
 
-  pub not_empty_lem : not empty ≡ true → 18 ≡ first_failing (early_tests (bundle_at f c))
-  not_empty_lem e = sym (early_is ∙ rw (not-true empty e))
+  pub not_empty_lem : empty ≡ false → 18 ≡ first_failing (early_tests b)
+  not_empty_lem e = sym (early_is ∙ rw e)
 
-  pub not_known : not empty ≡ false → not known ≡ true → 15 ≡ first_failing (early_tests (bundle_at f c))
-  not_known a e = sym (early_is ∙ rw (not-false empty a, not-true known e))
-
-  pub left_known : not known ≡ false → (1 ≤ left) × (left ≤ c.terms)
-  left_known e = numbers_of_lem c.terms left (not-false known e)
+  pub not_known : empty ≡ true → known ≡ false → 15 ≡ first_failing (early_tests b)
+  not_known a e = sym (early_is ∙ rw (a, e))
 
   -- p is what the code answers for 17
-  pub not_closed : (p : Bool) → p ≡ closed → not empty ≡ false → not known ≡ false → not p ≡ true → 17 ≡ first_failing (early_tests (bundle_at f c))
-  not_closed p s a e g = sym (early_is ∙ rw (not-false empty a, not-false known e, ← s, not-true p g))
+  pub not_closed : (p : Bool) → p ≡ closed → empty ≡ true → known ≡ true → p ≡ false → 17 ≡ first_failing (early_tests b)
+  not_closed p s a e g = sym (early_is ∙ rw (a, e, ← s, g))
 
-  pub all_hold : (p : Bool) → p ≡ closed → not empty ≡ false → not known ≡ false → not p ≡ false → 0 ≡ first_failing (early_tests (bundle_at f c))
-  all_hold p s a e g = sym (early_is ∙ rw (not-false empty a, not-false known e, ← s, not-false p g))
+  pub all_hold : (p : Bool) → p ≡ closed → empty ≡ true → known ≡ true → p ≡ true → 0 ≡ first_failing (early_tests b)
+  all_hold p s a e g = sym (early_is ∙ rw (a, e, ← s, g))

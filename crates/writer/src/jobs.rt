@@ -1,50 +1,49 @@
 // The checks of a job after 1 to 9.
 ghost use Rattle.std.specs.Prelude.{◌≡◌, not, ◌+◌, ◌*◌, ◌≤◌, length};
 ghost use Rattle.bundle.specs.Limits.{set_words};
-ghost use Rattle.bundle.specs.File.{Whole, bundle_at};
 ghost use Rattle.sets.specs.Sets.{member};
+ghost use Rattle.logic.specs.Failures.{number_in};
 ghost use Rattle.logic.specs.Tests.{up_to, first_failing};
 ghost use Rattle.expansion.specs.Expansion.{early_tests};
 
 use bundle::Bundle;
-use bundle::words::{claim_left, claim_right};
 use free_variables::words_for;
+use logic::checks::Check;
 
 // Whether no variable up to v is in the set at word `at`.
 fn is_closed(sets: &[u64], at: usize, n: usize, variables: usize) -> bool
     requires { at + n ≤ length sets.now }
     ensures { result ≡ up_to variables (λ x. not (member sets.now at n x)) }
 {
-    let mut v = variables;
-    while v != 0 {
-        if sets::member(sets, at, n, v) {
+    for k in 0..variables {
+        if sets::member(sets, at, n, k + 1) {
             return false;
         }
-        v -= 1;
     }
     true
 }
 
-// 18, 15, 17: what is wrong with a job, 0 where nothing is. The free sets are written into the lent words, as many a set as the job's variables ask for.
-pub fn job_fault(job: &[u8], b: Bundle, sets: &mut [u64]) -> usize
-    requires { Whole job.now b × (set_words * b.terms ≤ length sets.old) }
-    ensures { (length sets.new ≡ length sets.old) × (result ≡ first_failing (early_tests (bundle_at job.now b))) }
+// 18, 15, 17: what is wrong with a job. The free sets are written into the lent words, as many a set as the job's variables ask for.
+pub fn job_fault(bundle: &Bundle, sets: &mut [u64]) -> Result<(), Check>
+    requires { set_words * length bundle.now.terms ≤ length sets.old }
+    ensures { (length sets.new ≡ length sets.old) × (number_in result ≡ first_failing (early_tests bundle.now)) }
 {
-    let left = claim_left(job);
-    let right = claim_right(job);
-    let contexts = b.contexts;
-    let steps = b.steps;
-    let terms = b.terms;
+    let left = bundle.claim_left();
+    let right = bundle.claim_right();
+    let contexts = bundle.contexts();
+    let steps = bundle.steps();
+    let terms = bundle.terms();
+    let variables = bundle.variables();
     if !((contexts == 0) & (steps == 0) & (right == 0)) {
-        return 18;
+        return Err(Check::Job);
     }
     if !((0 < left) & (left <= terms)) {
-        return 15;
+        return Err(Check::Claim);
     }
-    let n = words_for(b.variables);
-    free_variables::free_sets(job, b, sets, n);
-    if !is_closed(sets, n * (left - 1), n, b.variables) {
-        return 17;
+    let n = words_for(variables);
+    free_variables::free_sets(bundle, sets, n);
+    if !is_closed(sets, n * (left - 1), n, variables) {
+        return Err(Check::Closed);
     }
-    0
+    Ok(())
 }

@@ -8,6 +8,7 @@ ghost use Rattle.expansion.specs.Expansion.{expansion};
 ghost use Rattle.expansion.specs.AreasAfter.{Left, Stored};
 
 use expansion::Answer;
+use logic::checks::Check;
 use placing::Visited;
 
 // Checks the job, expands it in the scratch and stores the file at the start of the output. The rest of the areas is left as it comes.
@@ -16,24 +17,28 @@ fn store_job(job: &[u8], out: &mut [u8], words: &mut [u32], sets: &mut [u64]) ->
         out.old words.old sets.old out.new words.new sets.new result }
 {
     let enough = areas::long_enough(out.len(), words.len(), sets.len());
-    let early = terms::tables_fault(job, enough, 3);
-    if early.number != 0 {
+    let bundle = match terms::tables_fault(job, enough, 3) {
+        Err(early) => {
+            return Answer::Refused {
+                number: early.check.number(),
+                record: early.record,
+            };
+        }
+        Ok(bundle) => bundle,
+    };
+    if let Err(check) = jobs::job_fault(&bundle, sets) {
         return Answer::Refused {
-            number: early.number,
-            record: early.record,
+            number: check.number(),
+            record: 0,
         };
     }
-    let b = bundle::words::counts(job);
-    let number = jobs::job_fault(job, b, sets);
-    if number != 0 {
-        return Answer::Refused { number, record: 0 };
-    }
-    files::copies::copy_job(job, b, words);
-    let left = bundle::words::claim_left(job);
-    let visited = visits::visits::visit_job(words, sets, b, left);
+    let own = bundle.counts();
+    files::copies::copy_job(bundle.file(), own, words);
+    let left = bundle.claim_left();
+    let visited = visits::visits::visit_job(words, sets, own, left);
     match visited {
         Visited::Full => Answer::Refused {
-            number: 16,
+            number: Check::Room.number(),
             record: 0,
         },
         Visited::Done {

@@ -1,9 +1,16 @@
 -- `late_fault_in` meets its contract: a section with no fault leaves it to those after it, and the claim is the last.
 use Prim.Native.Nat.{ℕ, zero, suc}
-use mathlib.Core.Path.{◌≡◌, refl, sym}
-use Rattle.logic.specs.Tests.{fault, or_else}
+use mathlib.Core.Path.{◌≡◌, refl, sym, ap, ◌∙◌}
+use Rattle.std.proofs.lemmas.Result.{err_from_is_err_and}
+use Rattle.bundle.specs.Bundle.{Bundle}
+use Rattle.logic.specs.declared.checks.Failure.{Failure}
+use Rattle.logic.specs.Failures.{number_of}
+use Rattle.logic.specs.Tests.{Fault, first_failing, fault, or_else, or_next}
+use Rattle.logic.specs.Contexts.{contexts_fault}
+use Rattle.logic.specs.Rules.{steps_fault}
 use Rattle.logic.proofs.Firsts.{or_else_on, or_else_here}
-use Rattle.judgement.specs.Judge.{late_fault}
+use Rattle.steps.proofs.Verdicts.{number_some}
+use Rattle.judgement.specs.Judge.{claim_tests, late_fault}
 use Rattle.checker.proofs.late_fault_in.Goals as goal
 
 -- after the last section nothing is left that could be wrong
@@ -12,47 +19,51 @@ unfolding or_else
 or_else_last zero = refl
 or_else_last (suc n) = refl
 
-pub contexts_fault-in_contexts-requires : goal.contexts_fault-in_contexts-requires
-contexts_fault-in_contexts-requires c =
-    let p = c.requires in
-    (p.0, p.1, p.2, p.3, p.4, p.5, p.6, p.7)
+module _ (b : Bundle) where
+  -- the steps and the claim
+  abbrev rest : Fault
+  rest = or_next (steps_fault b) (or_else (first_failing (claim_tests b)) 0 (fault 0 0))
 
-pub returns-then-in_contexts-ne0 : goal.returns-then-in_contexts-ne0
-unfolding late_fault
-returns-then-in_contexts-ne0 c = record {
-  fault = rw (← c.contexts_fault-in_contexts.ensures.value, or_else_here _ _ _ c.if-in_contexts-ne0.true);
-  pairs = λ z. absurd (c.if-in_contexts-ne0.true z);
+  in_contexts : (f : Failure) → fault (number_of f.check) f.«record» ≡ contexts_fault b → fault (number_of f.check) f.«record» ≡ late_fault b
+  unfolding late_fault
+  in_contexts f e = sym (ap (λ (t : Fault). or_next t rest) (sym e) ∙ or_else_here (number_of f.check) f.«record» rest (number_some f.check))
+
+  module _ (good : fault 0 0 ≡ contexts_fault b) where
+    past_contexts : late_fault b ≡ rest
+    unfolding late_fault
+    past_contexts = ap (λ (t : Fault). or_next t rest) (sym good) ∙ or_else_on 0 0 rest refl
+
+    in_steps : (f : Failure) → fault (number_of f.check) f.«record» ≡ steps_fault b → fault (number_of f.check) f.«record» ≡ late_fault b
+    in_steps f e = rw (past_contexts, ← e) (sym (or_else_here (number_of f.check) f.«record» _ (number_some f.check)))
+
+    in_claim : (n : ℕ) → fault 0 0 ≡ steps_fault b → n ≡ first_failing (claim_tests b) → fault n 0 ≡ late_fault b
+    in_claim n steps e = rw (past_contexts, ← steps, ← e) (sym (or_else_on 0 0 _ refl ∙ or_else_last n))
+
+pub returns-in_err-contexts_fault : goal.returns-in_err-contexts_fault
+returns-in_err-contexts_fault c =
+    let p = err_from_is_err_and c.from_residual.result c.from_residual.ensures.1 in
+    rw (p.1, p.2) (record {
+      fault = in_contexts c.args.bundle.now _ c.in_err-contexts_fault.ensures.value;
+      pairs = tt;
+    })
+
+pub returns-in_err-pairs : goal.returns-in_err-pairs
+returns-in_err-pairs c =
+    let r = c.from_residual-in_err-pairs in
+    let p = err_from_is_err_and r.result r.ensures.1 in
+    rw (p.1, p.2) (record {
+      fault = in_steps c.args.bundle.now c.in_ok-contexts_fault.ensures.value _ c.in_err-pairs.ensures.fault;
+      pairs = tt;
+    })
+
+pub returns-in-Err : goal.returns-in-Err
+returns-in-Err c = record {
+  fault = in_claim c.args.bundle.now c.in_ok-contexts_fault.ensures.value _ c.in_ok-pairs.ensures.fault c.in-Err.ensures;
+  pairs = tt;
 }
 
-pub steps_fault-in_steps-requires : goal.steps_fault-in_steps-requires
-steps_fault-in_steps-requires c =
-    let k = c.contexts_fault-in_contexts.ensures.fact c.if-in_contexts-ne0.false in
-    let p = c.requires in
-    (p.0, p.2, k.0, k.1, p.3, p.8)
-
-pub returns-then-bad_step-ne0 : goal.returns-then-bad_step-ne0
-unfolding late_fault
-returns-then-bad_step-ne0 c = record {
-  fault = rw (
-    ← c.contexts_fault-in_contexts.ensures.value,
-    or_else_on _ _ _
-        c.if-in_contexts-ne0.false,
-    ← c.steps_fault-in_steps.ensures.fault,
-    or_else_here _ _ _ c.if-bad_step-ne0.true,
-  );
-  pairs = λ z. absurd (c.if-bad_step-ne0.true z);
-}
-
-pub returns : goal.returns
-unfolding late_fault
-returns c = record {
-  fault = rw (
-    ← c.contexts_fault-in_contexts.ensures.value,
-    or_else_on _ _ _
-        c.if-in_contexts-ne0.false,
-    ← c.steps_fault-in_steps.ensures.fault,
-    or_else_on _ _ _ c.if-bad_step-ne0.false,
-    ← c.claim_fault-number.ensures,
-  ) (sym (or_else_last _));
-  pairs = λ z. c.steps_fault-in_steps.ensures.pairs c.if-bad_step-ne0.false;
+pub returns-in-Ok : goal.returns-in-Ok
+returns-in-Ok c = record {
+  fault = in_claim c.args.bundle.now c.in_ok-contexts_fault.ensures.value _ c.in_ok-pairs.ensures.fault c.in-Ok.ensures;
+  pairs = c.in_ok-pairs.ensures.pairs;
 }

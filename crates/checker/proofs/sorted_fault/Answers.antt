@@ -1,67 +1,78 @@
 -- `sorted_fault` meets its contract: where the sections have no fault, the area holds the free sets, as the later checks require; where these find
 -- nothing, the sets are spread out.
+use mathlib.Core.Path.{◌≡◌, refl}
 use native.Mathlib.Omega.{arith}
 use native.Mathlib.Nat.{mul-le-mul_right}
+use Prim.Native.Nat.{◌*◌, ◌≤◌}
 use lib.ListN.{length}
+use Rattle.std.proofs.lemmas.Result.{err_from_is_err_and}
+use Rattle.bundle.specs.Bundle.{Bundle}
 use Rattle.bundle.specs.Limits.{set_words}
-use Rattle.bundle.specs.File.{bundle_at}
-use Rattle.bundle.proofs.Fields.{variables_length, terms_length}
+use Rattle.logic.specs.declared.checks.Failure.{Failure}
+use Rattle.logic.specs.Failures.{number_of}
+use Rattle.logic.specs.Tests.{Fault, fault, or_next}
+use Rattle.logic.specs.Checks.{sections_fault}
 use Rattle.logic.proofs.Firsts.{or_else_on, or_else_here}
 use Rattle.free_variables.proofs.HeldSets.{sets_held}
 use Rattle.free_variables.proofs.SpreadAreas.{area_spread}
+use Rattle.judgement.specs.Judge.{late_fault}
+use Rattle.steps.proofs.Verdicts.{number_some}
 use Rattle.checker.proofs.sorted_fault.Goals as goal
 
-pub returns-then-early-ne0 : goal.returns-then-early-ne0
-returns-then-early-ne0 c =
-    let s = c.sections_fault-early in
-    record {
-      fact = record { fault = rw (← s.ensures, or_else_here _ _ _ c.if-early-ne0.true); pairs = λ z. absurd (c.if-early-ne0.true z) };
-      free_after = λ z. absurd (c.if-early-ne0.true z);
-    }
+module _ (b : Bundle) where
+  early : (f : Failure) → fault (number_of f.check) f.«record» ≡ sections_fault b
+      → fault (number_of f.check) f.«record» ≡ or_next (sections_fault b) (late_fault b)
+  early f e = rw (← e, or_else_here _ _ _ (number_some f.check))
+
+  later : {r : Fault} → fault 0 0 ≡ sections_fault b → r ≡ late_fault b → r ≡ or_next (sections_fault b) (late_fault b)
+  later good e = rw (← good, or_else_on 0 _ _ refl) e
+
+pub returns-in_err-sections_fault : goal.returns-in_err-sections_fault
+returns-in_err-sections_fault c =
+    let p = err_from_is_err_and c.from_residual.result c.from_residual.ensures.1 in
+    rw (p.1, p.2) (record {
+      fact = record { fault = early c.args.bundle.now _ c.in_err-sections_fault.ensures; pairs = tt };
+      free_after = tt;
+    })
 
 pub free_sets-requires : goal.free_sets-requires
 free_sets-requires c =
-    let a = c.args in
-    let p = c.requires in
     let w = c.words_for-n.ensures in
-    (p.0, w.0, w.1, omega (arith, mul-le-mul_right a.b.terms w.1, p.2), w.2)
+    (w.0, w.1, omega (arith, mul-le-mul_right (length c.args.bundle.now.terms) w.1, c.requires.1), omega arith)
 
-pub late_fault-late-requires : goal.late_fault-late-requires
-late_fault-late-requires c =
-    let a = c.args in
-    let p = c.requires in
+pub late_fault-requires : goal.late_fault-requires
+late_fault-requires c =
+    let b = c.args.bundle.now in
     let r = c.words_for-n in
-    let w = r.ensures in (
-      p.0,
-      p.1,
-      sets_held a.file.now a.b r.result _ _ w.0 w.2 (omega (arith, mul-le-mul_right a.b.terms w.1, p.2))
-          c.free_sets.ensures,
+    let w = r.ensures in
+    let bits : length b.variables ≤ 64 * r.result = omega arith in (
+      c.requires.0,
+      sets_held b r.result _ _ w.0 bits (omega (arith, mul-le-mul_right (length b.terms) w.1, c.requires.1)) c.free_sets.ensures,
       w.1,
-      w.2,
+      bits,
     )
 
-pub returns-then-later-ne0 : goal.returns-then-later-ne0
-returns-then-later-ne0 c = record {
-  fact = record {
-    fault = rw (← c.sections_fault-early.ensures, or_else_on _ _ _ c.if-early-ne0.false) c.late_fault-late.ensures.fault;
-    pairs = λ z. absurd (c.if-later-ne0.true z);
-  };
-  free_after = λ z. absurd (c.if-later-ne0.true z);
-}
+pub returns-in_err-pairs : goal.returns-in_err-pairs
+returns-in_err-pairs c =
+    let r = c.from_residual-in_err-pairs in
+    let p = err_from_is_err_and r.result r.ensures.1 in
+    rw (p.1, p.2) (record {
+      fact = record { fault = later c.args.bundle.now c.in_ok-sections_fault.ensures c.in_err-pairs.ensures.fault; pairs = tt };
+      free_after = tt;
+    })
 
 pub returns : goal.returns
 returns c =
     let a = c.args in
-    let p = c.requires in
-    let b = bundle_at a.file.now a.b in
+    let b = a.bundle.now in
     let r = c.words_for-n in
     let w = r.ensures in
     let f = c.free_sets in
-    let s = c.spread in record {
+    let s = c.spread in
+    let bits : length b.variables ≤ 64 * r.result = omega arith in record {
       fact = record {
-        fault = rw (← c.sections_fault-early.ensures, or_else_on _ _ _ c.if-early-ne0.false) c.late_fault-late.ensures.fault;
-        pairs = c.late_fault-late.ensures.pairs;
+        fault = later b c.in_ok-sections_fault.ensures c.in_ok-pairs.ensures.fault;
+        pairs = c.in_ok-pairs.ensures.pairs;
       };
-      free_after = (λ z. area_spread b r.result set_words (length a.free.now) f.new.area s.new.area w.0 w.1 (rw (variables_length a.file.now a.b) w.2)
-          (rw (terms_length a.file.now a.b) p.2) f.ensures (rw (terms_length a.file.now a.b) s.ensures));
+      free_after = area_spread b r.result set_words (length a.free.now) f.new.area s.new.area w.0 w.1 bits c.requires.1 f.ensures (rw (← c.terms.ensures.0) s.ensures);
     }

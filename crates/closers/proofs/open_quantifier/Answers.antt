@@ -4,7 +4,7 @@ use mathlib.Core.List.{List}
 use Prim.Native.Nat.{ℕ, suc, ◌+◌}
 use native.Mathlib.Numerals.{add-one}
 use native.Mathlib.Omega.{arith}
-use Rattle.bundle.specs.declared.Bundle.{Bundle as Counts}
+use Rattle.bundle.specs.declared.Counts.{Counts}
 use Rattle.scratch.specs.Scratch.{bundle_in}
 use Rattle.scratch.proofs.ScratchFields.{sized_in}
 use Rattle.expansion.specs.Visit.{new_variable}

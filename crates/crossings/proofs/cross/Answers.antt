@@ -18,6 +18,6 @@ returns c =
     let i = c.insert in (
       simp length-set,
       ap length i.ensures ∙ changed_length with_bit a.bound.now 0 a.n a.y,
-      λ ps e known. places_crossed a.b.variables a.n a.places.now a.bound.now a.x (a.depth + 1) a.y (a.depth + 1) p.0 p.2 p.3
-          p.4 p.5 p.1 p.6 ps (ap (λ (k : ℕ). k + 1) (sym e)) (ap (λ (k : ℕ). k + 1) (sym e)) i.ensures known,
+      λ ps e known. rw c.variables-count.ensures.0 (places_crossed (length a.bundle.now.variables) a.n a.places.now a.bound.now a.x (a.depth + 1) a.y (a.depth + 1) p.0 p.2 p.3
+          p.4 p.5 p.1 p.6 ps (ap (λ (k : ℕ). k + 1) (sym e)) (ap (λ (k : ℕ). k + 1) (sym e)) i.ensures known),
     )

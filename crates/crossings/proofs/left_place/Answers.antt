@@ -10,4 +10,4 @@ pub returns-then-x-count : goal.returns-then-x-count
 returns-then-x-count c n bound ps known = left_past _ n _ bound ps known _ (λ h. omega (arith, h.1, c.if-x-count.true))
 
 pub returns : goal.returns
-returns c n bound ps known = left_at _ n _ bound ps known _ (omega arith) (omega arith) c.wide.ensures
+returns c n bound ps known = left_at _ n _ bound ps known _ (omega arith) (omega arith) c.from.ensures

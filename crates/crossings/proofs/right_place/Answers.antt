@@ -10,4 +10,4 @@ pub returns-then-y-count : goal.returns-then-y-count
 returns-then-y-count c n bound ps known = right_past _ n _ bound ps known _ (λ h. omega (arith, h.1, c.if-y-count.true))
 
 pub returns : goal.returns
-returns c n bound ps known = right_at _ n _ bound ps known _ (omega arith) (omega arith) c.wide.ensures
+returns c n bound ps known = right_at _ n _ bound ps known _ (omega arith) (omega arith) (rw c.variables-count.ensures.0 at c.from.ensures)

@@ -19,8 +19,8 @@ returns-then-right-eq0 c =
     let e = c.if-right-eq0.true in (
       simp length-set,
       ap length i.ensures ∙ changed_length without_bit a.bound.now 0 a.n a.y,
-      λ ps dl dr known. places_uncrossed a.b.variables a.n a.places.now a.bound.now a.x a.left a.y a.right p.0 p.2 p.3
-          p.4 p.5 p.1 p.6 ps dl dr (rw (eq-eqb a.right 0 e) i.ensures) known,
+      λ ps dl dr known. rw c.variables-count.ensures.0 (places_uncrossed (length a.bundle.now.variables) a.n a.places.now a.bound.now a.x a.left a.y a.right p.0 p.2 p.3
+          p.4 p.5 p.1 p.6 ps dl dr (rw (eq-eqb a.right 0 e) i.ensures) known),
     )
 
 pub returns-else-right-eq0 : goal.returns-else-right-eq0
@@ -30,6 +30,6 @@ returns-else-right-eq0 c =
     let e = c.if-right-eq0.false in (
       simp length-set,
       refl,
-      λ ps dl dr known. places_uncrossed a.b.variables a.n a.places.now a.bound.now a.x a.left a.y a.right p.0 p.2 p.3
-          p.4 p.5 p.1 p.6 ps dl dr (rw (ne_eqb a.right 0 e) refl) known,
+      λ ps dl dr known. rw c.variables-count.ensures.0 (places_uncrossed (length a.bundle.now.variables) a.n a.places.now a.bound.now a.x a.left a.y a.right p.0 p.2 p.3
+          p.4 p.5 p.1 p.6 ps dl dr (rw (ne_eqb a.right 0 e) refl) known),
     )

@@ -1,22 +1,22 @@
--- `section_fault` meets its contract. The invariant: the first bad record of all is the first after record i. The measure is how many are left.
+-- `section_fault` meets its contract.
 use native.Mathlib.Omega.{arith}
-use Prim.Native.Nat.{◌-◌}
-use mathlib.Core.Path.{sym, ◌∙◌}
+use mathlib.Core.Path.{refl, sym, ◌∙◌}
 use Rattle.logic.proofs.Firsts.{rest_start, rest_on, rest_here, rest_end}
+use Rattle.declarations.proofs.Failing.{number_not}
 use Rattle.declarations.proofs.section_fault.Goals as goal
 
-pub loop-i-init : goal.loop-i-init
-loop-i-init c = (omega arith, rest_start _ _)
+pub loop-record-init : goal.loop-record-init
+loop-record-init c = rest_start _ _
 
-pub returns-then-number-ne0 : goal.returns-then-number-ne0
-returns-then-number-ne0 c =
-    let l = c.loop-i in
-    sym (l.invariant.1 ∙ rest_here _ _ _ c.record_fault-number.ensures (omega arith) c.if-number-ne0.true)
+pub returns-in-Err : goal.returns-in-Err
+returns-in-Err c = sym (c.loop-record.invariant ∙ rest_here _ _ _ c.in-Err.ensures (omega arith) (number_not c.in-Err.check))
 
-pub loop-i-preserved : goal.loop-i-preserved
-loop-i-preserved c =
-    let l = c.loop-i in
-    (omega arith, l.invariant.1 ∙ rest_on _ _ _ c.record_fault-number.ensures (omega arith) c.if-number-ne0.false)
+pub loop-record-preserved : goal.loop-record-preserved
+loop-record-preserved c = c.loop-record.invariant ∙ rest_on _ _ _ c.in_default.ensures (omega arith) refl
 
 pub returns : goal.returns
-returns c = c.no_fault.ensures ∙ sym (c.loop-i.invariant.1 ∙ rest_end _ _ _ (omega arith))
+returns c = sym (c.loop-record.invariant ∙ rest_end _ _ _ (omega arith))
+
+pub returns-in_default : goal.returns-in_default
+returns-in_default c =
+    sym (c.loop-record.invariant ∙ rest_on _ _ _ c.in_default.ensures (omega arith) refl ∙ rest_end _ _ _ (omega arith))

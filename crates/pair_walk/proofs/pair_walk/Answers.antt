@@ -2,7 +2,7 @@
 use mathlib.Core.List.{[]}
 use native.Mathlib.Omega.{arith}
 use mathlib.Core.Path.{sym, ◌∙◌}
-use Rattle.bundle.specs.File.{bundle_at}
+use lib.ListN.{length}
 use Rattle.images.specs.ContextRows.{image_at}
 use Rattle.images.specs.LentReading.{free_in}
 use Rattle.pair_walk.specs.Agenda.{few_pairs}
@@ -13,25 +13,25 @@ pub overflow_add-result : goal.overflow_add-result
 overflow_add-result c = let a = c.args in
     omega (
       arith,
-      same_few (free_in a.b.terms a.area.now a.n) (image_at a.b.variables a.images.now a.context) (bundle_at a.file.now a.b) a.left [] a.right
-          few_pairs c.in-Same.m (sym c.in-Same.is ∙ c.short_walk-walked.ensures),
+      same_few (free_in (length a.bundle.now.terms) a.area.now a.n) (image_at (length a.bundle.now.variables) a.images.now a.context) a.bundle.now a.left [] a.right
+          few_pairs c.in-Same.m (sym c.in-Same.is ∙ c.walk_within-walked.ensures),
     )
 
 pub overflow_add-result-in-Different : goal.overflow_add-result-in-Different
 overflow_add-result-in-Different c = let a = c.args in
     omega (
       arith,
-      different_few (free_in a.b.terms a.area.now a.n) (image_at a.b.variables a.images.now a.context) (bundle_at a.file.now a.b)
+      different_few (free_in (length a.bundle.now.terms) a.area.now a.n) (image_at (length a.bundle.now.variables) a.images.now a.context) a.bundle.now
           a.left [] a.right
-          few_pairs c.in-Different.m (sym c.in-Different.is ∙ c.short_walk-walked.ensures),
+          few_pairs c.in-Different.m (sym c.in-Different.is ∙ c.walk_within-walked.ensures),
     )
 
 pub returns-in-Same : goal.returns-in-Same
 returns-in-Same c = let a = c.args in
-    more_same (free_in a.b.terms a.area.now a.n) (image_at a.b.variables a.images.now a.context) (bundle_at a.file.now a.b) a.left [] a.right
-    few_pairs c.in-Same.m (sym c.in-Same.is ∙ c.short_walk-walked.ensures) 4032
+    more_same (free_in (length a.bundle.now.terms) a.area.now a.n) (image_at (length a.bundle.now.variables) a.images.now a.context) a.bundle.now a.left [] a.right
+    few_pairs c.in-Same.m (sym c.in-Same.is ∙ c.walk_within-walked.ensures) 4032
 
 pub returns-in-Different : goal.returns-in-Different
 returns-in-Different c = let a = c.args in
-    more_different (free_in a.b.terms a.area.now a.n) (image_at a.b.variables a.images.now a.context) (bundle_at a.file.now a.b) a.left [] a.right
-    few_pairs c.in-Different.m (sym c.in-Different.is ∙ c.short_walk-walked.ensures) 4032
+    more_different (free_in (length a.bundle.now.terms) a.area.now a.n) (image_at (length a.bundle.now.variables) a.images.now a.context) a.bundle.now a.left [] a.right
+    few_pairs c.in-Different.m (sym c.in-Different.is ∙ c.walk_within-walked.ensures) 4032

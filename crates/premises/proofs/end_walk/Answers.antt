@@ -9,7 +9,7 @@ returns-then-i-j c step x =
     let a = c.args in
     let h = c.requires in
     in_all a.read a.read 0
-    (walk_short a.file.now a.b step a.body x a.i a.j a.k h.1 h.2 h.5 c.if-i-j.true)
+    (walk_short a.bundle.now step a.body x a.i a.j a.k h.0 h.1 h.4 c.if-i-j.true)
     (omega arith)
 
 pub returns-then-not-body : goal.returns-then-not-body
@@ -17,7 +17,7 @@ returns-then-not-body c step x =
     let a = c.args in
     let h = c.requires in
     in_all a.read a.read 0
-    (end_plain a.file.now a.b step x a.i a.j a.k c.if-i-j.false c.if-not-body.true h.3)
+    (end_plain a.bundle.now step x a.i a.j a.k c.if-i-j.false c.if-not-body.true h.2)
     (omega arith)
 
 pub returns-then-k-eq0 : goal.returns-then-k-eq0
@@ -25,7 +25,7 @@ returns-then-k-eq0 c step x =
     let a = c.args in
     let body = c.if-not-body.false in
     in_all a.read a.read 0
-    (end_missing a.file.now a.b step x a.i a.j a.k c.if-i-j.false body c.if-k-eq0.true)
+    (end_missing a.bundle.now step x a.i a.j a.k c.if-i-j.false body c.if-k-eq0.true)
     (omega arith)
 
 pub returns : goal.returns
@@ -35,7 +35,8 @@ returns c step x =
     let body = c.if-not-body.false in
     let t = c.take-last in
     let r = c.followed-more in
+    let rs = rw c.links-links.ensures.0 at r.ensures in
     in_all a.read t.result.read 1
-    (end_body a.file.now a.b step x a.i a.j a.k c.if-i-j.false body r.result
-    c.if-k-eq0.false h.3 (next_is a.file.now a.b a.k t.ensures.1 r.ensures))
+    (end_body a.bundle.now step x a.i a.j a.k c.if-i-j.false body r.result
+    c.if-k-eq0.false h.2 (next_is a.bundle.now a.k t.ensures.1 rs))
     t.ensures.2

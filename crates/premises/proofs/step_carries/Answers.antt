@@ -1,6 +1,7 @@
 -- `step_carries` meets its contract: a step of the file by its record, another by three reads, in the definition's order.
 use native.Mathlib.Omega.{arith}
 use mathlib.Core.Path.{ap, sym, ◌∙◌}
+use lib.ListN.{length}
 use Rattle.bundle.specs.Bundle.{Step}
 use Rattle.logic.specs.Rules.{carries}
 use Rattle.logic.proofs.Tests.{numbers_of_lem}
@@ -10,20 +11,12 @@ use Rattle.premises.proofs.step_carries.Goals as goal
 pub record_carries-requires : goal.record_carries-requires
 record_carries-requires c =
     let a = c.args in
-    let h = numbers_of_lem a.b.steps a.p c.if-p-steps.true in
-    (c.requires, (λ z. omega (arith, h.0)), h.1)
+    let h = numbers_of_lem (length a.bundle.now.steps) a.p (rw c.steps-steps.ensures.0 at c.if-p-steps.true) in
+    ((λ z. omega (arith, h.0)), h.1)
 
 pub returns-then-p-steps : goal.returns-then-p-steps
 returns-then-p-steps c =
     let a = c.args in
-    let h = numbers_of_lem a.b.steps a.p c.if-p-steps.true in
+    let h = numbers_of_lem (length a.bundle.now.steps) a.p (rw c.steps-steps.ensures.0 at c.if-p-steps.true) in
     c.record_carries.ensures
-    ∙ sym (ap (λ (s : Step). carries s a.context a.l a.r) (taken_step a.file.now a.b a.bed.now a.p h.1))
-
-pub returns : goal.returns
-returns c =
-    rw (
-      ← c.taken_field-in_context.ensures,
-      ← c.taken_field-left.ensures,
-      ← c.taken_field-right.ensures,
-    )
+    ∙ sym (ap (λ (s : Step). carries s a.context a.l a.r) (taken_step a.bundle.now a.bed.now a.p h.1))

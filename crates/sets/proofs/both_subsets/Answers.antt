@@ -1,8 +1,6 @@
 -- `sets::both_subsets` meets its contract. The invariant: the first k words of both have no bits but those of the third.
 use native.Mathlib.Omega.{arith}
-use Prim.Native.Nat.{◌-◌}
 use mathlib.Core.Path.{◌≡◌, refl, sym}
-use mathlib.Core.Bool.{true}
 use Rattle.sets.specs.Sets.{subset_of}
 use Rattle.sets.proofs.Subsets.{both_on, both_at}
 use Rattle.sets.proofs.both_subsets.Goals as goal
@@ -23,7 +21,7 @@ loop-k-init c =
     let a = c.args in
     let both = both_on a.first.now a.second.now a.all.now (λ j. omega (arith, c.type_inv.first j))
     (λ j. omega (arith, c.type_inv.second j)) 0 refl refl c.if-either-among.false in
-    (omega arith, both.0, both.1)
+    both
 
 pub returns-then-x-y : goal.returns-then-x-y
 returns-then-x-y c =
@@ -37,11 +35,11 @@ loop-k-preserved c =
     let a = c.args in
     let l = c.loop-k in
     let both = both_on a.first.now a.second.now a.all.now (λ j. omega (arith, c.shared_slice_known-1.given j))
-    (λ j. omega (arith, c.shared_slice_known-2-1.given j)) l.k l.invariant.1 l.invariant.2 c.if-x-y.false in
-    (omega arith, both.0, both.1)
+    (λ j. omega (arith, c.shared_slice_known-2-1.given j)) l.k l.invariant.0 l.invariant.1 c.if-x-y.false in
+    both
 
 pub returns : goal.returns
 returns c =
     let l = c.loop-k in
     let past : l.k ≡ c.args.n = omega arith in
-    rw (← past, l.invariant.1, l.invariant.2)
+    rw (← past, l.invariant.0, l.invariant.1)

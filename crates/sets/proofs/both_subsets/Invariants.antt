@@ -1,5 +1,4 @@
 -- `sets::both_subsets` meets its contract. The invariant: the first k words of both have no bits but those of the third.
-use Prim.Native.Nat.{◌-◌, ◌≤◌}
 use mathlib.Core.Path.{◌≡◌}
 use mathlib.Core.Bool.{true}
 use Rattle.sets.specs.Sets.{subset_of}
@@ -7,7 +6,4 @@ use Rattle.sets.proofs.both_subsets.Given as goal
 
 abbrev pub invariant-loop-k : goal.invariant-loop-k
 invariant-loop-k l =
-    (l.k ≤ l.n) × (subset_of l.first 0 l.all 0 l.k ≡ true) × (subset_of l.second 0 l.all 0 l.k ≡ true)
-
-abbrev pub decreases-loop-k : goal.decreases-loop-k
-decreases-loop-k l = l.n - l.k
+    (subset_of l.first 0 l.all 0 l.k ≡ true) × (subset_of l.second 0 l.all 0 l.k ≡ true)

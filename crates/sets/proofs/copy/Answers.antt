@@ -1,16 +1,16 @@
 -- `sets::copy` meets its contract. The invariant: the first k words are copied; those that are read next are as they were.
 use native.Mathlib.Omega.{arith}
-use Prim.Native.Nat.{ℕ, ◌+◌, ◌-◌}
+use Prim.Native.Nat.{ℕ, ◌+◌}
 use mathlib.Core.Path.{◌≡◌, refl, ◌∙◌}
 use mathlib.Core.Logic.{inl}
-use lib.ListN.{get_or, length-set}
+use lib.ListN.{get_or}
 use Rattle.sets.specs.Sets.{filled}
 use Rattle.sets.proofs.Members.{filled_more, filled_out}
 use Rattle.sets.proofs.copy.Goals as goal
 
 pub loop-k-init : goal.loop-k-init
 unfolding filled
-loop-k-init c = (omega arith, refl, refl)
+loop-k-init c = refl
 
 pub loop-k-preserved : goal.loop-k-preserved
 loop-k-preserved c =
@@ -19,14 +19,11 @@ loop-k-preserved c =
     let w = a.area.now in
     let g : ℕ → ℕ = λ k. get_or w (a.from + k) 0 in
     let x : get_or l.area (a.from + l.k) 0 ≡ get_or w (a.from + l.k) 0 =
-    rw l.invariant.2 (filled_out g w a.to l.k (a.from + l.k) (inl (omega arith))) in
-    (omega arith, simp length-set l.invariant.1, filled_more g w a.to l.k _ l.area l.invariant.2 x)
-
-pub shape_of-area : goal.shape_of-area
-shape_of-area c = c.loop-k.invariant.1
+    rw l.invariant (filled_out g w a.to l.k (a.from + l.k) (inl (omega arith))) in
+    filled_more g w a.to l.k _ l.area l.invariant x
 
 pub returns : goal.returns
 returns c =
     let l = c.loop-k in
     let past : l.k ≡ c.args.n = omega arith in
-    l.invariant.2 ∙ rw past
+    l.invariant ∙ rw past

@@ -1,31 +1,26 @@
--- `sets::disjoint` meets its contract. The invariant: the sets are disjoint exactly if their first k words are.
+-- `sets::disjoint` meets its contract. The invariant: the first k words of the sets are disjoint.
 use native.Mathlib.Omega.{arith}
-use mathlib.Core.Path.{◌≡◌, refl, sym, ◌∙◌}
+use mathlib.Core.Path.{◌≡◌, refl, sym}
 use Rattle.sets.specs.Sets.{disjoint_of}
-use Rattle.sets.proofs.Members.{disjoint_on, disjoint_here}
+use Rattle.sets.proofs.Members.{disjoint_on, disjoint_at}
 use Rattle.sets.proofs.disjoint.Goals as goal
 
 pub loop-k-init : goal.loop-k-init
-loop-k-init c = (omega arith, refl)
+unfolding disjoint_of
+loop-k-init c = refl
 
 pub returns-then-x-y-ne0 : goal.returns-then-x-y-ne0
 returns-then-x-y-ne0 c =
     let a = c.args in
-    let l = c.loop-k in
-    sym (l.invariant.1 ∙ disjoint_here a.area.now a.first a.other.now a.second l.k c.loop-k-test.true c.if-x-y-ne0.true)
+    sym (disjoint_at a.area.now a.first a.other.now a.second a.n c.loop-k.k (omega arith) c.if-x-y-ne0.true)
 
 pub loop-k-preserved : goal.loop-k-preserved
 loop-k-preserved c =
     let a = c.args in
-    let l = c.loop-k in (
-      omega arith,
-      l.invariant.1 ∙ disjoint_on a.area.now a.first a.other.now a.second l.k c.loop-k-test.true
-          c.if-x-y-ne0.false,
-    )
+    let l = c.loop-k in
+    disjoint_on a.area.now a.first a.other.now a.second l.k l.invariant c.if-x-y-ne0.false
 
 pub returns : goal.returns
-unfolding disjoint_of
 returns c =
-    let l = c.loop-k in
-    let none : l.k ≡ 0 = omega arith in
-    sym (l.invariant.1 ∙ rw none)
+    let past : c.loop-k.k ≡ c.args.n = omega arith in
+    sym (rw past at c.loop-k.invariant)

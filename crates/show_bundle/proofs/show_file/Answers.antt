@@ -5,10 +5,3 @@ use Rattle.show_bundle.proofs.show_file.Goals as goal
 
 pub bytes-bytes-requires : goal.bytes-bytes-requires
 bytes-bytes-requires c = within_all _ (sym c.within.ensures ∙ c.if-not-within.false)
-
-pub show_bundle-requires : goal.show_bundle-requires
-show_bundle-requires c =
-    record {
-      within = within_all _ (sym c.within.ensures ∙ c.if-not-within.false);
-      exact = c.if-file-bytes.false ∙ c.bytes-bytes.ensures;
-    }

@@ -5,10 +5,3 @@ use Rattle.show_bundle.proofs.show_rule.Goals as goal
 
 pub bytes-bytes-requires : goal.bytes-bytes-requires
 bytes-bytes-requires c = within_all _ (sym c.within.ensures ∙ c.if-not-within.false)
-
-pub print_left-requires : goal.print_left-requires
-print_left-requires c =
-    record {
-      within = within_all _ (sym c.within.ensures ∙ c.if-not-within.false);
-      exact = c.if-file-bytes.false ∙ c.bytes-bytes.ensures;
-    }

@@ -1,47 +1,25 @@
--- `tables_fault` meets its contract: the header's fault comes first, and where there is none, the file is whole, as the sections require,
--- and the array of sorts is zero at first and large enough.
-use mathlib.Core.Path.{◌≡◌, sym, ◌∙◌}
-use mathlib.Core.List.{List}
-use Prim.Native.Nat.{ℕ, ◌+◌}
-use native.Mathlib.Omega.{arith}
-use Rattle.bundle.specs.declared.Bundle.{Bundle as Counts}
-use Rattle.bundle.specs.Limits.{limits}
-use Rattle.bundle.specs.File.{Whole, counts_of}
-use Rattle.logic.specs.Checks.{header_fault, tables_fault}
-use Rattle.logic.proofs.Firsts.{or_else_here}
-use Rattle.logic.proofs.Headers.{header_exactly, tables_on}
-use Rattle.bundle.proofs.LinkNotes.{zeros}
+-- `tables_fault` meets its contract: a file whose header has a fault has that; of any other the sections say.
+use mathlib.Core.Path.{sym, ap, ◌∙◌}
+use Rattle.std.proofs.lemmas.Result.{err_from_is_err_and}
+use Rattle.logic.specs.Checks.{sections_fault, tables_fault}
+use Rattle.logic.proofs.Firsts.{or_else_on, or_else_here}
+use Rattle.declarations.proofs.Failing.{number_not}
 use Rattle.terms.proofs.tables_fault.Goals as goal
 
--- past the test of the header, whose fault is n, the counts b that were read are those of a whole file
-whole : (f : List ℕ) (lent required : ℕ) {n : ℕ} {b : Counts} → n ≡ header_fault f lent required → n ≡ 0 → b ≡ counts_of f → Whole f b
-whole f lent required h z e = rw e ((header_exactly f lent required).0 (sym h ∙ z)).0.whole
-
-pub returns-then-number-ne0 : goal.returns-then-number-ne0
+pub returns-in-Err-clause-fault : goal.returns-in-Err-clause-fault
 unfolding tables_fault
-returns-then-number-ne0 c = rw (← c.header_fault-number.ensures, or_else_here _ _ _ c.if-number-ne0.true)
+returns-in-Err-clause-fault c = rw (← c.in-Err.ensures.number) (sym (or_else_here _ _ _ (number_not c.in-Err.check)))
 
-pub counts-b-requires : goal.counts-b-requires
-counts-b-requires c = ((header_exactly _ _ _).0 (sym c.header_fault-number.ensures ∙ c.if-number-ne0.false)).0.long
+pub returns-in_err-noted_sections-in-Ok-clause-fault : goal.returns-in_err-noted_sections-in-Ok-clause-fault
+unfolding tables_fault
+returns-in_err-noted_sections-in-Ok-clause-fault c =
+    let p = err_from_is_err_and c.from_residual.result c.from_residual.ensures.1 in
+    let opened = c.in-Ok.ensures in
+    rw (p.1, p.2)
+    (c.in_err-noted_sections-in-Ok.ensures ∙ ap sections_fault opened.bundle ∙ sym (or_else_on _ _ _ (sym opened.number)))
 
-pub note_sorts-requires : goal.note_sorts-requires
-note_sorts-requires c = (whole _ _ _ c.header_fault-number.ensures c.if-number-ne0.false c.counts-b.ensures, c.if-b-lt256.true, zeros 256)
-
-pub sections_fault-requires : goal.sections_fault-requires
-sections_fault-requires c = (whole _ _ _ c.header_fault-number.ensures c.if-number-ne0.false c.counts-b.ensures, c.note_sorts.ensures)
-
-pub returns-then-b-lt256 : goal.returns-then-b-lt256
-returns-then-b-lt256 c =
-    c.sections_fault.ensures ∙ sym (tables_on _ _ _ c.counts-b.ensures (sym c.header_fault-number.ensures ∙ c.if-number-ne0.false))
-
-pub note_sorts-requires-2 : goal.note_sorts-requires-2
-note_sorts-requires-2 c =
-    let w = whole c.args.file.now _ _ c.header_fault-number.ensures c.if-number-ne0.false c.counts-b.ensures in
-    (w, omega (arith, w.within.terms), zeros (limits.terms + 1))
-
-pub sections_fault-requires-2 : goal.sections_fault-requires-2
-sections_fault-requires-2 c = (whole _ _ _ c.header_fault-number.ensures c.if-number-ne0.false c.counts-b.ensures, c.note_sorts-2.ensures)
-
-pub returns : goal.returns
-returns c =
-    c.sections_fault-2.ensures ∙ sym (tables_on _ _ _ c.counts-b.ensures (sym c.header_fault-number.ensures ∙ c.if-number-ne0.false))
+pub returns-in_ok-noted_sections-in-Ok-clause-fault : goal.returns-in_ok-noted_sections-in-Ok-clause-fault
+unfolding tables_fault
+returns-in_ok-noted_sections-in-Ok-clause-fault c =
+    let opened = c.in-Ok.ensures in
+    c.in_ok-noted_sections-in-Ok.ensures ∙ ap sections_fault opened.bundle ∙ sym (or_else_on _ _ _ (sym opened.number))

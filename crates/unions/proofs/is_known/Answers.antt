@@ -1,4 +1,4 @@
--- `free_variables::is_known` meets its contract: the definition.
+-- `is_known` meets its contract: the definition.
 use Rattle.unions.specs.Unions.{known}
 use mathlib.Core.Path.{refl}
 use Rattle.unions.proofs.is_known.Goals as goal

@@ -1,4 +1,4 @@
--- `free_variables::is_new` meets its contract: the definition.
+-- `is_new` meets its contract: the definition.
 use Rattle.unions.specs.Unions.{unmet}
 use mathlib.Core.Path.{refl}
 use Rattle.unions.proofs.is_new.Goals as goal

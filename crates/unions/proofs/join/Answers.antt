@@ -1,6 +1,6 @@
--- `free_variables::join` meets its contract. The invariant: the first k words are written; those that are read next are as they were.
+-- `join` meets its contract. The invariant: the first k words are written; those that are read next are as they were.
 use native.Mathlib.Omega.{arith}
-use Prim.Native.Nat.{ℕ, ◌+◌, ◌-◌, ◌≤◌, ◌<◌}
+use Prim.Native.Nat.{ℕ, ◌+◌, ◌≤◌, ◌<◌}
 use mathlib.Core.Path.{◌≡◌, refl, ◌∙◌}
 use mathlib.Core.Logic.{◌⊎◌, inl, inr}
 use lib.ListN.{get_or, length-set}
@@ -16,7 +16,7 @@ still n k second to h (inr l) = inr (omega arith)
 
 pub loop-k-init : goal.loop-k-init
 unfolding filled
-loop-k-init c = (omega arith, refl, refl)
+loop-k-init c = (refl, refl)
 
 pub loop-k-preserved : goal.loop-k-preserved
 loop-k-preserved c =
@@ -25,16 +25,16 @@ loop-k-preserved c =
     let w = a.lists.now in
     let g : ℕ → ℕ = λ k. bit_or (get_or a.area.now (a.first + k) 0) (get_or w (a.second + k) 0) in
     let y : get_or l.lists (a.second + l.k) 0 ≡ get_or w (a.second + l.k) 0 =
-    rw l.invariant.2
+    rw l.invariant.1
     (filled_out g w a.to l.k (a.second + l.k)
     (still a.n l.k a.second a.to (omega arith) c.requires.0)) in
-    (omega arith, simp length-set l.invariant.1, filled_more g w a.to l.k _ l.lists l.invariant.2 (rw y))
+    (simp length-set l.invariant.0, filled_more g w a.to l.k _ l.lists l.invariant.1 (rw y))
 
 pub shape_of-lists : goal.shape_of-lists
-shape_of-lists c = c.loop-k.invariant.1
+shape_of-lists c = c.loop-k.invariant.0
 
 pub returns : goal.returns
 returns c =
     let l = c.loop-k in
     let past : l.k ≡ c.args.n = omega arith in
-    l.invariant.2 ∙ rw past
+    l.invariant.1 ∙ rw past

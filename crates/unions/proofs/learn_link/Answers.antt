@@ -1,12 +1,11 @@
--- `free_variables::learn_link` meets its contract: the union of a list is that of its first term's set and of the rest, if they are known.
+-- `learn_link` meets its contract: the union of a list is that of its first term's set and of the rest, if they are known.
 use native.Mathlib.Omega.{arith}
 use Prim.Native.Nat.{◌+◌, ◌*◌, ◌-◌, ◌≤◌}
 use mathlib.Core.Path.{◌≡◌, refl, sym, ◌∙◌}
 use mathlib.Core.Bool.{true}
 use lib.ListN.{length}
 use Rattle.bundle.specs.Lists.{numbers}
-use Rattle.bundle.specs.File.{bundle_at}
-use Rattle.bundle.proofs.Fields.{links_length, record_within}
+use Rattle.bundle.proofs.Fields.{record_within}
 use Rattle.bundle.proofs.Walks.{walk_le, walk_up, walk_cons}
 use Rattle.logic.proofs.Tests.{numbers_of_lem}
 use Rattle.unions.specs.Unions.{known}
@@ -17,26 +16,20 @@ pub bounds-marks-k : goal.bounds-marks-k
 bounds-marks-k c =
     omega (
       arith,
-      c.requires.2.marked,
-      c.requires.4,
-      links_length c.args.file.now
-          c.args.b,
+      c.requires.1.marked,
+      c.requires.3,
     )
 
 pub is_lower-requires : goal.is_lower-requires
-is_lower-requires c = c.requires.1.one
+is_lower-requires c = c.requires.0.one
 
 pub is_known-requires : goal.is_known-requires
 is_known-requires c =
     omega (
       arith,
-      c.requires.2.marked,
-      links_length
-          c.args.file.now
-          c.args.b,
+      c.requires.1.marked,
       walk_le
-          c.args.file.now
-          c.args.b
+          c.args.bundle.now
           c.args.k
           c.next_link-next.result c.next_link-next.ensures,
     )
@@ -44,16 +37,15 @@ is_known-requires c =
 pub overflow_mul-n : goal.overflow_mul-n
 overflow_mul-n c =
     let a = c.args in
-    let B = bundle_at a.file.now a.b in
+    let B = a.bundle.now in
     let link : a.k ≤ length B.links =
     omega (
       arith,
-      c.requires.4,
-      links_length a.file.now a.b,
+      c.requires.3,
     ) in
     let fits : a.n * a.k + a.n ≤ length a.lists.now =
     link_fits a.n a.k (length B.links) (length a.lists.now) link
-    c.requires.2.room in
+    c.requires.1.room in
     omega arith
 
 pub overflow_sub-term : goal.overflow_sub-term
@@ -75,41 +67,38 @@ overflow_mul-n-2 c =
     let fits : a.n * (c.link_field-term.result - 1) + a.n ≤ a.n * (a.t - 1) =
     record_within a.n (a.t - 1) c.link_field-term.result
     (λ z. omega arith) p.1 in
-    omega (arith, c.requires.1.fits)
+    omega (arith, c.requires.0.fits)
 
 pub overflow_mul-n-3 : goal.overflow_mul-n-3
 overflow_mul-n-3 c =
     let a = c.args in
-    let B = bundle_at a.file.now a.b in
+    let B = a.bundle.now in
     let link : c.next_link-next.result ≤ length B.links =
     omega (
       arith,
-      links_length a.file.now a.b,
-      walk_le a.file.now a.b a.k
+      walk_le a.bundle.now a.k
           c.next_link-next.result
           c.next_link-next.ensures,
     ) in
     let fits : a.n * c.next_link-next.result + a.n ≤ length a.lists.now =
     link_fits a.n c.next_link-next.result (length B.links)
     (length a.lists.now) link
-    c.requires.2.room in
+    c.requires.1.room in
     omega arith
 
 pub join-requires : goal.join-requires
 join-requires c =
     let a = c.args in
-    let B = bundle_at a.file.now a.b in
+    let B = a.bundle.now in
     let link : a.k ≤ length B.links =
     omega (
       arith,
-      c.requires.4,
-      links_length a.file.now a.b,
+      c.requires.3,
     ) in
     let next : c.next_link-next.result ≤ length B.links =
     omega (
       arith,
-      links_length a.file.now a.b,
-      walk_le a.file.now a.b a.k
+      walk_le a.bundle.now a.k
           c.next_link-next.result
           c.next_link-next.ensures,
     ) in
@@ -121,44 +110,41 @@ join-requires c =
     record_within a.n (a.t - 1) c.link_field-term.result
     (λ z. omega arith) p.1 in
     let within : a.n * (a.t - 1) ≤ length a.area.now =
-    c.requires.1.fits in (
+    c.requires.0.fits in (
       apart a.n c.next_link-next.result a.k
           (next_side a.k c.next_link-next.result
-          c.requires.3
-          (walk_up a.file.now a.b a.k c.next_link-next.result
+          c.requires.2
+          (walk_up a.bundle.now a.k c.next_link-next.result
           c.next_link-next.ensures)),
       omega arith,
       link_fits a.n c.next_link-next.result (length B.links)
           (length a.lists.now) next
-          c.requires.2.room,
+          c.requires.1.room,
       link_fits a.n a.k (length B.links) (length a.lists.now) link
-          c.requires.2.room,
+          c.requires.1.room,
     )
 
 pub bounds-marks-k-2 : goal.bounds-marks-k-2
 bounds-marks-k-2 c =
     omega (
       arith,
-      c.requires.2.marked,
-      c.requires.4,
-      links_length c.args.file.now
-          c.args.b,
+      c.requires.1.marked,
+      c.requires.3,
     )
 
 pub returns : goal.returns
 returns c =
     let a = c.args in
-    let B = bundle_at a.file.now a.b in
+    let B = a.bundle.now in
     let link : a.k ≤ length B.links =
     omega (
       arith,
-      c.requires.4,
-      links_length a.file.now a.b,
+      c.requires.3,
     ) in
     let some : a.k ≡ 0 → ⊥ =
     λ z. omega (
       arith,
-      c.requires.3,
+      c.requires.2,
     ) in
     let low : numbers (a.t - 1) c.link_field-term.result
     ≡ true = sym c.is_lower.ensures
@@ -170,12 +156,12 @@ returns c =
       unions_learnt a.area.now a.lists.now a.marks.now a.n a.t a.k
           c.link_field-term.result
           c.next_link-next.result B
-          c.requires.1 c.requires.2
-          c.requires.3 link
-          (walk_cons a.file.now a.b a.k
+          c.requires.0 c.requires.1
+          c.requires.2 link
+          (walk_cons a.bundle.now a.k
           c.link_field-term.result
           c.next_link-next.result some
-          c.requires.4 c.link_field-term.ensures
+          c.requires.3 c.link_field-term.ensures
           c.next_link-next.ensures)
           low then c.join.new.lists _ c.join.ensures refl,
     )

@@ -1,62 +1,19 @@
--- `free_variables::unite_each` meets its contract. The invariant: the set so far and what is left to add make up the whole.
-use native.Mathlib.Omega.{arith}
-use Rattle.bundle.specs.Links.{items}
-use Rattle.bundle.specs.File.{bundle_at}
-use Rattle.bundle.proofs.Walks.{walk_start, walk_start_le, walk_le, walk_nil, walk_cons, walk_length}
-use Rattle.unions.proofs.Puts.{kept_refl, kept_trans, room_kept, adding_turn, adding_end}
+-- `unite_each` meets its contract.
+use Rattle.unions.proofs.Puts.{room_kept, partly_refl, partly_on, partly_end}
 use Rattle.unions.proofs.unite_each.Goals as goal
 
-pub loop-i-init : goal.loop-i-init
-loop-i-init c =
-    let a = c.args in
-    let r = c.first_link-i in (
-      walk_start_le a.file.now a.b a.list r.result r.ensures,
-      kept_refl a.area.now a.n a.at,
-      λ x. rw (walk_start a.file.now a.b a.list r.result r.ensures),
-    )
+pub loop-term-init : goal.loop-term-init
+loop-term-init c = rw (c.into_iter-term-iterator.ensures.into_iter_gives, c.items-term-items.ensures) partly_refl
 
 pub unite_term-requires : goal.unite_term-requires
 unite_term-requires c = let a = c.args in
-    room_kept a.area.now c.loop-i.area a.n a.t a.at c.requires.1
-    c.loop-i.invariant.1
+    room_kept a.area.now c.loop-term.area a.n a.t a.at c.requires c.loop-term.invariant.kept
 
-pub next_link-i-requires : goal.next_link-i-requires
-next_link-i-requires c = c.requires.0
-
-pub loop-i-smaller : goal.loop-i-smaller
-loop-i-smaller c =
-    let a = c.args in
-    omega (
-      arith,
-      walk_length a.file.now a.b c.loop-i.i c.next_link-i.result
-          c.loop-i-test.true c.loop-i.invariant.0
-          c.next_link-i.ensures,
-    )
-
-pub loop-i-preserved : goal.loop-i-preserved
-loop-i-preserved c =
-    let a = c.args in
-    let l = c.loop-i in
-    let b = bundle_at a.file.now a.b in (
-      walk_le a.file.now a.b l.i c.next_link-i.result c.next_link-i.ensures,
-      kept_trans a.area.now l.area c.unite_term.new.area a.n a.at l.invariant.1
-          c.unite_term.ensures.kept,
-      adding_turn a.area.now a.n a.t a.at c.requires.1
-          (items b a.list) l.area c.unite_term.new.area (items b l.i) (items b c.next_link-i.result)
-          c.link_field-term.result l.invariant.1 l.invariant.2
-          (walk_cons a.file.now a.b l.i c.link_field-term.result c.next_link-i.result
-          c.loop-i-test.true l.invariant.0 c.link_field-term.ensures
-          c.next_link-i.ensures)
-          c.unite_term.ensures,
-    )
+pub loop-term-preserved : goal.loop-term-preserved
+loop-term-preserved c = partly_on c.requires c.loop-term.invariant c.in-Some.ensures.steps c.unite_term.ensures
 
 pub shape_of-area : goal.shape_of-area
-shape_of-area c = c.loop-i.invariant.1.long
+shape_of-area c = c.loop-term.invariant.kept.long
 
 pub returns : goal.returns
-returns c =
-    let a = c.args in
-    let l = c.loop-i in
-    let b = bundle_at a.file.now a.b in
-    adding_end a.area.now a.n a.t a.at c.requires.1 (items b a.list) l.area (items b l.i)
-    l.invariant.1 l.invariant.2 (walk_nil a.file.now a.b l.i c.loop-i-test.false)
+returns c = partly_end c.loop-term.invariant c.in-None.ensures.steps.0

@@ -1,4 +1,4 @@
--- `free_variables::unite_far` meets its contract.
+-- `unite_far` meets its contract.
 use native.Mathlib.Omega.{arith}
 use Prim.Native.Nat.{◌+◌, ◌*◌, ◌-◌, ◌≤◌}
 use Rattle.bundle.proofs.Fields.{record_within}

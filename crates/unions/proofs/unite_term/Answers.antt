@@ -1,4 +1,4 @@
--- `free_variables::unite_term` meets its contract.
+-- `unite_term` meets its contract.
 use native.Mathlib.Omega.{arith}
 use Prim.Native.Nat.{◌+◌, ◌*◌, ◌-◌, ◌≤◌}
 use Rattle.bundle.proofs.Fields.{record_within}

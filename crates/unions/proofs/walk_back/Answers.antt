@@ -1,15 +1,14 @@
--- `free_variables::walk_back` meets its contract. The invariant: what is known is so. Links before a link are lower, so the measure is the link.
+-- `walk_back` meets its contract. The invariant: what is known is so. Links before a link are lower, so the measure is the link.
 use native.Mathlib.Omega.{arith}
 use mathlib.Core.Path.{refl}
 use Rattle.unions.proofs.walk_back.Goals as goal
 
 pub loop-k-init : goal.loop-k-init
-loop-k-init c = (c.requires.3, refl, refl, c.requires.2)
+loop-k-init c = (c.requires.2, refl, refl, c.requires.1)
 
 pub learn_link-k-requires : goal.learn_link-k-requires
 learn_link-k-requires c = (
   c.requires.0,
-  c.requires.1,
   c.loop-k.invariant.3,
   omega arith,
   c.loop-k.invariant.0,

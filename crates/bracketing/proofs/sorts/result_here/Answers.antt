@@ -7,4 +7,4 @@ returns c =
     let a = c.args in
     let x = c.symbol_here-f in
     let s = c.signature_of in
-    result_named a.file.now a.b _ x.result s.result _ x.ensures s.ensures c.result_sort.ensures
+    result_named a.bundle.now _ x.result s.result _ x.ensures s.ensures c.result_sort.ensures

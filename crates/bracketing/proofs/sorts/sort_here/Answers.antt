@@ -6,10 +6,10 @@ pub returns-then-x-eq0 : goal.returns-then-x-eq0
 returns-then-x-eq0 c =
     let a = c.args in
     let x = c.variable_here-x in
-    sort_none a.file.now a.b _ x.result _ x.ensures c.if-x-eq0.true c.result_here.ensures
+    sort_none a.bundle.now _ x.result _ x.ensures.0 c.if-x-eq0.true c.result_here.ensures
 
 pub returns : goal.returns
 returns c =
     let a = c.args in
     let x = c.variable_here-x in
-    sort_some a.file.now a.b _ x.result _ x.ensures c.if-x-eq0.false c.variable_sort.ensures
+    sort_some a.bundle.now _ x.result _ x.ensures.0 c.if-x-eq0.false c.variable_sort.ensures

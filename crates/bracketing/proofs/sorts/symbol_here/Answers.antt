@@ -10,4 +10,4 @@ returns-then-l-ne9 c = let a = c.args in rw (none_here a.text.now a.l c.if-l-ne9
 pub returns : goal.returns
 returns c =
     let a = c.args in
-    rw (name_at_lem a.text.now a.l c.if-l-ne9.false) c.symbol_called.ensures
+    rw (name_at_lem a.text.now a.l c.if-l-ne9.false, ← c.symbols.ensures.0) c.symbol_called.ensures

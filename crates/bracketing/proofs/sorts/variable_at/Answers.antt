@@ -6,4 +6,5 @@ pub returns : goal.returns
 returns c =
     let j = c.after_lexeme-j in
     let l = c.next_lexeme-l in
-    rw (← j.ensures.there, name_here_lem _ _ l.result l.ensures) c.variable_here.ensures
+    let x = c.variable_here in
+    (rw (← j.ensures.there, name_here_lem _ _ l.result l.ensures) x.ensures.0, x.ensures.1)

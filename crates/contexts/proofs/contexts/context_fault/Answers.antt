@@ -1,4 +1,4 @@
--- `contexts::context_fault` meets its contract: what is wrong is the first of the two tests that fails.
+-- `context_fault` meets its contract: what is wrong is the first of the two tests that fails.
 use mathlib.Core.Path.{sym, ◌∙◌}
 use Rattle.logic.specs.Contexts.{context_fault}
 use Rattle.contexts.proofs.contexts.context_fault.Goals as goal
@@ -11,7 +11,7 @@ pub replacements_settled-requires : goal.replacements_settled-requires
 replacements_settled-requires c =
     let p = c.requires in
     let r = c.context_refers in
-    (p.0, p.2, p.3, sym r.ensures ∙ c.if-not-context_refers.false)
+    (p.1, p.2, sym r.ensures ∙ c.if-not-context_refers.false)
 
 pub returns-then-not-replacements_settled : goal.returns-then-not-replacements_settled
 unfolding context_fault

@@ -1,5 +1,4 @@
--- `contexts::context_refers` meets its contract: in each branch the kind is known, and the tests are those that `context_refers_as` lists for it.
-use Rattle.bundle.proofs.Fields.{variables_length, terms_length, links_length}
+-- `context_refers` meets its contract: in each branch the kind is known, and the tests are those that `context_refers_as` lists for it.
 use Rattle.logic.specs.Tests.{passed}
 use Rattle.logic.specs.Checks.{lists_agree}
 use Rattle.logic.specs.Contexts.{context_refers}
@@ -15,7 +14,7 @@ returns-then-kind-eq-FIXES c =
       ← c.context_field-first.ensures,
       ← c.context_field-second.ensures,
       ← c.context_field-parent.ensures,
-      variables_length,
+      c.variables-variables.ensures.0,
     )
 
 pub returns-then-kind-eq-REPLACES : goal.returns-then-kind-eq-REPLACES
@@ -27,11 +26,11 @@ returns-then-kind-eq-REPLACES c =
       ← c.context_field-first.ensures,
       ← c.context_field-second.ensures,
       ← c.context_field-parent.ensures,
-      variables_length,
-      terms_length,
-      links_length,
+      ← c.variables-variables.ensures.0,
+      ← c.terms-terms.ensures.0,
+      ← c.links-links.ensures.0,
       ← c.all_numbers-replaced.ensures,
-      ← c.all_numbers-terms.ensures,
+      ← c.all_numbers-replacing.ensures,
       ← c.some_different-distinct.ensures,
       ← c.variables_fit-fit.ensures,
     )

@@ -1,10 +1,10 @@
--- `contexts::contexts_fault` meets its contract. The invariant: the first bad context of all is the first from context i on, and those below it
+-- `contexts_fault` meets its contract.
 use native.Mathlib.Omega.{arith}
-use Prim.Native.Nat.{◌+◌, ◌-◌, ◌≤◌}
+use Prim.Native.Nat.{◌+◌, ◌≤◌}
 use mathlib.Core.Path.{◌≡◌, refl, sym, ◌∙◌}
 use lib.ListN.{length}
-use Rattle.bundle.specs.File.{bundle_at}
-use Rattle.bundle.proofs.Fields.{variables_length, contexts_length}
+use Rattle.logic.specs.declared.checks.Check.{Check}
+use Rattle.logic.specs.Failures.{number_of}
 use Rattle.logic.specs.Contexts.{contexts_fault}
 use Rattle.logic.proofs.Firsts.{rest_start, rest_on, rest_here, rest_end}
 use Rattle.logic.proofs.EntryFacts.{refers_passed}
@@ -12,81 +12,91 @@ use Rattle.images.proofs.FreeWords.{known_room}
 use Rattle.images.proofs.ContextRows.{record_below}
 use Rattle.contexts.proofs.contexts.contexts_fault.Goals as goal
 
+-- a check's number is not 0, which says that none fails
+number_not : (k : Check) → number_of k ≡ 0 → ⊥
+number_not Check.Length e = absurd (omega (arith, e))
+number_not Check.Version e = absurd (omega (arith, e))
+number_not Check.Limits e = absurd (omega (arith, e))
+number_not Check.Area e = absurd (omega (arith, e))
+number_not Check.Next e = absurd (omega (arith, e))
+number_not Check.Declared e = absurd (omega (arith, e))
+number_not Check.Refers e = absurd (omega (arith, e))
+number_not Check.Sorted e = absurd (omega (arith, e))
+number_not Check.New e = absurd (omega (arith, e))
+number_not Check.Context e = absurd (omega (arith, e))
+number_not Check.Settled e = absurd (omega (arith, e))
+number_not Check.Step e = absurd (omega (arith, e))
+number_not Check.Matches e = absurd (omega (arith, e))
+number_not Check.Side e = absurd (omega (arith, e))
+number_not Check.Claim e = absurd (omega (arith, e))
+number_not Check.Room e = absurd (omega (arith, e))
+number_not Check.Closed e = absurd (omega (arith, e))
+number_not Check.Job e = absurd (omega (arith, e))
+number_not Check.Text e = absurd (omega (arith, e))
+number_not Check.Name e = absurd (omega (arith, e))
+number_not Check.Pairs e = absurd (omega (arith, e))
+number_not Check.Scope e = absurd (omega (arith, e))
+
 pub loop-i-init : goal.loop-i-init
 unfolding contexts_fault
 loop-i-init c =
     let p = c.requires in
-    (omega arith, rw contexts_length (rest_start _ _), omega arith, refl, refl, p.6, p.7)
+    record { rest = rest_start _ _; images_long = refl; scopes_long = refl; images = p.5; scopes = p.6 }
 
-pub context_fault-number-requires : goal.context_fault-number-requires
-context_fault-number-requires c =
-    let p = c.requires in
-    (p.0, p.1, p.2, c.loop-i.invariant.6)
+pub context_fault-requires : goal.context_fault-requires
+context_fault-requires c = (c.requires.0, c.requires.1, c.loop-i.invariant.scopes)
 
-pub shape_of-images-then-number-ne0 : goal.shape_of-images-then-number-ne0
-shape_of-images-then-number-ne0 c = c.loop-i.invariant.3
-
-pub shape_of-scopes-then-number-ne0 : goal.shape_of-scopes-then-number-ne0
-shape_of-scopes-then-number-ne0 c = c.loop-i.invariant.4
-
-pub returns-then-number-ne0 : goal.returns-then-number-ne0
-returns-then-number-ne0 c =
-    let l = c.loop-i in record {
-      value = sym (l.invariant.1 ∙ rest_here _ _ _ c.context_fault-number.ensures c.loop-i-test.true c.if-number-ne0.true);
-      fact = λ z. absurd
-          (c.if-number-ne0.true z);
-    }
+pub returns-in-Err-clause-value : goal.returns-in-Err-clause-value
+returns-in-Err-clause-value c =
+    let few : c.loop-i.i ≤ length c.args.bundle.now.contexts = omega (arith, c.contexts-contexts.ensures.0) in
+    sym (c.loop-i.invariant.rest ∙ rest_here _ _ _ c.in-Err.ensures few (number_not c.in-Err.check))
 
 pub enter-requires : goal.enter-requires
 enter-requires c =
     let a = c.args in
     let l = c.loop-i in
     let p = c.requires in
-    let few : l.i ≤ a.b.contexts = omega arith in (
-      p.0,
-      l.invariant.5,
-      l.invariant.6,
+    let few : l.i ≤ length a.bundle.now.contexts = omega (arith, c.contexts-contexts.ensures.0) in (
+      l.invariant.images,
+      l.invariant.scopes,
       record {
         row =
-            rw (variables_length a.file.now a.b)
-            (omega (arith, known_room a.b.variables l.i a.b.contexts (length a.images.now) few p.4, l.invariant.3));
-        words = omega (arith, p.5, l.invariant.4, record_below a.n l.i (a.b.contexts + 1) (omega arith));
+            omega (
+              arith,
+              known_room (length a.bundle.now.variables) l.i (length a.bundle.now.contexts) (length a.images.now) few p.3,
+              l.invariant.images_long,
+            );
+        words = omega (arith, p.4, l.invariant.scopes_long, record_below a.n l.i (length a.bundle.now.contexts + 1) (omega arith));
       },
-      p.3,
-      refers_passed (bundle_at a.file.now a.b) l.i (sym c.context_fault-number.ensures ∙ c.if-number-ne0.false),
+      p.2,
+      refers_passed a.bundle.now l.i (sym c.in_default.ensures),
     )
-
-pub loop-i-smaller : goal.loop-i-smaller
-loop-i-smaller c = omega (arith, c.loop-i-test.true)
 
 pub loop-i-preserved : goal.loop-i-preserved
 loop-i-preserved c =
-    let l = c.loop-i in (
-      omega arith,
-      l.invariant.1 ∙ rest_on _ _ _ c.context_fault-number.ensures
-          c.loop-i-test.true
-          c.if-number-ne0.false,
-      omega arith,
-      c.enter.ensures.0
-          ∙ l.invariant.3,
-      c.enter.ensures.1
-          ∙ l.invariant.4,
-      c.enter.ensures.2,
-      c.enter.ensures.3,
-    )
+    let l = c.loop-i in
+    let e = c.enter.ensures in
+    let few : l.i ≤ length c.args.bundle.now.contexts = omega (arith, c.contexts-contexts.ensures.0) in
+    record {
+      rest = l.invariant.rest ∙ rest_on _ _ _ c.in_default.ensures few refl;
+      images_long = e.0 ∙ l.invariant.images_long;
+      scopes_long = e.1 ∙ l.invariant.scopes_long;
+      images = e.2;
+      scopes = e.3;
+    }
 
 pub shape_of-images : goal.shape_of-images
-shape_of-images c = c.loop-i.invariant.3
+shape_of-images c = c.loop-i.invariant.images_long
 
 pub shape_of-scopes : goal.shape_of-scopes
-shape_of-scopes c = c.loop-i.invariant.4
+shape_of-scopes c = c.loop-i.invariant.scopes_long
 
 pub returns : goal.returns
 returns c =
     let a = c.args in
     let l = c.loop-i in
-    let all : l.i ≡ a.b.contexts + 1 = omega (arith, l.invariant.0) in
+    let all : l.i ≡ length a.bundle.now.contexts + 1 = omega (arith, c.contexts-contexts.ensures.0) in
     record {
-      value = c.no_fault.ensures ∙ sym (l.invariant.1 ∙ rest_end _ _ _ c.loop-i-test.false);
-      fact = λ z. (rw (← all) l.invariant.5, rw (← all) l.invariant.6);
+      value = sym (l.invariant.rest ∙ rest_end _ _ _ (omega arith));
+      fact = (rw (← all) l.invariant.images, rw (← all) l.invariant.scopes);
     }

@@ -1,11 +1,10 @@
--- `contexts::replacements_settled` meets its contract: only a context that replaces has terms.
+-- `replacements_settled` meets its contract: only a context that replaces has terms.
 use mathlib.Core.Path.{◌≡◌, refl}
 use mathlib.Core.Bool.{Bool, true, false, cond}
 use native.Mathlib.Omega.{arith}
 use native.Mathlib.Nat.{mul-le-mul_left}
 use Prim.Native.Nat.{ℕ, ◌+◌, ◌≤◌}
 use lib.Dec.{eqb}
-use Rattle.bundle.specs.File.{bundle_at}
 use Rattle.bundle.specs.Bundle.{Bundle, Context}
 use Rattle.logic.specs.Contexts.{entry_of, fixing, noEntry, replacements_settled_as, replacements_settled}
 use Rattle.logic.proofs.Entries.{entry_rest}
@@ -25,14 +24,13 @@ no_terms b k r not2 = rw (entry_rest k not2) (go (eqb k 1))
 pub all_settled-requires : goal.all_settled-requires
 all_settled-requires c =
     let a = c.args in
-    let b = bundle_at a.file.now a.b in
+    let b = a.bundle.now in
     let p = c.context_field-parent in
     let low : p.result + 1 ≤ a.i =
-    rw p.ensures (omega (arith, lower_parent b a.i c.requires.3)) in (
+    rw p.ensures (omega (arith, lower_parent b a.i c.requires.2)) in (
       c.requires.0,
-      c.requires.1,
       scopes_few b
-          a.scopes.now a.n a.i (p.result + 1) low (mul-le-mul_left a.n low) c.requires.2,
+          a.scopes.now a.n a.i (p.result + 1) low (mul-le-mul_left a.n low) c.requires.1,
     )
 
 pub returns-then-kind-eq-REPLACES : goal.returns-then-kind-eq-REPLACES

@@ -1,17 +1,8 @@
--- `records::all_sorts_meet` meets its contract. The invariant: the two lists meet where what is left of them does.
--- The measure is the length of what is left of the first.
-use Prim.Native.Nat.{◌≤◌}
+-- The invariant: the two lists meet where what is left of them does.
 use mathlib.Core.Path.{◌≡◌}
-use lib.ListN.{length}
 use Rattle.bundle.specs.Links.{items}
-use Rattle.bundle.specs.File.{bundle_at}
 use Rattle.logic.specs.ReflWalk.{all_sorts_meet}
 use Rattle.crossings.proofs.records.all_sorts_meet.Given as goal
 
-abbrev pub invariant-loop-i : goal.invariant-loop-i
-invariant-loop-i l = (l.i ≤ l.b.links) × (l.j ≤ l.b.links)
-    × (all_sorts_meet (bundle_at l.file l.b) (items (bundle_at l.file l.b) l.first) (items (bundle_at l.file l.b) l.second)
-    ≡ all_sorts_meet (bundle_at l.file l.b) (items (bundle_at l.file l.b) l.i) (items (bundle_at l.file l.b) l.j))
-
-abbrev pub decreases-loop-i : goal.decreases-loop-i
-decreases-loop-i l = length (items (bundle_at l.file l.b) l.i)
+abbrev pub invariant-loop-x : goal.invariant-loop-x
+invariant-loop-x l = all_sorts_meet l.bundle (items l.bundle l.first) (items l.bundle l.second) ≡ all_sorts_meet l.bundle l.x-iterator l.others

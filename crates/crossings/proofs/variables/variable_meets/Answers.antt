@@ -1,6 +1,6 @@
 -- `variables::variable_meets` meets its contract: bound on the left, or free there.
 use native.Mathlib.Omega.{arith}
-use Rattle.bundle.specs.File.{bundle_at}
+use lib.ListN.{length}
 use Rattle.logic.specs.ReflWalk.{rights}
 use Rattle.images.specs.ContextRows.{image_at}
 use Rattle.images.specs.LentReading.{free_in}
@@ -13,8 +13,8 @@ returns-then-place-ne0 c ps known =
     let a = c.args in
     let place = c.left_place-place in
     let kind = c.term_field-kind in
-    bound_meets_lem (free_in a.b.terms a.area.now a.n) (image_at a.b.variables a.images.now a.context)
-    (bundle_at a.file.now a.b) ps a.x a.r
+    bound_meets_lem (free_in (length a.bundle.now.terms) a.area.now a.n) (image_at (length a.bundle.now.variables) a.images.now a.context)
+    a.bundle.now ps a.x a.r
     (place.ensures a.n a.bound.now ps known) c.if-place-ne0.true kind.ensures c.term_field-z.ensures
     (c.right_place-other.ensures a.n a.bound.now ps known)
 
@@ -24,8 +24,8 @@ returns-then-not-good c ps known =
     let place = c.left_place-place in
     let image = c.image_of-image in
     let good = c.image_is-good in
-    image_differs (free_in a.b.terms a.area.now a.n) (image_at a.b.variables a.images.now a.context)
-    (bundle_at a.file.now a.b) ps a.x a.r
+    image_differs (free_in (length a.bundle.now.terms) a.area.now a.n) (image_at (length a.bundle.now.variables) a.images.now a.context)
+    a.bundle.now ps a.x a.r
     (place.ensures a.n a.bound.now ps known) c.if-place-ne0.false image.ensures good.ensures
     c.if-not-good.true
 
@@ -35,9 +35,9 @@ returns c ps known =
     let place = c.left_place-place in
     let image = c.image_of-image in
     let good = c.image_is-good in
-    free_meets_lem (free_in a.b.terms a.area.now a.n) (image_at a.b.variables a.images.now a.context)
-    (bundle_at a.file.now a.b) ps a.x a.r
+    free_meets_lem (free_in (length a.bundle.now.terms) a.area.now a.n) (image_at (length a.bundle.now.variables) a.images.now a.context)
+    a.bundle.now ps a.x a.r
     (place.ensures a.n a.bound.now ps known) c.if-place-ne0.false image.ensures good.ensures
     c.if-not-good.false
-    (no_captures a.b.terms a.area.now a.bound.now a.n a.r (rights ps) known.bound
+    (no_captures (length a.bundle.now.terms) a.area.now a.bound.now a.n a.r (rights ps) known.bound
     (λ k. omega (arith, c.type_inv.area k)) c.is_settled.ensures)

@@ -1,19 +1,18 @@
 -- `records::record_fault` meets its contract: the tests of a section's record are those of `link_fault`, `symbol_fault`, `variable_fault`.
-use Rattle.bundle.proofs.Fields.{links_length}
 use Rattle.declarations.specs.Sections.{record_fault}
 use Rattle.declarations.proofs.records.record_fault.Goals as goal
 
 pub returns-in-Links : goal.returns-in-Links
 unfolding record_fault
 returns-in-Links c =
-    rw (c.in-Links.is, links_length, ← c.link_field-next.ensures, ← c.good_next.ensures) c.unless.ensures
+    rw (c.in-Links.is, ← c.links.ensures.0, ← c.link_field-next.ensures, ← c.good_next.ensures) c.unless.ensures
 
 pub returns-in-Symbols : goal.returns-in-Symbols
 unfolding record_fault
 returns-in-Symbols c =
     rw (
       c.in-Symbols.is,
-      links_length,
+      ← c.links-in-Symbols.ensures.0,
       ← c.symbol_field-result.ensures,
       ← c.symbol_field-sorts.ensures,
       ← c.is_sort.ensures,

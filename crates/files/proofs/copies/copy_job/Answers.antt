@@ -1,11 +1,11 @@
 -- `copies::copy_job` meets its contract. The invariant: the header and the first s sections are copied, and the next one starts at `from` in the file
 -- and at `to` in the scratch.
-use mathlib.Core.Path.{◌≡◌, refl, ap, ◌∙◌}
+use mathlib.Core.Path.{◌≡◌, ap, ◌∙◌}
 use Prim.Native.Nat.{ℕ, ◌≤◌}
 use native.Mathlib.Numerals.{add-one}
 use native.Mathlib.Omega.{arith}
 use lib.ListN.{length}
-use Rattle.bundle.specs.declared.Bundle.{Bundle as Counts}
+use Rattle.bundle.specs.declared.Counts.{Counts}
 use Rattle.bundle.specs.Limits.{limits, header_words, symbols_at, sections, extent_of, place_of}
 use Rattle.bundle.proofs.Limits.{within_words, section_fits}
 use Rattle.scratch.proofs.ScratchFields.{limits_within}
@@ -24,10 +24,8 @@ pub loop-s-init : goal.loop-s-init
 unfolding place_of
 loop-s-init c =
     let a = c.args in (
-      omega arith,
       c.symbols_at-from.ensures.0,
       c.symbols_at-to.ensures.0 ∙ ap symbols_at c.largest-room.ensures,
-      refl,
       rw c.copy_section.ensures (holds_header a.job.now a.b a.words.now),
     )
 
@@ -42,22 +40,22 @@ copy_section-requires-in-loop-s c =
     let l = c.loop-s in
     let n = c.extent-count.ensures in
     let fits = section_fits c.args.b c.requires.0.within l.s (omega arith) in (
-      rw (l.invariant.1, n) (omega (arith, fits.0, c.requires.0.exact)),
-      rw (l.invariant.2, n) (omega (arith, fits.1, fits.2, c.requires.1, c.copy_section.auto.words, l.invariant.3)),
+      rw (l.invariant.0, n) (omega (arith, fits.0, c.requires.0.exact)),
+      rw (l.invariant.1, n) (omega (arith, fits.1, fits.2, c.requires.1, c.copy_section.auto.words, l.auto.words)),
     )
 
 pub overflow_add-from : goal.overflow_add-from
 unfolding header_words
 overflow_add-from c =
     let l = c.loop-s in
-    rw (l.invariant.1, c.extent-count.ensures)
+    rw (l.invariant.0, c.extent-count.ensures)
     (omega (arith, (section_fits c.args.b c.requires.0.within l.s (omega arith)).0, within_words c.args.b c.requires.0.within))
 
 pub overflow_add-to : goal.overflow_add-to
 unfolding header_words
 overflow_add-to c =
     let l = c.loop-s in
-    rw (l.invariant.2, most l.s c.extent-most.ensures c.largest-room.ensures) (omega (arith, (section_fits c.args.b c.requires.0.within l.s (omega arith)).2))
+    rw (l.invariant.1, most l.s c.extent-most.ensures c.largest-room.ensures) (omega (arith, (section_fits c.args.b c.requires.0.within l.s (omega arith)).2))
 
 pub loop-s-preserved : goal.loop-s-preserved
 unfolding place_of
@@ -65,21 +63,16 @@ loop-s-preserved c =
     let l = c.loop-s in
     let n = c.extent-count.ensures in
     let fits = section_fits c.args.b c.requires.0.within l.s (omega arith) in
-    let room : place_of limits l.s ≤ length l.words = omega (arith, fits.2, c.requires.1, c.copy_section.auto.words, l.invariant.3) in (
-      omega arith,
-      rw (l.invariant.1, n, add-one l.s),
-      rw (l.invariant.2, most l.s c.extent-most.ensures c.largest-room.ensures, add-one l.s),
-      c.copy_section-in-loop-s.auto.words ∙ l.invariant.3,
-      rw (c.copy_section-in-loop-s.ensures, l.invariant.1, l.invariant.2, n, add-one l.s)
-          (holds_on c.args.job.now c.args.b c.requires.0.within l.s l.words room l.invariant.4),
+    let room : place_of limits l.s ≤ length l.words = omega (arith, fits.2, c.requires.1, c.copy_section.auto.words, l.auto.words) in (
+      rw (l.invariant.0, n, add-one l.s),
+      rw (l.invariant.1, most l.s c.extent-most.ensures c.largest-room.ensures, add-one l.s),
+      rw (c.copy_section-in-loop-s.ensures, l.invariant.0, l.invariant.1, n, add-one l.s)
+          (holds_on c.args.job.now c.args.b c.requires.0.within l.s l.words room l.invariant.2),
     )
-
-pub shape_of-words : goal.shape_of-words
-shape_of-words c = c.loop-s.invariant.3 ∙ c.copy_section.auto.words
 
 pub returns : goal.returns
 returns c =
     let a = c.args in
     let l = c.loop-s in
     let past : l.s ≡ sections = omega arith in
-    (l.invariant.3 ∙ c.copy_section.auto.words, bundle_same a.job.now l.words a.b (rw past at l.invariant.4))
+    (l.auto.words ∙ c.copy_section.auto.words, bundle_same a.job.now l.words a.b (rw past at l.invariant.2))

@@ -1,15 +1,10 @@
 -- `copies::copy_job` meets its contract. The invariant: the header and the first s sections are copied, and the next one starts at `from` in the file
 -- and at `to` in the scratch.
 use mathlib.Core.Path.{◌≡◌}
-use Prim.Native.Nat.{◌-◌, ◌≤◌}
-use lib.ListN.{length}
-use Rattle.bundle.specs.Limits.{limits, sections, place_of}
+use Rattle.bundle.specs.Limits.{limits, place_of}
 use Rattle.files.proofs.JobCopied.{Holds}
 use Rattle.files.proofs.copies.copy_job.Given as goal
 
 abbrev pub invariant-loop-s : goal.invariant-loop-s
 invariant-loop-s l =
-    (l.s ≤ sections) × (l.from ≡ place_of l.b l.s) × (l.to ≡ place_of limits l.s) × (length l.words ≡ length l.initial.words) × Holds l.job l.b l.s l.words
-
-abbrev pub decreases-loop-s : goal.decreases-loop-s
-decreases-loop-s l = sections - l.s
+    (l.from ≡ place_of l.b l.s) × (l.to ≡ place_of limits l.s) × Holds l.job l.b l.s l.words

@@ -1,5 +1,5 @@
--- `sections::store_section` meets its contract. The invariant: the first i words are stored. The measure is the number of words left.
-use Prim.Native.Nat.{◌+◌, ◌-◌, ◌<◌}
+-- `sections::store_section` meets its contract. The invariant: the first i words are stored.
+use Prim.Native.Nat.{◌+◌, ◌<◌}
 use mathlib.Core.Path.{◌≡◌}
 use native.Mathlib.Nat.{add-zero}
 use native.Mathlib.Numerals.{add-one}
@@ -10,7 +10,7 @@ use Rattle.files.proofs.Encoded.{stored_none, stored_on}
 use Rattle.files.proofs.sections.store_section.Goals as goal
 
 pub loop-i-init : goal.loop-i-init
-loop-i-init c = let a = c.args in (omega arith, rw add-zero (stored_none a.out.now a.place))
+loop-i-init c = let a = c.args in rw add-zero (stored_none a.out.now a.place)
 
 pub loop-i-preserved : goal.loop-i-preserved
 loop-i-preserved c =
@@ -19,12 +19,9 @@ loop-i-preserved c =
     let e : a.place + (l.i + 1) ≡ a.place + l.i + 1 = omega arith in
     let ws = drop a.from a.words.now in
     let more : l.i < length ws = simp length-drop (omega arith) in
-    (omega arith, rw (e, add-one l.i, take-suc ws l.i 0 more, get_or-drop) (stored_on l.invariant.1 c.put_word.ensures))
-
-pub shape_of-out : goal.shape_of-out
-shape_of-out c = c.loop-i.invariant.1.long
+    rw (e, add-one l.i, take-suc ws l.i 0 more, get_or-drop) (stored_on l.invariant c.put_word.ensures)
 
 pub returns : goal.returns
 returns c =
     let past : c.loop-i.i ≡ c.args.count = omega arith in
-    rw past at c.loop-i.invariant.1
+    rw past at c.loop-i.invariant

@@ -8,7 +8,7 @@ use Rattle.filing.proofs.filing.mixed_items.Goals as goal
 pub loop-i-init : goal.loop-i-init
 loop-i-init c =
     let a = c.args in
-    let r = c.first_link-i in (
+    let r = c.starting-i in (
       walk_start_le (sized_in a.words.now a.c) a.list r.result r.ensures,
       omega arith,
       rw (walk_start (sized_in a.words.now a.c) a.list r.result r.ensures),

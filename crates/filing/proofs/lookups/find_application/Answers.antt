@@ -17,7 +17,7 @@ pub loop-t-init : goal.loop-t-init
 loop-t-init c =
     let a = c.args in
     let filed = held_own c.requires.1 in
-    let e : c.wide-t.result ≡ get_or a.index.now a.d 0 = c.wide-t.ensures in (
+    let e : c.from-t.result ≡ get_or a.index.now a.d 0 = c.from-t.ensures in (
       omega (arith, filed.low a.d c.requires.2, (sized_in a.words.now a.c).terms),
       sought_start filed _ a.d c.requires.2
           (λ j t. application_digest (bundle_in a.words.now a.c) a.symbol (halves true a.stack.now a.from a.to) _ t ∙ sym c.requires.3) e,
@@ -35,14 +35,14 @@ bounds-index-t c =
 
 pub loop-t-smaller : goal.loop-t-smaller
 loop-t-smaller c =
-    sought_less (held_own c.requires.1) c.loop-t-test.true c.wide-t-in-loop-t.ensures
+    sought_less (held_own c.requires.1) c.loop-t-test.true c.from-t-in-loop-t.ensures
 
 pub loop-t-preserved : goal.loop-t-preserved
 loop-t-preserved c =
     let filed = held_own c.requires.1 in
     let l = c.loop-t in
     let some = c.loop-t-test.true in
-    let e : c.wide-t-in-loop-t.result ≡ get_or c.args.index.now (2048 + l.t) 0 = c.wide-t-in-loop-t.ensures in (
+    let e : c.from-t-in-loop-t.result ≡ get_or c.args.index.now (2048 + l.t) 0 = c.from-t-in-loop-t.ensures in (
       omega (arith, l.invariant.0, sought_less filed some e),
       elim c.if-same.branch [
         | then-same w ↦ sought_hit filed l.invariant.1 some e c.is_application-same.ensures w.if-same.true w.found-is

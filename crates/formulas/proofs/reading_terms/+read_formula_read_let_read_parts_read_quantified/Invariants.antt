@@ -20,7 +20,7 @@ decreases-read_quantified l = 3 * (length l.text.now - l.i) + 1
 
 abbrev pub invariant-read_parts-loop-last : goal.invariant-read_parts-loop-last
 invariant-read_parts-loop-last l =
-    P.Going l.file l.b l.text l.left l.bound l.initial.words l.initial.stack l.initial.counts l.height l.i l.words l.stack l.index l.counts l.top l.known l.sort
+    P.Going l.bundle l.text l.left l.bound l.initial.words l.initial.stack l.initial.counts l.height l.i l.words l.stack l.index l.counts l.top l.known l.sort
     (record { last = l.last; variable = l.variable; end = l.at })
 
 abbrev pub decreases-read_parts-loop-last : goal.decreases-read_parts-loop-last

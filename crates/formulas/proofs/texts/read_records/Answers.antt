@@ -1,6 +1,5 @@
 -- `texts::read_records` meets its contract: by the formula at byte 0.
 use mathlib.Core.Path.{refl}
-use Rattle.bundle.specs.File.{bundle_at}
 use Rattle.formulas.proofs.TextTurns.{text_reads}
 use Rattle.formulas.proofs.texts.read_records.Goals as goal
 
@@ -8,4 +7,4 @@ pub returns : goal.returns
 returns c =
     let a = c.args in
     let g = c.read_formula.ensures in
-    (g.0.long, text_reads (bundle_at a.file.now a.b) refl g.0 g.1)
+    (g.0.long, text_reads a.bundle.now refl g.0 g.1)

@@ -1,4 +1,4 @@
--- `spread::spread` meets its contract. The invariant: the sets from t on are moved, the words below them are as they were.
+-- `spread` meets its contract. The invariant: the sets from t on are moved, the words below them are as they were.
 use native.Mathlib.Omega.{arith}
 use native.Mathlib.Nat.{mul-le-mul_right}
 use native.Mathlib.Decide.{ℕ_discrete}
@@ -11,7 +11,7 @@ use Rattle.free_variables.proofs.spread.spread.Invariants.{Partly}
 use Rattle.free_variables.proofs.spread.spread.Goals as goal
 
 -- one set more
-module _ (w v u : List ℕ) (n terms t : ℕ) (words-fit : n ≤ set_words) (so : Partly w v n terms t) (some : t ≡ 0 → ⊥) (one : SpreadOne v u n set_words (t - 1)) where
+module _ (w v u : List ℕ) (n terms t : ℕ) (words-fit : n ≤ set_words) (so : Partly w v n terms t) (some : 0 < t) (one : SpreadOne v u n set_words (t - 1)) where
   partly_on : Partly w u n terms (t - 1)
   partly_on = record {
     few = omega (arith, so.few);

@@ -1,5 +1,5 @@
--- `spread::spread` meets its contract. The invariant: the sets from t on are moved, the words below them are as they were.
-use Prim.Native.Nat.{ℕ, ◌*◌, ◌-◌, ◌≤◌, ◌<◌}
+-- `spread` meets its contract. The invariant: the sets from t on are moved, the words below them are as they were.
+use Prim.Native.Nat.{ℕ, ◌*◌, ◌≤◌, ◌<◌}
 use mathlib.Core.Path.{◌≡◌}
 use mathlib.Core.List.{List}
 use lib.ListN.{length, get_or}
@@ -17,6 +17,3 @@ pub record Partly (w v : List ℕ) (n terms t : ℕ) : Type 0 where
 
 abbrev pub invariant-loop-t : goal.invariant-loop-t
 invariant-loop-t l = Partly l.initial.area l.area l.n l.terms l.t
-
-abbrev pub decreases-loop-t : goal.decreases-loop-t
-decreases-loop-t l = l.t

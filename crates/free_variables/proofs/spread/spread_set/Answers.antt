@@ -1,4 +1,4 @@
--- `spread::spread_set` meets its contract. The invariant: the words from k on are moved, those below are as they were.
+-- `spread_set` meets its contract. The invariant: the words from k on are moved, those below are as they were.
 use native.Mathlib.Omega.{arith}
 use native.Mathlib.Nat.{mul-le-mul_right}
 use native.Mathlib.Decide.{ℕ_discrete}
@@ -12,7 +12,7 @@ use Rattle.free_variables.proofs.spread.spread_set.Invariants.{Partly}
 use Rattle.free_variables.proofs.spread.spread_set.Goals as goal
 
 -- one word more, which is x
-module _ (w v : List ℕ) (n t k x : ℕ) (words-fit : n ≤ set_words) (room : set_words * t + set_words ≤ length w) (so : Partly w v n t k) (some : k ≡ 0 → ⊥)
+module _ (w v : List ℕ) (n t k x : ℕ) (words-fit : n ≤ set_words) (room : set_words * t + set_words ≤ length w) (so : Partly w v n t k) (some : 0 < k)
     (word : k - 1 < n → x ≡ get_or w (n * t + (k - 1)) 0) (zero : n ≤ k - 1 → x ≡ 0) where
   abbrev at : ℕ
   at = set_words * t + (k - 1)

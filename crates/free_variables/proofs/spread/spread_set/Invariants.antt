@@ -1,8 +1,8 @@
--- `spread::spread_set` meets its contract. The invariant: the words from k on are moved, those below are as they were.
-use Prim.Native.Nat.{ℕ, ◌+◌, ◌*◌, ◌-◌, ◌≤◌, ◌<◌}
+-- `spread_set` meets its contract. The invariant: the words from k on are moved, those below are as they were.
+use Prim.Native.Nat.{ℕ, ◌+◌, ◌*◌, ◌≤◌, ◌<◌}
 use mathlib.Core.Path.{◌≡◌}
 use mathlib.Core.List.{List}
-use lib.ListN.{length, get_or, set}
+use lib.ListN.{length, get_or}
 use Rattle.bundle.specs.Limits.{set_words}
 use Rattle.free_variables.proofs.spread.spread_set.Given as goal
 
@@ -17,6 +17,3 @@ pub record Partly (w v : List ℕ) (n t k : ℕ) : Type 0 where
 
 abbrev pub invariant-loop-k : goal.invariant-loop-k
 invariant-loop-k l = Partly l.initial.area l.area l.n l.t l.k
-
-abbrev pub decreases-loop-k : goal.decreases-loop-k
-decreases-loop-k l = l.k

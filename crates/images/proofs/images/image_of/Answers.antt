@@ -1,4 +1,4 @@
--- `images::image_of` meets its contract: one equation for each variant.
+-- `image_of` meets its contract: one equation for each variant.
 use mathlib.Core.Path.{sym, ap, ◌∙◌}
 use Rattle.logic.specs.Contexts.{as_image}
 use Rattle.images.proofs.images.image_of.Goals as goal

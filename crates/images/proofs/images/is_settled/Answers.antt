@@ -1,4 +1,4 @@
--- `images::is_settled` meets its contract: the set of the term and that of the context have nothing in common.
+-- `is_settled` meets its contract: the set of the term and that of the context have nothing in common.
 use native.Mathlib.Omega.{arith}
 use mathlib.Core.Path.{sym, ◌∙◌}
 use lib.ListN.{length}
@@ -8,22 +8,22 @@ use Rattle.images.proofs.images.is_settled.Goals as goal
 pub returns-then-t-eq0 : goal.returns-then-t-eq0
 returns-then-t-eq0 c = sym (settled_zero _ _ _ _ _ _ c.if-t-eq0.true)
 
-pub returns-then-t-b : goal.returns-then-t-b
-returns-then-t-b c = sym (settled_past _ _ _ _ _ _ c.if-t-b.true)
+pub returns-then-t-terms : goal.returns-then-t-terms
+returns-then-t-terms c = sym (settled_past _ _ _ _ _ _ (rw c.terms.ensures.0 at c.if-t-terms.true))
 
 pub overflow_mul-n : goal.overflow_mul-n
 overflow_mul-n c =
     let a = c.args in
     omega (
       arith,
-      set_within a.n a.b.terms a.t (length a.area.now) c.requires.0
-          c.if-t-eq0.false c.if-t-b.false,
+      set_within a.n (length a.bundle.now.terms) a.t (length a.area.now) c.requires.0
+          c.if-t-eq0.false (rw c.terms.ensures.0 at c.if-t-terms.false),
     )
 
 pub disjoint-requires : goal.disjoint-requires
 disjoint-requires c =
     let p = c.requires in
-    (set_within _ _ _ _ p.0 c.if-t-eq0.false c.if-t-b.false, p.1)
+    (set_within _ _ _ _ p.0 c.if-t-eq0.false (rw c.terms.ensures.0 at c.if-t-terms.false), p.1)
 
 pub returns : goal.returns
-returns c = c.disjoint.ensures ∙ sym (settled_some _ _ _ _ _ _ c.if-t-eq0.false c.if-t-b.false)
+returns c = c.disjoint.ensures ∙ sym (settled_some _ _ _ _ _ _ c.if-t-eq0.false (rw c.terms.ensures.0 at c.if-t-terms.false))

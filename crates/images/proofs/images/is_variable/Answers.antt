@@ -1,4 +1,4 @@
--- `images::is_variable` meets its contract.
+-- `is_variable` meets its contract.
 use Rattle.images.proofs.images.is_variable.Goals as goal
 
 pub returns : goal.returns

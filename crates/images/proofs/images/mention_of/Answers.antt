@@ -1,4 +1,4 @@
--- `images::mention_of` meets its contract: the place of the variable in the row of the context.
+-- `mention_of` meets its contract: the place of the variable in the row of the context.
 use native.Mathlib.Omega.{arith}
 use mathlib.Core.Path.{sym, ◌∙◌}
 use Rattle.images.proofs.ContextRows.{mention_zero, mention_past, mention_some, as_absent, as_fixed, as_replaced}
@@ -7,23 +7,23 @@ use Rattle.images.proofs.images.mention_of.Goals as goal
 pub returns-then-x-eq0 : goal.returns-then-x-eq0
 returns-then-x-eq0 c = sym (mention_zero _ _ _ _ c.if-x-eq0.true)
 
-pub returns-then-x-b : goal.returns-then-x-b
-returns-then-x-b c = sym (mention_past _ _ _ _ c.if-x-b.true)
+pub returns-then-x-variables : goal.returns-then-x-variables
+returns-then-x-variables c = sym (mention_past _ _ _ _ (rw c.variables-variables.ensures.0 at c.if-x-variables.true))
 
-pub overflow_add-b : goal.overflow_add-b
-overflow_add-b c = omega (arith, c.requires)
+pub overflow_add-variables : goal.overflow_add-variables
+overflow_add-variables c = rw c.variables-variables.ensures.0 (omega (arith, c.requires))
 
-pub offset_bounds-images-b : goal.offset_bounds-images-b
-offset_bounds-images-b c = omega (arith, c.requires)
+pub offset_bounds-images-variables : goal.offset_bounds-images-variables
+offset_bounds-images-variables c = rw c.variables-variables.ensures.0 (omega (arith, c.requires))
 
-pub bounds-images-b : goal.bounds-images-b
-bounds-images-b c = omega (arith, c.requires)
+pub bounds-images-variables : goal.bounds-images-variables
+bounds-images-variables c = rw c.variables-variables.ensures.0 (omega (arith, c.requires))
 
 pub returns-then-t-eq0 : goal.returns-then-t-eq0
-returns-then-t-eq0 c = sym (mention_some _ _ _ _ (omega arith) (omega arith) c.wide-t.ensures ∙ as_absent _ c.if-t-eq0.true)
+returns-then-t-eq0 c = sym (mention_some _ _ _ _ (omega arith) (rw c.variables-variables.ensures.0 at c.if-x-variables.false) (rw c.variables-variables.ensures.0 at c.from-t.ensures) ∙ as_absent _ c.if-t-eq0.true)
 
 pub returns-then-t-eq-FIXED : goal.returns-then-t-eq-FIXED
-returns-then-t-eq-FIXED c = sym (mention_some _ _ _ _ (omega arith) (omega arith) c.wide-t.ensures ∙ as_fixed _ c.if-t-eq-FIXED.true)
+returns-then-t-eq-FIXED c = sym (mention_some _ _ _ _ (omega arith) (rw c.variables-variables.ensures.0 at c.if-x-variables.false) (rw c.variables-variables.ensures.0 at c.from-t.ensures) ∙ as_fixed _ c.if-t-eq-FIXED.true)
 
 pub returns : goal.returns
-returns c = sym (mention_some _ _ _ _ (omega arith) (omega arith) c.wide-t.ensures ∙ as_replaced _ c.if-t-eq0.false c.if-t-eq-FIXED.false)
+returns c = sym (mention_some _ _ _ _ (omega arith) (rw c.variables-variables.ensures.0 at c.if-x-variables.false) (rw c.variables-variables.ensures.0 at c.from-t.ensures) ∙ as_replaced _ c.if-t-eq0.false c.if-t-eq-FIXED.false)

@@ -1,5 +1,7 @@
 -- `lexemes::run_end` meets its contract. The invariant: the bytes from the start up to j are in the run.
-use Prim.Native.Nat.{◌-◌}
+use native.Mathlib.Omega.{arith}
+use mathlib.Core.Path.{◌≡◌}
+use lib.ListN.{length}
 use Rattle.lexing.proofs.SkipLaws.{run_start, run_on, run_low, run_other, run_past}
 use Rattle.lexing.proofs.lexemes.run_end.Goals as goal
 
@@ -9,22 +11,23 @@ loop-j-init c = let a = c.args in run_start a.text.now a.start c.requires.0 c.re
 pub returns-then-class-lt5 : goal.returns-then-class-lt5
 returns-then-class-lt5 c =
     let a = c.args in
-    run_low a.text.now a.start c.loop-j.j c.loop-j.invariant c.loop-j-test.true c.class_code-class.result
+    run_low a.text.now a.start c.loop-j.j c.loop-j.invariant (omega arith) c.class_code-class.result
     c.class_code-class.ensures c.if-class-lt5.true
 
 pub returns-then-class-eq7 : goal.returns-then-class-eq7
 returns-then-class-eq7 c =
     let a = c.args in
-    run_other a.text.now a.start c.loop-j.j c.loop-j.invariant c.loop-j-test.true c.class_code-class.result
+    run_other a.text.now a.start c.loop-j.j c.loop-j.invariant (omega arith) c.class_code-class.result
     c.class_code-class.ensures c.if-class-eq7.true
 
 pub loop-j-preserved : goal.loop-j-preserved
 loop-j-preserved c =
     let a = c.args in
-    run_on a.text.now a.start c.loop-j.j c.loop-j.invariant c.loop-j-test.true c.class_code-class.result
+    run_on a.text.now a.start c.loop-j.j c.loop-j.invariant (omega arith) c.class_code-class.result
     c.class_code-class.ensures c.if-class-lt5.false c.if-class-eq7.false
 
 pub returns : goal.returns
 returns c =
     let a = c.args in
-    run_past a.text.now a.start c.loop-j.j c.loop-j.invariant c.loop-j-test.false
+    let past : c.loop-j.j ≡ length a.text.now = omega arith in
+    rw past at (run_past a.text.now a.start c.loop-j.j c.loop-j.invariant (omega arith))

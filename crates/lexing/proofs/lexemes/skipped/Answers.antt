@@ -1,7 +1,7 @@
 -- `lexemes::skipped` meets its contract. The invariant: what stands from i on is what stands from j on, between lexemes or in a comment.
 use native.Mathlib.Omega.{arith}
-use Prim.Native.Nat.{◌-◌}
-use mathlib.Core.Path.{◌∙◌}
+use mathlib.Core.Path.{◌≡◌, ◌∙◌}
+use lib.ListN.{length}
 use Rattle.lexing.proofs.SkipLaws.{skip_start, skip_on, skip_here, skip_end, skip_index}
 use Rattle.lexing.proofs.lexemes.skipped.Goals as goal
 
@@ -22,16 +22,17 @@ skip_mode-requires c =
 pub returns-then-mode-eq2 : goal.returns-then-mode-eq2
 returns-then-mode-eq2 c =
     let a = c.args in
-    skip_here a.text.now a.i c.loop-j.mode c.loop-j.j c.loop-j.invariant c.loop-j-test.true c.class_code-class.result
-    c.wide-mode.result c.class_code-class.ensures (c.wide-mode.ensures ∙ c.skip_mode.ensures) c.if-mode-eq2.true
+    skip_here a.text.now a.i c.loop-j.mode c.loop-j.j c.loop-j.invariant (omega arith) c.class_code-class.result
+    c.from-mode.result c.class_code-class.ensures (c.from-mode.ensures ∙ c.skip_mode.ensures) c.if-mode-eq2.true
 
 pub loop-j-preserved : goal.loop-j-preserved
 loop-j-preserved c =
     let a = c.args in
-    skip_on a.text.now a.i c.loop-j.mode c.loop-j.j c.loop-j.invariant c.loop-j-test.true c.class_code-class.result
-    c.wide-mode.result c.class_code-class.ensures (c.wide-mode.ensures ∙ c.skip_mode.ensures) c.if-mode-eq2.false
+    skip_on a.text.now a.i c.loop-j.mode c.loop-j.j c.loop-j.invariant (omega arith) c.class_code-class.result
+    c.from-mode.result c.class_code-class.ensures (c.from-mode.ensures ∙ c.skip_mode.ensures) c.if-mode-eq2.false
 
 pub returns : goal.returns
 returns c =
     let a = c.args in
-    skip_end a.text.now a.i c.loop-j.mode c.loop-j.j c.loop-j.invariant c.loop-j-test.false
+    let past : c.loop-j.j ≡ length a.text.now = omega arith in
+    rw past at (skip_end a.text.now a.i c.loop-j.mode c.loop-j.j c.loop-j.invariant (omega arith))

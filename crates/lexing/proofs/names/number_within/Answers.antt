@@ -1,5 +1,7 @@
 -- `names::number_within` meets its contract. The invariant: the digits so far are read as n, which is not too high.
-use Prim.Native.Nat.{◌-◌}
+use native.Mathlib.Omega.{arith}
+use mathlib.Core.Path.{◌∙◌}
+use Prim.Native.Nat.{◌+◌}
 use Rattle.lexing.proofs.NumeralLaws as N
 use Rattle.lexing.proofs.names.number_within.Goals as goal
 
@@ -12,8 +14,8 @@ returns-then-run-letter c = let a = c.args in N.nothing_letter a.letter a.low a.
 pub returns-then-run-eq48 : goal.returns-then-run-eq48
 returns-then-run-eq48 c = let a = c.args in N.nothing_zero a.letter a.low a.high a.run.now c.if-run-eq48.true
 
-pub loop-j-init : goal.loop-j-init
-loop-j-init c =
+pub loop-digit-init : goal.loop-digit-init
+loop-digit-init c =
     let a = c.args in
     N.counting_start a.letter a.low a.high a.run.now c.if-run-lt2.false c.if-run-letter.false
     c.if-run-eq48.false
@@ -21,33 +23,33 @@ loop-j-init c =
 pub returns-then-c-lt48 : goal.returns-then-c-lt48
 returns-then-c-lt48 c =
     let a = c.args in
-    N.nothing_below a.letter a.low a.high a.run.now c.loop-j.n c.loop-j.j c.loop-j.invariant c.loop-j-test.true
-    c.wide-c.result c.wide-c.ensures c.if-c-lt48.true
+    N.nothing_below a.letter a.low a.high a.run.now c.loop-digit.n (c.loop-digit.digit-index + 1) c.loop-digit.invariant (omega arith)
+    c.from-c.result (c.from-c.ensures ∙ N.later_byte a.run.now c.loop-digit.digit-index (omega arith)) c.if-c-lt48.true
 
 pub returns-then-c-gt57 : goal.returns-then-c-gt57
 returns-then-c-gt57 c =
     let a = c.args in
-    N.nothing_above a.letter a.low a.high a.run.now c.loop-j.n c.loop-j.j c.loop-j.invariant c.loop-j-test.true
-    c.wide-c.result c.wide-c.ensures c.if-c-gt57.true
+    N.nothing_above a.letter a.low a.high a.run.now c.loop-digit.n (c.loop-digit.digit-index + 1) c.loop-digit.invariant (omega arith)
+    c.from-c.result (c.from-c.ensures ∙ N.later_byte a.run.now c.loop-digit.digit-index (omega arith)) c.if-c-gt57.true
 
 pub returns-then-n-high : goal.returns-then-n-high
 returns-then-n-high c =
     let a = c.args in
-    N.nothing_high a.letter a.low a.high a.run.now c.loop-j.n c.loop-j.j c.loop-j.invariant c.loop-j-test.true
-    c.wide-c.result c.wide-c.ensures c.if-c-lt48.false c.if-c-gt57.false c.if-n-high.true
+    N.nothing_high a.letter a.low a.high a.run.now c.loop-digit.n (c.loop-digit.digit-index + 1) c.loop-digit.invariant (omega arith)
+    c.from-c.result (c.from-c.ensures ∙ N.later_byte a.run.now c.loop-digit.digit-index (omega arith)) c.if-c-lt48.false c.if-c-gt57.false c.if-n-high.true
 
-pub loop-j-preserved : goal.loop-j-preserved
-loop-j-preserved c =
+pub loop-digit-preserved : goal.loop-digit-preserved
+loop-digit-preserved c =
     let a = c.args in
-    N.counting_on a.letter a.low a.high a.run.now c.loop-j.n c.loop-j.j c.loop-j.invariant c.loop-j-test.true
-    c.wide-c.result c.wide-c.ensures c.if-c-lt48.false c.if-c-gt57.false c.if-n-high.false
+    N.counting_on a.letter a.low a.high a.run.now c.loop-digit.n (c.loop-digit.digit-index + 1) c.loop-digit.invariant (omega arith)
+    c.from-c.result (c.from-c.ensures ∙ N.later_byte a.run.now c.loop-digit.digit-index (omega arith)) c.if-c-lt48.false c.if-c-gt57.false c.if-n-high.false
 
 pub returns-then-n-low : goal.returns-then-n-low
 returns-then-n-low c =
     let a = c.args in
-    N.nothing_low a.letter a.low a.high a.run.now c.loop-j.n c.loop-j.j c.loop-j.invariant c.loop-j-test.false c.if-n-low.true
+    N.nothing_low a.letter a.low a.high a.run.now c.loop-digit.n (c.loop-digit.digit-index + 1) c.loop-digit.invariant (omega arith) c.if-n-low.true
 
 pub returns : goal.returns
 returns c =
     let a = c.args in
-    N.counted a.letter a.low a.high a.run.now c.loop-j.n c.loop-j.j c.loop-j.invariant c.loop-j-test.false c.if-n-low.false
+    N.counted a.letter a.low a.high a.run.now c.loop-digit.n (c.loop-digit.digit-index + 1) c.loop-digit.invariant (omega arith) c.if-n-low.false

@@ -1,5 +1,7 @@
 -- `runs::in_common` meets its contract. The invariant: the bytes so far are in common.
-use Prim.Native.Nat.{◌-◌}
+use native.Mathlib.Omega.{arith}
+use mathlib.Core.Path.{◌≡◌}
+use lib.ListN.{length}
 use Rattle.lexing.proofs.CommonLaws.{shared_start, shared_on, shared_differ, shared_other, shared_run}
 use Rattle.lexing.proofs.runs.in_common.Goals as goal
 
@@ -12,12 +14,14 @@ returns-then-j-other c = shared_other c.args.run.now c.args.other.now c.loop-j.j
 pub returns-then-run-j : goal.returns-then-run-j
 returns-then-run-j c =
     shared_differ c.args.run.now c.args.other.now c.loop-j.j c.loop-j.invariant
-    c.loop-j-test.true c.if-j-other.false c.if-run-j.true
+    (omega arith) c.if-j-other.false c.if-run-j.true
 
 pub loop-j-preserved : goal.loop-j-preserved
 loop-j-preserved c =
     shared_on c.args.run.now c.args.other.now c.loop-j.j c.loop-j.invariant
-    c.loop-j-test.true c.if-j-other.false c.if-run-j.false
+    (omega arith) c.if-j-other.false c.if-run-j.false
 
 pub returns : goal.returns
-returns c = shared_run c.args.run.now c.args.other.now c.loop-j.j c.loop-j.invariant c.loop-j-test.false
+returns c =
+    let past : c.loop-j.j ≡ length c.args.run.now = omega arith in
+    rw past at (shared_run c.args.run.now c.args.other.now c.loop-j.j c.loop-j.invariant (omega arith))

@@ -1,11 +1,6 @@
 -- `runs::in_common` meets its contract. The invariant: the bytes so far are in common.
-use Prim.Native.Nat.{◌-◌}
-use lib.ListN.{length}
 use Rattle.lexing.proofs.CommonLaws.{Shared}
 use Rattle.lexing.proofs.runs.in_common.Given as goal
 
 abbrev pub invariant-loop-j : goal.invariant-loop-j
 invariant-loop-j l = Shared l.run l.other l.j
-
-abbrev pub decreases-loop-j : goal.decreases-loop-j
-decreases-loop-j l = length l.run - l.j

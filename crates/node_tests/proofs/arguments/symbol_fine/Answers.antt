@@ -7,16 +7,16 @@ pub returns-then-f-eq0 : goal.returns-then-f-eq0
 returns-then-f-eq0 c =
     let a = c.args in
     let x = c.symbol_here-f in
-    takes_none a.file.now a.b _ x.result x.ensures c.if-f-eq0.true _
+    takes_none a.bundle.now _ x.result x.ensures c.if-f-eq0.true _
 
 pub overflow_sub-f : goal.overflow_sub-f
 overflow_sub-f c =
     let a = c.args in
     let x = c.symbol_here-f in
-    omega (arith, (symbol_range a.file.now a.b _ x.result x.ensures c.if-f-eq0.false).0)
+    omega (arith, (symbol_range a.bundle.now _ x.result x.ensures c.if-f-eq0.false).0)
 
 pub returns : goal.returns
 returns c =
     let x = c.symbol_here-f in
     let a = c.args in
-    takes_list a.file.now a.b _ x.result x.ensures c.if-f-eq0.false _ c.symbol_field-list.ensures _ _ c.arguments_fit.ensures
+    takes_list a.bundle.now _ x.result x.ensures c.if-f-eq0.false _ c.symbol_field-list.ensures _ _ c.arguments_fit.ensures

@@ -8,31 +8,31 @@ use Rattle.node_tests.proofs.PartLaws.{part_further}
 use Rattle.node_tests.proofs.HeadLaws.{pass_end, pass_fails, pass_on}
 use Rattle.node_tests.proofs.heads.all_declared.Goals as goal
 
-pub loop-b-init : goal.loop-b-init
-loop-b-init c = record { inside = c.requires.1; same = refl }
+pub loop-i-init : goal.loop-i-init
+loop-i-init c = record { inside = c.requires; same = refl }
 
 pub part_at-requires : goal.part_at-requires
-part_at-requires c = c.loop-b.invariant.inside
+part_at-requires c = c.loop-i.invariant.inside
 
 pub returns-then-not-part_at : goal.returns-then-not-part_at
-returns-then-not-part_at c = pass_end c.loop-b.invariant c.part_at.ensures (ap not c.if-not-part_at.true)
+returns-then-not-part_at c = pass_end c.loop-i.invariant c.part_at.ensures (ap not c.if-not-part_at.true)
 
 pub as_declared-requires : goal.as_declared-requires
-as_declared-requires c = (c.requires.0, c.loop-b.invariant.inside)
+as_declared-requires c = (c.loop-i.invariant.inside)
 
 pub returns-then-not-as_declared : goal.returns-then-not-as_declared
 returns-then-not-as_declared c =
-    pass_fails c.loop-b.invariant c.part_at.ensures (ap not c.if-not-part_at.false) c.as_declared.ensures (ap not c.if-not-as_declared.true)
+    pass_fails c.loop-i.invariant c.part_at.ensures (ap not c.if-not-part_at.false) c.as_declared.ensures (ap not c.if-not-as_declared.true)
 
 pub after_formula-at-requires : goal.after_formula-at-requires
-after_formula-at-requires c = c.loop-b.invariant.inside
+after_formula-at-requires c = c.loop-i.invariant.inside
 
-pub loop-b-smaller : goal.loop-b-smaller
-loop-b-smaller c =
+pub loop-i-smaller : goal.loop-i-smaller
+loop-i-smaller c =
     let r = c.after_formula-at.ensures in
-    omega (arith, r.inside, part_further _ c.loop-b.at c.part_at.ensures (ap not c.if-not-part_at.false) r)
+    omega (arith, r.inside, part_further _ c.loop-i.at c.part_at.ensures (ap not c.if-not-part_at.false) r)
 
-pub loop-b-preserved : goal.loop-b-preserved
-loop-b-preserved c =
-    pass_on c.loop-b.invariant c.part_at.ensures (ap not c.if-not-part_at.false) c.as_declared.ensures (ap not c.if-not-as_declared.false)
+pub loop-i-preserved : goal.loop-i-preserved
+loop-i-preserved c =
+    pass_on c.loop-i.invariant c.part_at.ensures (ap not c.if-not-part_at.false) c.as_declared.ensures (ap not c.if-not-as_declared.false)
     c.after_formula-at.ensures

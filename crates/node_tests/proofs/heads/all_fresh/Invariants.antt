@@ -5,8 +5,8 @@ use lib.ListN.{length}
 use Rattle.node_tests.proofs.HeadLaws.{Fresh}
 use Rattle.node_tests.proofs.heads.all_fresh.Given as goal
 
-abbrev pub invariant-loop-b : goal.invariant-loop-b
-invariant-loop-b l = Fresh l.file l.b l.text l.i l.initial.seen l.at l.seen
+abbrev pub invariant-loop-i : goal.invariant-loop-i
+invariant-loop-i l = Fresh l.bundle l.text l.i l.initial.seen l.at l.seen
 
-abbrev pub decreases-loop-b : goal.decreases-loop-b
-decreases-loop-b l = length l.text - l.at
+abbrev pub decreases-loop-i : goal.decreases-loop-i
+decreases-loop-i l = length l.text - l.at

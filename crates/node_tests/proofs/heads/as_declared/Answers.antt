@@ -8,5 +8,5 @@ returns c =
     let x = c.variable_at-x in
     let j = c.after_name-j in
     let s = c.said_at-said in
-    declared_at a.file.now a.b _ x.result x.ensures c.variable_sort.result c.variable_sort.ensures _ s.result j.ensures.there
+    declared_at a.bundle.now _ x.result x.ensures.0 c.variable_sort.result c.variable_sort.ensures _ s.result j.ensures.there
     s.ensures

@@ -1,4 +1,5 @@
 -- `heads::bound_at` meets its contract.
+use native.Mathlib.Omega.{arith}
 use Rattle.node_tests.proofs.HeadLaws.{bound_fits, bound_differs}
 use Rattle.node_tests.proofs.heads.bound_at.Goals as goal
 
@@ -9,7 +10,7 @@ returns-then-variable_sort-s c =
     let j = c.after_name-j in
     let s = c.sort_at-s in
     let u = c.variable_sort in
-    bound_fits a.file.now a.b _ x.result x.ensures u.result u.ensures _ s.result j.ensures.there s.ensures c.if-variable_sort-s.true
+    (bound_fits a.bundle.now _ x.result x.ensures.0 u.result u.ensures _ s.result j.ensures.there s.ensures c.if-variable_sort-s.true, x.ensures.1)
 
 pub returns-else-variable_sort-s : goal.returns-else-variable_sort-s
 returns-else-variable_sort-s c =
@@ -17,5 +18,7 @@ returns-else-variable_sort-s c =
     let x = c.variable_at-x in
     let j = c.after_name-j in
     let s = c.sort_at-s in
-    let u = c.variable_sort in
-    bound_differs a.file.now a.b _ x.result x.ensures u.result u.ensures _ s.result j.ensures.there s.ensures c.if-variable_sort-s.false
+    let u = c.variable_sort in (
+      bound_differs a.bundle.now _ x.result x.ensures.0 u.result u.ensures _ s.result j.ensures.there s.ensures c.if-variable_sort-s.false,
+      omega arith,
+    )

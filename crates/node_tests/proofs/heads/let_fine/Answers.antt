@@ -6,4 +6,4 @@ pub returns : goal.returns
 returns c =
     let a = c.args in
     let j = c.after_lexeme-inside in
-    fresh_start a.file.now a.b a.text.now j.result _ c.all_fresh.ensures _ j.ensures.there
+    fresh_start a.bundle.now a.text.now j.result _ c.all_fresh.ensures _ j.ensures.there

@@ -7,29 +7,29 @@ use Rattle.bracketing.proofs.Fronts.{lies}
 use Rattle.node_tests.proofs.NodeLaws.{fine_over, fine_fails, fine_on}
 use Rattle.node_tests.proofs.nodes.all_fine.Goals as goal
 
-pub loop-b-init : goal.loop-b-init
-loop-b-init c = record { inside = omega arith; same = refl }
+pub loop-l-init : goal.loop-l-init
+loop-l-init c = record { inside = omega arith; same = refl }
 
 pub next_lexeme-l-requires : goal.next_lexeme-l-requires
-next_lexeme-l-requires c = c.loop-b.invariant.inside
+next_lexeme-l-requires c = c.loop-l.invariant.inside
 
 pub returns-then-l-eq10 : goal.returns-then-l-eq10
-returns-then-l-eq10 c = fine_over c.loop-b.invariant c.next_lexeme-l.ensures c.if-l-eq10.true
+returns-then-l-eq10 c = fine_over c.loop-l.invariant c.next_lexeme-l.ensures c.if-l-eq10.true
 
 pub node_fine-requires : goal.node_fine-requires
-node_fine-requires c = let k = c.next_lexeme-l in (c.requires, lies _ _ k.result k.ensures)
+node_fine-requires c = let k = c.next_lexeme-l in (lies _ _ k.result k.ensures)
 
 pub returns-then-not-node_fine : goal.returns-then-not-node_fine
 returns-then-not-node_fine c =
-    fine_fails c.loop-b.invariant c.next_lexeme-l.ensures c.if-l-eq10.false c.node_fine.ensures
+    fine_fails c.loop-l.invariant c.next_lexeme-l.ensures c.if-l-eq10.false c.node_fine.ensures
     (ap not c.if-not-node_fine.true)
 
-pub loop-b-smaller : goal.loop-b-smaller
-loop-b-smaller c =
+pub loop-l-smaller : goal.loop-l-smaller
+loop-l-smaller c =
     let k = c.next_lexeme-l in
     omega (arith, k.ensures.after, k.ensures.inside, (k.ensures.found c.if-l-eq10.false).some)
 
-pub loop-b-preserved : goal.loop-b-preserved
-loop-b-preserved c =
-    fine_on c.loop-b.invariant c.next_lexeme-l.ensures c.if-l-eq10.false c.node_fine.ensures
+pub loop-l-preserved : goal.loop-l-preserved
+loop-l-preserved c =
+    fine_on c.loop-l.invariant c.next_lexeme-l.ensures c.if-l-eq10.false c.node_fine.ensures
     (ap not c.if-not-node_fine.false)

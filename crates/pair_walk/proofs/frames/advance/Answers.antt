@@ -1,11 +1,7 @@
 -- `frames::advance` meets its contract: two words stored.
-use native.Mathlib.Omega.{arith}
 use lib.ListN.{length-set}
 use Rattle.pair_walk.proofs.FrameWords.{frames_advanced}
 use Rattle.pair_walk.proofs.frames.advance.Goals as goal
-
-pub bounds-agenda-from-2 : goal.bounds-agenda-from-2
-bounds-agenda-from-2 c = simp length-set (omega arith)
 
 pub returns : goal.returns
 returns c = (simp length-set, frames_advanced c.args.agenda.now c.args.h c.requires.0 c.args.i c.args.j)

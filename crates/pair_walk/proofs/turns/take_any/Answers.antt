@@ -7,7 +7,6 @@ use Prim.Native.Nat.{◌+◌, ◌*◌}
 use lib.ListN.{get_or}
 use Rattle.bundle.specs.Bundle.{link_of}
 use Rattle.bundle.specs.Links.{next_of}
-use Rattle.bundle.specs.File.{bundle_at}
 use Rattle.bundle.proofs.Walks.{walk_le, next_is}
 use Rattle.pair_walk.specs.Agenda.{frame_of, frames}
 use Rattle.pair_walk.proofs.FrameWords.{turn_at, links_at_lem, taken_at, closes_at}
@@ -16,11 +15,11 @@ use Rattle.pair_walk.proofs.turns.take_any.Goals as goal
 pub returns-then-kind-after : goal.returns-then-kind-after
 returns-then-kind-after c = let a = c.args in
     let w = a.agenda.now in
-    let bundle = bundle_at a.file.now a.b in
-    let i = c.link_at-first in
-    let j = c.link_at-second in
-    let after = next_is a.file.now a.b a.i i.ensures.1 c.followed-after.ensures in
-    let other = next_is a.file.now a.b a.j j.ensures.1 c.followed-other.ensures in
+    let bundle = a.bundle.now in
+    let i = c.link-first in
+    let j = c.link-second in
+    let after = next_is a.bundle.now a.i i.ensures.1 (rw c.links-links.ensures.0 at c.followed-after.ensures) in
+    let other = next_is a.bundle.now a.j j.ensures.1 (rw c.links-links.ensures.0 at c.followed-other.ensures) in
     let test = closes_at c.term_field-kind.ensures after other in
     let frame = frame_of (get_or w (5 * a.h) 0) (get_or w (5 * a.h + 1) 0) (next_of bundle.links a.i) (next_of bundle.links a.j)
     (get_or w (5 * a.h + 4) 0) in
@@ -31,23 +30,23 @@ returns-then-kind-after c = let a = c.args in
 pub advance-requires : goal.advance-requires
 advance-requires c = let a = c.args in
     let h = c.requires in
-    let i = c.link_at-first in
-    let j = c.link_at-second in
-    let after = next_is a.file.now a.b a.i i.ensures.1 c.followed-after.ensures in
-    let other = next_is a.file.now a.b a.j j.ensures.1 c.followed-other.ensures in (
-      h.1,
-      omega (arith, walk_le a.file.now a.b a.i c.followed-after.result after, h.0.within.links),
-      omega (arith, walk_le a.file.now a.b a.j c.followed-other.result other, h.0.within.links),
+    let i = c.link-first in
+    let j = c.link-second in
+    let after = next_is a.bundle.now a.i i.ensures.1 (rw c.links-links.ensures.0 at c.followed-after.ensures) in
+    let other = next_is a.bundle.now a.j j.ensures.1 (rw c.links-links.ensures.0 at c.followed-other.ensures) in (
+      h.0,
+      omega (arith, walk_le a.bundle.now a.i c.followed-after.result after, c.links-links.ensures.1),
+      omega (arith, walk_le a.bundle.now a.j c.followed-other.result other, c.links-links.ensures.1),
     )
 
 pub returns : goal.returns
 returns c = let a = c.args in
     let w = a.agenda.now in
-    let bundle = bundle_at a.file.now a.b in
-    let i = c.link_at-first in
-    let j = c.link_at-second in
-    let after = next_is a.file.now a.b a.i i.ensures.1 c.followed-after.ensures in
-    let other = next_is a.file.now a.b a.j j.ensures.1 c.followed-other.ensures in
+    let bundle = a.bundle.now in
+    let i = c.link-first in
+    let j = c.link-second in
+    let after = next_is a.bundle.now a.i i.ensures.1 (rw c.links-links.ensures.0 at c.followed-after.ensures) in
+    let other = next_is a.bundle.now a.j j.ensures.1 (rw c.links-links.ensures.0 at c.followed-other.ensures) in
     let test = closes_at c.term_field-kind.ensures after other in
     let frame = frame_of (get_or w (5 * a.h) 0) (get_or w (5 * a.h + 1) 0) (next_of bundle.links a.i) (next_of bundle.links a.j)
     (get_or w (5 * a.h + 4) 0) in

@@ -1,6 +1,4 @@
 -- `all_of_sort` meets its contract. The invariant: the pairs are so many, each of that sort, where those that are left are as many as is left.
--- The measure is how many pairs are left.
-use Prim.Native.Nat.{◌-◌, ◌≤◌}
 use mathlib.Core.Path.{◌≡◌}
 use mathlib.Core.Bool.{false}
 use lib.ListN.{replicate}
@@ -10,7 +8,4 @@ use Rattle.pass_terms.proofs.sorts.all_of_sort.Given as goal
 
 abbrev pub invariant-loop-at : goal.invariant-loop-at
 invariant-loop-at l =
-    (l.at ≤ l.to) × (same_list (replicate l.count l.sort) (halves false l.stack l.from l.to) ≡ same_list (replicate l.left l.sort) (halves false l.stack l.at l.to))
-
-abbrev pub decreases-loop-at : goal.decreases-loop-at
-decreases-loop-at l = l.to - l.at
+    same_list (replicate l.count l.sort) (halves false l.stack l.from l.to) ≡ same_list (replicate l.left l.sort) (halves false l.stack l.at l.to)

@@ -15,4 +15,4 @@ returns-in-Declared c = rw (c.in-Declared.is, ← c.symbol_field-list.ensures) c
 pub returns-in-Unknown : goal.returns-in-Unknown
 unfolding argument_sorts
 returns-in-Unknown c =
-    rw c.in-Unknown.is (sym (none_taken c.args.stack.now c.args.from c.args.to c.requires.1 c.requires.2))
+    rw c.in-Unknown.is (sym (none_taken c.args.stack.now c.args.from c.args.to c.requires.0 c.requires.1))

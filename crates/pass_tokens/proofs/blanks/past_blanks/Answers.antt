@@ -1,7 +1,5 @@
 -- `blanks::past_blanks` meets its contract. The invariant: white space and comments stand up to j.
 use native.Mathlib.Omega.{arith}
-use Prim.Native.Nat.{◌-◌}
-use mathlib.Core.Logic.{⊎_elim}
 use Rattle.pass_tokens.proofs.BlankLaws.{blanks_start, on_space, on_other, comment_on}
 use Rattle.pass_tokens.proofs.blanks.past_blanks.Goals as goal
 use Rattle.pass_tokens.proofs.blanks.past_blanks.Goals.{then-c-ne32+else-c, else-c-ne32}

@@ -1,6 +1,7 @@
 -- `words::numeral` meets its contract. The invariant: the digits up to j have the value n.
 use native.Mathlib.Omega.{arith}
-use Prim.Native.Nat.{◌-◌}
+use mathlib.Core.Path.{◌≡◌}
+use lib.ListN.{length}
 use Rattle.pass_tokens.proofs.DigitLaws.{digits_start, digits_on, digits_end, no_digits}
 use Rattle.pass_tokens.proofs.words.numeral.Goals as goal
 
@@ -32,10 +33,11 @@ returns-then-n-eq0 c =
 pub loop-j-preserved : goal.loop-j-preserved
 loop-j-preserved c =
     digits_on c.args.text.now c.args.from c.args.high c.loop-j.n c.loop-j.j c.loop-j.invariant
-    c.loop-j-test.true c.wide-c.result
-    c.wide-c.ensures c.if-c-lt48.false c.if-c-gt57.false c.if-n-high.false
+    (omega arith) c.from-c.result
+    c.from-c.ensures c.if-c-lt48.false c.if-c-gt57.false c.if-n-high.false
     c.if-n-eq0.false
 
 pub returns : goal.returns
 returns c =
-    digits_end c.args.text.now c.args.from c.args.high c.loop-j.n c.loop-j.j c.loop-j.invariant
+    let past : c.loop-j.j ≡ length c.args.text.now = omega arith in
+    rw past at (digits_end c.args.text.now c.args.from c.args.high c.loop-j.n c.loop-j.j c.loop-j.invariant)

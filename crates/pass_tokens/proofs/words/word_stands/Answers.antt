@@ -1,6 +1,5 @@
 -- `words::word_stands` meets its contract. The invariant: the first k bytes of the word stand there.
 use native.Mathlib.Omega.{arith}
-use Prim.Native.Nat.{◌-◌}
 use mathlib.Core.Bool.{false≢true}
 use Rattle.pass_tokens.proofs.RunLaws.{match_start, match_on, matched}
 use Rattle.pass_tokens.proofs.words.word_stands.Goals as goal
@@ -23,7 +22,7 @@ returns-then-text-start-2 c = λ x. absurd (false≢true x)
 
 pub loop-k-preserved : goal.loop-k-preserved
 loop-k-preserved c =
-    match_on c.args.text.now c.args.start c.args.spelled.now c.loop-k.k c.loop-k.invariant c.loop-k-test.true
+    match_on c.args.text.now c.args.start c.args.spelled.now c.loop-k.k c.loop-k.invariant (omega arith)
     c.if-text-start-2.false
 
 pub overflow_add-start-2 : goal.overflow_add-start-2
@@ -31,5 +30,5 @@ overflow_add-start-2 c = omega (arith, c.loop-k.invariant.fits)
 
 pub returns : goal.returns
 returns c =
-    λ x. matched c.args.text.now c.args.start c.args.spelled.now c.loop-k.k c.loop-k.invariant c.loop-k-test.false
+    λ x. matched c.args.text.now c.args.start c.args.spelled.now c.loop-k.k c.loop-k.invariant (omega arith)
     (c.run_stops.ensures x)

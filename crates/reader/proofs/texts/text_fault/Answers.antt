@@ -3,34 +3,34 @@ use mathlib.Core.Path.{sym, ap, ◌∙◌}
 use mathlib.Core.Bool.{Bool, cond}
 use native.Mathlib.Omega.{arith}
 use Rattle.logic.specs.Tests.{fault}
-use Rattle.reader.proofs.TextTests.{scan_refuses, scan_passes}
+use Rattle.reader.proofs.TextTests.{scan_unread, scan_unknown, scan_neither, scan_passes}
 use Rattle.reader.proofs.texts.text_fault.Goals as goal
 
 pub scan-verdict-requires : goal.scan-verdict-requires
 scan-verdict-requires c =
-    let whole = c.requires.0 in
-    (omega (arith, c.requires.1), omega (arith, whole.within.symbols), omega (arith, whole.within.variables))
+    (omega (arith, c.requires), omega (arith, c.symbols-symbols.ensures.1), omega (arith, c.variables-variables.ensures.1))
 
-pub returns-then-verdict-ne0 : goal.returns-then-verdict-ne0
-returns-then-verdict-ne0 c =
-    let a = c.args in
-    scan_refuses a.file.now a.b a.text.now c.scan-verdict.result c.scan-verdict.ensures c.if-verdict-ne0.true
+pub returns-then-verdict-eq19 : goal.returns-then-verdict-eq19
+returns-then-verdict-eq19 c =
+    let told = rw (c.symbols-symbols.ensures.0, c.variables-variables.ensures.0) at c.scan-verdict.ensures in
+    scan_unread c.args.bundle.now c.args.text.now c.scan-verdict.result told c.if-verdict-eq19.true
 
-pub text_fine-requires : goal.text_fine-requires
-text_fine-requires c = c.requires.0
+pub returns-then-verdict-eq20 : goal.returns-then-verdict-eq20
+returns-then-verdict-eq20 c =
+    let told = rw (c.symbols-symbols.ensures.0, c.variables-variables.ensures.0) at c.scan-verdict.ensures in
+    scan_unknown c.args.bundle.now c.args.text.now c.scan-verdict.result told c.if-verdict-eq20.true
 
 -- `sorts` is what the sorts' test says where the scan does not refuse
 pub returns-then-not-text_fine : goal.returns-then-not-text_fine
 returns-then-not-text_fine c =
-    let a = c.args in
-    let sorts = scan_passes a.file.now a.b a.text.now c.scan-verdict.result c.scan-verdict.ensures c.text_fine.result c.text_fine.ensures
-    c.if-verdict-ne0.false in
+    let told = rw (c.symbols-symbols.ensures.0, c.variables-variables.ensures.0) at c.scan-verdict.ensures in
+    let none = scan_neither c.args.bundle.now c.args.text.now c.scan-verdict.result told c.if-verdict-eq19.false c.if-verdict-eq20.false in
+    let sorts = scan_passes c.args.bundle.now c.args.text.now c.scan-verdict.result told c.text_fine.result c.text_fine.ensures none in
     ap (λ (q : Bool). cond q (fault 0 0) (fault 8 0)) (sym c.if-not-text_fine.true) ∙ sorts
 
 pub returns : goal.returns
 returns c =
-    let a = c.args in
-    let sorts = scan_passes a.file.now a.b a.text.now c.scan-verdict.result c.scan-verdict.ensures c.text_fine.result c.text_fine.ensures
-    c.if-verdict-ne0.false in
-    c.no_fault.ensures
-    ∙ ap (λ (q : Bool). cond q (fault 0 0) (fault 8 0)) (sym c.if-not-text_fine.false) ∙ sorts
+    let told = rw (c.symbols-symbols.ensures.0, c.variables-variables.ensures.0) at c.scan-verdict.ensures in
+    let none = scan_neither c.args.bundle.now c.args.text.now c.scan-verdict.result told c.if-verdict-eq19.false c.if-verdict-eq20.false in
+    let sorts = scan_passes c.args.bundle.now c.args.text.now c.scan-verdict.result told c.text_fine.result c.text_fine.ensures none in
+    ap (λ (q : Bool). cond q (fault 0 0) (fault 8 0)) (sym c.if-not-text_fine.false) ∙ sorts

@@ -1,22 +1,7 @@
 -- `rules::bind_contexts` meets its contract: a straight line of reads, in the definition's order.
-use native.Mathlib.Omega.{arith}
 use Rattle.logic.specs.Tests.{passed}
 use Rattle.logic.specs.Rules.{inner_by, outer_by, bind_contexts_by}
 use Rattle.rules.proofs.rules.bind_contexts.Goals as goal
-
-pub context_field-outer_kind-requires : goal.context_field-outer_kind-requires
-context_field-outer_kind-requires c =
-    (c.requires, omega arith)
-
-pub context_field-fixed-requires : goal.context_field-fixed-requires
-context_field-fixed-requires c =
-    (c.requires, omega arith)
-
-pub context_field-home-requires : goal.context_field-home-requires
-context_field-home-requires c = (
-  c.requires,
-  omega arith,
-)
 
 pub returns : goal.returns
 unfolding passed bind_contexts_by

@@ -3,9 +3,6 @@ use mathlib.Core.Path.{refl}
 use Rattle.logic.specs.Tests.{passed}
 use Rattle.rules.proofs.rules.let_lists.Goals as goal
 
-pub same_list-same-requires : goal.same_list-same-requires
-same_list-same-requires c = c.requires
-
 pub returns : goal.returns
 unfolding passed
 returns c =

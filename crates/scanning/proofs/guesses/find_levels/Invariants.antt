@@ -3,10 +3,6 @@ use Prim.Native.Nat.{◌-◌}
 use mathlib.Core.Path.{◌≡◌}
 use lib.ListN.{length}
 use Rattle.spots.proofs.GuessLaws.{Seeking}
-use Rattle.scanning.proofs.guesses.find_levels.Reads as reads
-use Rattle.scanning.proofs.guesses.find_levels.Lts as lts
-use Rattle.scanning.proofs.guesses.guess_turn.Reads as guess-turn-reads
-use Rattle.scanning.proofs.runs.lexeme_from.Reads as lexeme-from-reads
 use Rattle.scanning.proofs.guesses.find_levels.Given as goal
 
 abbrev pub invariant-loop-i : goal.invariant-loop-i

@@ -2,21 +2,18 @@
 use Rattle.spots.proofs.GuessLaws.{inside_enter, inside_below, inside_held, inside_above}
 use Rattle.scanning.proofs.guesses.guess_inside.Goals as goal
 
--- src/guesses.rt:82:13
 pub returns-then-depth-low-2 : goal.returns-then-depth-low-2
 returns-then-depth-low-2 c =
     let a = c.args in
     let r = inside_enter a.low a.top a.depth a.area.now a.spot c.if-depth-low.true c.if-depth-low-2.true in
     record { spot = r.0; stored = r.1 }
 
--- src/guesses.rt:84:9
 pub returns-then-depth-low : goal.returns-then-depth-low
 returns-then-depth-low c =
     let a = c.args in
     let r = inside_below a.low a.top a.depth a.area.now a.spot c.if-depth-low.true c.if-depth-low-2.false in
     record { spot = r.0; stored = r.1 }
 
--- src/guesses.rt:89:9
 pub returns-then-depth-top : goal.returns-then-depth-top
 returns-then-depth-top c =
     let a = c.args in
@@ -26,7 +23,6 @@ returns-then-depth-top c =
     in
     record { spot = r.0; stored = r.1 }
 
--- src/guesses.rt:75:1
 pub returns : goal.returns
 returns c =
     let a = c.args in

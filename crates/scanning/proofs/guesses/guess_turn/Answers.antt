@@ -2,45 +2,31 @@
 use mathlib.Core.Path.{sym, ◌∙◌}
 use Rattle.spots.proofs.RunLaws.{run_fits}
 use Rattle.spots.proofs.GuessLaws.{turned_word, turned_open, turned_empty, turned_close}
-use Rattle.scanning.proofs.guesses.guess_turn.Reads as reads
-use Rattle.scanning.proofs.guesses.guess_turn.Lts as lts
-use Rattle.lexing.proofs.runs.class_code.Reads as class-code-reads
-use Rattle.scanning.proofs.guesses.guess_behind.Reads as guess-behind-reads
-use Rattle.scanning.proofs.guesses.guess_inside.Reads as guess-inside-reads
-use Rattle.scanning.proofs.guesses.guess_word.Reads as guess-word-reads
-use Rattle.scanning.proofs.runs.lexeme_from.Reads as lexeme-from-reads
-use Rattle.scanning.proofs.runs.run_end.Reads as run-end-reads
 use Rattle.scanning.proofs.guesses.guess_turn.Goals as goal
 
--- src/guesses.rt:115:13
 pub guess_word-after-requires : goal.guess_word-after-requires
 guess_word-after-requires c = run_fits _ _ _ c.requires.0 c.run_end-end.ensures
 
--- src/guesses.rt:116:13
 pub lexeme_from-next-requires : goal.lexeme_from-next-requires
 lexeme_from-next-requires c = (run_fits _ _ _ c.requires.0 c.run_end-end.ensures).1
 
--- src/guesses.rt:117:9
 pub returns-then-class-eq6 : goal.returns-then-class-eq6
 returns-then-class-eq6 c =
     turned_word _ _ _ _ c.args.g _ c.requires.0 _ c.requires.2 (sym c.class_code-class.ensures
     ∙ c.if-class-eq6.true) _ c.run_end-end.ensures c.lexeme_from-next.ensures _
     c.guess_word-after.ensures
 
--- src/guesses.rt:126:9
 pub returns-then-class-eq3 : goal.returns-then-class-eq3
 returns-then-class-eq3 c =
     turned_open _ _ _ _ c.args.g _ c.requires.0 _ c.lexeme_from-next-2.ensures c.requires.2
     (sym c.class_code-class.ensures ∙ c.if-class-eq3.true) c.requires.1 _
     c.guess_inside-inside.ensures.stored _ c.guess_inside-inside.ensures.spot
 
--- src/guesses.rt:133:9
 pub returns-then-depth-eq0 : goal.returns-then-depth-eq0
 returns-then-depth-eq0 c =
     turned_empty _ _ _ _ c.args.g _ c.requires.0 _ c.lexeme_from-next-2.ensures (λ e. c.if-class-eq6.false (c.class_code-class.ensures ∙ e))
     (λ e. c.if-class-eq3.false (c.class_code-class.ensures ∙ e)) c.if-depth-eq0.true
 
--- src/guesses.rt:106:1
 pub returns : goal.returns
 returns c =
     turned_close _ _ _ _ c.args.g _ c.requires.0 _ c.lexeme_from-next-2.ensures (λ e. c.if-class-eq6.false (c.class_code-class.ensures ∙ e))

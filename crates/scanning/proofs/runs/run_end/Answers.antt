@@ -1,9 +1,8 @@
 -- `runs::run_end` meets its contract. The invariant: so far all are symbol characters.
-use Prim.Native.Nat.{◌-◌}
+use native.Mathlib.Omega.{arith}
+use mathlib.Core.Path.{◌≡◌}
+use lib.ListN.{length}
 use Rattle.spots.proofs.RunLaws.{running_start, running_end, running_found, running_on}
-use Rattle.scanning.proofs.runs.run_end.Reads as reads
-use Rattle.scanning.proofs.runs.run_end.Lts as lts
-use Rattle.lexing.proofs.runs.class_code.Reads as class-code-reads
 use Rattle.scanning.proofs.runs.run_end.Goals as goal
 
 pub loop-j-init : goal.loop-j-init
@@ -11,11 +10,13 @@ loop-j-init c = running_start _ _ c.requires
 
 pub loop-j-preserved : goal.loop-j-preserved
 loop-j-preserved c =
-    running_on _ _ c.loop-j.j c.loop-j.invariant c.loop-j-test.true _ c.class_code-class.ensures c.if-class.true
+    running_on _ _ c.loop-j.j c.loop-j.invariant (omega arith) _ c.class_code-class.ensures c.if-not-class.false
 
-pub returns-else-class : goal.returns-else-class
-returns-else-class c =
-    running_found _ _ c.loop-j.j c.loop-j.invariant c.loop-j-test.true _ c.class_code-class.ensures c.if-class.false
+pub returns-then-not-class : goal.returns-then-not-class
+returns-then-not-class c =
+    running_found _ _ c.loop-j.j c.loop-j.invariant (omega arith) _ c.class_code-class.ensures c.if-not-class.true
 
 pub returns : goal.returns
-returns c = running_end _ _ c.loop-j.j c.loop-j.invariant c.loop-j-test.false
+returns c =
+    let past : c.loop-j.j ≡ length c.args.text.now = omega arith in
+    rw past at (running_end _ _ c.loop-j.j c.loop-j.invariant (omega arith))

@@ -1,18 +1,12 @@
 -- `runs::sort_start` meets its contract.
 use Rattle.spots.proofs.RunLaws.{sort_none, sort_bool, sort_item}
-use Rattle.scanning.proofs.runs.sort_start.Reads as reads
-use Rattle.scanning.proofs.runs.sort_start.Lts as lts
-use Rattle.lexing.proofs.runs.in_common.Reads as in-common-reads
 use Rattle.scanning.proofs.runs.sort_start.Goals as goal
 
--- src/runs.rt:54:9
 pub returns-then-run-eq0 : goal.returns-then-run-eq0
 returns-then-run-eq0 c = sort_none _ c.if-run-eq0.true
 
--- src/runs.rt:57:9
 pub returns-then-run-eq66 : goal.returns-then-run-eq66
 returns-then-run-eq66 c = sort_bool _ _ c.if-run-eq0.false c.if-run-eq66.true c.in_common.ensures
 
--- src/runs.rt:50:1
 pub returns : goal.returns
 returns c = sort_item _ _ c.if-run-eq0.false c.if-run-eq66.false c.in_common-2.ensures

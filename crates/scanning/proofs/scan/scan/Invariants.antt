@@ -4,10 +4,6 @@ use mathlib.Core.Path.{◌≡◌}
 use lib.ListN.{length}
 use Rattle.spots.specs.Judgement.{declared_by}
 use Rattle.spots.proofs.ScanLaws.{Passing}
-use Rattle.scanning.proofs.scan.scan.Reads as reads
-use Rattle.scanning.proofs.scan.scan.Lts as lts
-use Rattle.scanning.proofs.runs.lexeme_from.Reads as lexeme-from-reads
-use Rattle.scanning.proofs.scan.turn.Reads as turn-reads
 use Rattle.scanning.proofs.scan.scan.Given as goal
 
 abbrev pub invariant-loop-i : goal.invariant-loop-i

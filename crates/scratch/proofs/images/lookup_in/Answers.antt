@@ -9,8 +9,8 @@ use Rattle.scratch.proofs.images.lookup_in.Goals as goal
 pub loop-i-init : goal.loop-i-init
 loop-i-init c =
     let a = c.args in
-    let r = c.first_link-i in
-    let s = c.first_link-j in (
+    let r = c.starting-i in
+    let s = c.starting-j in (
       walk_start_le (sized_in a.words.now a.c) a.variables r.result r.ensures,
       walk_start_le (sized_in a.words.now a.c) a.terms s.result s.ensures,
       rw (

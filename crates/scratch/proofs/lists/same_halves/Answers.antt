@@ -12,7 +12,7 @@ use Rattle.scratch.proofs.lists.same_halves.Goals as goal
 pub loop-at-init : goal.loop-at-init
 loop-at-init c =
     let a = c.args in
-    let r = c.first_link-i in (
+    let r = c.starting-i in (
       c.requires.1,
       walk_start_le (sized_in a.words.now a.c) a.list r.result r.ensures,
       rw (walk_start (sized_in a.words.now a.c) a.list r.result r.ensures),

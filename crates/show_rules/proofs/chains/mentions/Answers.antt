@@ -2,7 +2,6 @@
 use mathlib.Core.Path.{sym, subst}
 use mathlib.Core.Bool.{false≢true}
 use Prim.Native.Nat.{ℕ}
-use Rattle.bundle.specs.File.{bundle_at}
 use Rattle.logic.specs.Contexts.{Mentioned}
 use Rattle.logic.proofs.Scopes.{empty_mentions}
 use Rattle.show_rules.proofs.chains.mentions.Goals as goal
@@ -19,7 +18,7 @@ returns-then-parent-c c e = absurd (false≢true (sym e))
 pub loop-c-preserved : goal.loop-c-preserved
 loop-c-preserved c m =
     let a = c.args in
-    subst (λ (p : ℕ). Mentioned (bundle_at a.file.now a.b) p a.x) (sym c.context_field-parent.ensures)
+    subst (λ (p : ℕ). Mentioned a.bundle.now p a.x) (sym c.context_field-parent.ensures)
     (c.entry_mentions.ensures c.if-entry_mentions.false (c.loop-c.invariant m))
 
 pub returns : goal.returns

@@ -1,7 +1,6 @@
--- `strays::stray_in` meets its contract: what is returned was seen to be free, and not mentioned. The measure is what is left of the variables.
+-- `strays::stray_in` meets its contract: what is returned was seen to be free, and not mentioned.
 use mathlib.Core.Path.{refl, sym, ◌∙◌}
 use mathlib.Core.Logic.{inl, inr}
-use Prim.Native.Nat.{◌-◌}
 use Rattle.show_rules.proofs.strays.stray_in.Goals as goal
 
 pub returns-then-not-mentions : goal.returns-then-not-mentions

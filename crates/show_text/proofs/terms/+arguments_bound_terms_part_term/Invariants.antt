@@ -1,9 +1,6 @@
 -- The cycle of calls {arguments, bound_terms, part, term} is safe and ends. The measure is four times the number of the term, or of the term whose parts
 -- are written, with 2 more for `term`, 1 more for its lists and none for a part: a part is written out only where its number is lower.
-use lib.ListN.{length}
-use Rattle.bundle.specs.Links.{items}
-use Rattle.bundle.specs.File.{bundle_at}
-use Prim.Native.Nat.{◌+◌, ◌*◌, ◌≤◌}
+use Prim.Native.Nat.{◌+◌, ◌*◌}
 use Rattle.show_text.proofs.terms.+arguments_bound_terms_part_term.Given as goal
 
 abbrev pub decreases-arguments : goal.decreases-arguments
@@ -17,15 +14,3 @@ decreases-part l = 4 * l.owner
 
 abbrev pub decreases-term : goal.decreases-term
 decreases-term l = 4 * l.t + 2
-
-abbrev pub invariant-arguments-loop-i : goal.invariant-arguments-loop-i
-invariant-arguments-loop-i l = l.i ≤ l.b.links
-
-abbrev pub decreases-arguments-loop-i : goal.decreases-arguments-loop-i
-decreases-arguments-loop-i l = length (items (bundle_at l.file l.b) l.i)
-
-abbrev pub invariant-bound_terms-loop-i : goal.invariant-bound_terms-loop-i
-invariant-bound_terms-loop-i l = l.i ≤ l.b.links
-
-abbrev pub decreases-bound_terms-loop-i : goal.decreases-bound_terms-loop-i
-decreases-bound_terms-loop-i l = length (items (bundle_at l.file l.b) l.i)

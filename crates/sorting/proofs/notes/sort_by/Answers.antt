@@ -1,7 +1,6 @@
 -- `notes::sort_by` meets its contract: the definition, by the kind.
 use mathlib.Core.Path.{sym, ◌∙◌}
 use Rattle.bundle.specs.Bundle.{term_of}
-use Rattle.bundle.specs.File.{bundle_at}
 use Rattle.logic.specs.Terms.{kind_of}
 use Rattle.logic.specs.Sorts.{sort_as, sort_by}
 use Rattle.sorting.proofs.SortOf.{signature_is, sort_by_other}
@@ -21,7 +20,7 @@ returns-then-kind-eq-APPLICATION c =
       ← c.term_field-kind.ensures,
       c.if-kind-eq-APPLICATION.true,
       ← c.term_field-then-kind-eq-APPLICATION.ensures,
-      ← signature_is a.file.now a.b,
+      ← signature_is a.bundle.now,
       ← c.signature_of.ensures,
     ) c.result_sort.ensures
 
@@ -34,5 +33,5 @@ pub returns : goal.returns
 returns c =
     let k = c.term_field-kind in
     let a = c.args in
-    sym (sort_by_other (bundle_at a.file.now a.b) _ (term_of (bundle_at a.file.now a.b) a.t) (λ e. c.if-kind-eq-VARIABLE.false (k.ensures ∙ e))
+    sym (sort_by_other a.bundle.now _ (term_of a.bundle.now a.t) (λ e. c.if-kind-eq-VARIABLE.false (k.ensures ∙ e))
     (λ e. c.if-kind-eq-APPLICATION.false (k.ensures ∙ e)) (λ e. c.if-kind-eq-LET.false (k.ensures ∙ e)))

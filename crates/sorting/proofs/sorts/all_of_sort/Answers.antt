@@ -1,44 +1,49 @@
--- `sorts::all_of_sort` meets its contract. The invariant: the sorts are the same where what is left of them is. The measure is how many are left.
-use mathlib.Core.Path.{refl, sym, ◌∙◌}
-use Rattle.bundle.proofs.Walks.{walk_start, walk_start_le, walk_le}
-use Rattle.sorting.proofs.SortLists.{replicate_cons, ended, short, differs, on}
+-- `sorts::all_of_sort` meets its contract.
+use Rattle.std.proofs.Common.{◌≡◌, ◌+◌, ◌-◌, arith}
+use borrow.Author.Tests.{eq-eqb, ne_eqb}
+use Rattle.bundle.specs.Lists.{same_list}
+use Rattle.logic.specs.Sorts.{sort_at}
+use Rattle.sorting.proofs.SortLists.{replicate_cons, no_more}
 use Rattle.sorting.proofs.sorts.all_of_sort.Goals as goal
 
-pub loop-left-init : goal.loop-left-init
-loop-left-init c =
-    let a = c.args in
-    let r = c.first_link-i in
-    (walk_start_le a.file.now a.b a.terms r.result r.ensures, rw (walk_start a.file.now a.b a.terms r.result r.ensures))
+pub loop-init : goal.loop-init
+loop-init c = let all : c.args.count - 0 ≡ c.args.count = omega arith in rw (all, c.items-rest.ensures)
 
-pub returns-then-i-eq0 : goal.returns-then-i-eq0
-returns-then-i-eq0 c =
-    let l = c.loop-left in
-    let a = c.args in
-    sym (l.invariant.1 ∙ short a.file.now a.b (replicate_cons l.left a.sort c.loop-left-test.true) c.if-i-eq0.true)
+pub returns-in_default : goal.returns-in_default
+unfolding same_list
+returns-in_default c =
+    let n = c.args.count - c.loop.counter in
+    rw (c.loop.invariant, replicate_cons n c.args.sort (λ e. omega arith), c.in_default.ensures.steps.0)
 
-pub returns-then-sort-s : goal.returns-then-sort-s
-returns-then-sort-s c =
-    let l = c.loop-left in
-    let a = c.args in
-    sym (
-    l.invariant.1
-    ∙ differs a.file.now a.b (replicate_cons l.left a.sort c.loop-left-test.true) c.if-i-eq0.false l.invariant.0
-    c.link_field-t.ensures (c.sort_in-s.ensures ∙ c.requires.1.noted c.link_field-t.result) refl c.if-sort-s.true
+pub returns-then-sort-sort_in : goal.returns-then-sort-sort_in
+unfolding same_list
+returns-then-sort-sort_in c =
+    let n = c.args.count - c.loop.counter in
+    rw (
+      c.loop.invariant,
+      replicate_cons n c.args.sort (λ e. omega arith),
+      c.in-Some.ensures.steps,
+      ← c.requires.noted c.in-Some.t,
+      ← c.sort_in.ensures,
+      ne_eqb _ _ c.if-sort-sort_in.true,
     )
 
-pub loop-left-preserved : goal.loop-left-preserved
-loop-left-preserved c =
-    let l = c.loop-left in
-    let a = c.args in
-    let r = c.next_link-i in (
-      walk_le a.file.now a.b l.i r.result r.ensures,
-      l.invariant.1
-          ∙ on a.file.now a.b (replicate_cons l.left a.sort c.loop-left-test.true) c.if-i-eq0.false l.invariant.0
-          c.link_field-t.ensures (c.sort_in-s.ensures ∙ c.requires.1.noted c.link_field-t.result) r.ensures c.if-sort-s.false,
+pub loop-preserved : goal.loop-preserved
+unfolding same_list
+loop-preserved c =
+    let n = c.args.count - c.loop.counter in
+    let less : c.args.count - (c.loop.counter + 1) ≡ n - 1 = omega arith in
+    rw (
+      c.loop.invariant,
+      replicate_cons n c.args.sort (λ e. omega arith),
+      c.in-Some.ensures.steps,
+      ← c.requires.noted c.in-Some.t,
+      ← c.sort_in.ensures,
+      eq-eqb _ _ c.if-sort-sort_in.false,
+      less,
     )
 
 pub returns : goal.returns
 returns c =
-    let l = c.loop-left in
-    let a = c.args in
-    sym (l.invariant.1 ∙ ended a.file.now a.b (rw c.loop-left-test.false) l.invariant.0)
+    let none : c.args.count - c.loop.counter ≡ 0 = omega arith in
+    rw (c.loop.invariant, none) (no_more (sort_at c.args.bundle.now) _ _ _ _ c.next-2.ensures.steps c.is_none.ensures)

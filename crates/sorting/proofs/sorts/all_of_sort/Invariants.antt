@@ -1,14 +1,11 @@
--- `sorts::all_of_sort` meets its contract. The invariant: the sorts are the same where what is left of them is. The measure is how many are left.
-use Prim.Native.Nat.{◌≤◌}
-use mathlib.Core.Path.{◌≡◌}
-use lib.ListN.{replicate}
+-- The invariant: the sorts are the same where those of what is left are.
+use Rattle.std.proofs.Common.{◌≡◌, map, replicate, ◌-◌}
+use Rattle.bundle.specs.Links.{items}
 use Rattle.bundle.specs.Lists.{same_list}
-use Rattle.sorting.proofs.SortLists.{term_sorts}
+use Rattle.logic.specs.Sorts.{sort_at}
 use Rattle.sorting.proofs.sorts.all_of_sort.Given as goal
 
-abbrev pub invariant-loop-left : goal.invariant-loop-left
-invariant-loop-left l = (l.i ≤ l.b.links)
-    × (same_list (replicate l.count l.sort) (term_sorts l.file l.b l.terms) ≡ same_list (replicate l.left l.sort) (term_sorts l.file l.b l.i))
-
-abbrev pub decreases-loop-left : goal.decreases-loop-left
-decreases-loop-left l = l.left
+abbrev pub invariant-loop : goal.invariant-loop
+invariant-loop l =
+    same_list (replicate l.count l.sort) (map (sort_at l.bundle) (items l.bundle l.terms))
+    ≡ same_list (replicate (l.count - l.counter) l.sort) (map (sort_at l.bundle) l.rest)

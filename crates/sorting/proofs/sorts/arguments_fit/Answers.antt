@@ -7,7 +7,7 @@ use Rattle.sorting.proofs.sorts.arguments_fit.Goals as goal
 
 pub returns-in-BuiltIn : goal.returns-in-BuiltIn
 unfolding argument_sorts
-returns-in-BuiltIn c = (rw c.in-BuiltIn.is c.all_of_sort.ensures, λ e. c.requires.2)
+returns-in-BuiltIn c = (rw c.in-BuiltIn.is c.all_of_sort.ensures, λ e. c.requires.1)
 
 pub returns-in-Declared : goal.returns-in-Declared
 unfolding argument_sorts
@@ -22,7 +22,7 @@ unfolding argument_sorts
 returns-in-Unknown c =
     let a = c.args in
     let r = c.first_link in (
-      rw (c.in-Unknown.is, walk_start a.file.now a.b a.terms r.result r.ensures)
-          (sym (ended a.file.now a.b refl (walk_start_le a.file.now a.b a.terms r.result r.ensures))),
-      λ e. c.requires.2,
+      rw (c.in-Unknown.is, walk_start a.bundle.now a.terms r.result r.ensures)
+          (sym (ended a.bundle.now refl (walk_start_le a.bundle.now a.terms r.result r.ensures))),
+      λ e. c.requires.1,
     )

@@ -4,7 +4,6 @@ use Prim.Native.Nat.{◌≤◌}
 use mathlib.Core.Path.{◌≡◌}
 use lib.ListN.{length}
 use Rattle.bundle.specs.Links.{items}
-use Rattle.bundle.specs.File.{bundle_at}
 use Rattle.bundle.specs.Lists.{same_list}
 use Rattle.bundle.proofs.LinkNotes.{OnWay}
 use Rattle.sorting.specs.Notes.{SortsFit}
@@ -13,9 +12,9 @@ use Rattle.sorting.proofs.sorts.far_sorts.Given as goal
 
 abbrev pub invariant-loop-i : goal.invariant-loop-i
 invariant-loop-i l =
-    (l.i ≤ l.b.links) × (l.j ≤ l.b.links) × (length l.fitting ≡ length l.initial.fitting)
-    × (same_list (items (bundle_at l.file l.b) l.list) (term_sorts l.file l.b l.terms) ≡ same_list (items (bundle_at l.file l.b) l.i) (term_sorts l.file l.b l.j))
-    × OnWay (SortsFit l.file l.b) l.fitting l.i l.j
+    (l.i ≤ (length l.bundle.links)) × (l.j ≤ (length l.bundle.links)) × (length l.fitting ≡ length l.initial.fitting)
+    × (same_list (items l.bundle l.list) (term_sorts l.bundle l.terms) ≡ same_list (items l.bundle l.i) (term_sorts l.bundle l.j))
+    × OnWay (SortsFit l.bundle) l.fitting l.i l.j
 
 abbrev pub decreases-loop-i : goal.decreases-loop-i
-decreases-loop-i l = length (items (bundle_at l.file l.b) l.i)
+decreases-loop-i l = length (items l.bundle l.i)

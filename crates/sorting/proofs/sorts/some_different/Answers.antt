@@ -6,4 +6,4 @@ pub returns : goal.returns
 returns c =
     let a = c.args in
     let r = c.first_link-some in
-    rw (some_start a.file.now a.b a.variables r.result r.ensures, c.all_different-different.ensures)
+    rw (some_start a.bundle.now a.variables r.result r.ensures, c.all_different-different.ensures)

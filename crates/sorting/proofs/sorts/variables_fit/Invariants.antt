@@ -1,18 +1,12 @@
--- `sorts::variables_fit` meets its contract. The invariant: the sorts of the two lists are the same where those of what is left of them are.
--- The measure is the length of what is left of the first.
-use Prim.Native.Nat.{◌≤◌}
-use mathlib.Core.Path.{◌≡◌}
-use lib.ListN.{length}
+-- The invariant: the sorts of the two lists are the same where those of what is left of them are.
+use Rattle.std.proofs.Common.{◌≡◌, map}
+use Rattle.bundle.specs.Bundle.{sort_of_variable}
 use Rattle.bundle.specs.Links.{items}
-use Rattle.bundle.specs.File.{bundle_at}
 use Rattle.bundle.specs.Lists.{same_list}
-use Rattle.sorting.proofs.SortLists.{term_sorts, variable_sorts}
+use Rattle.logic.specs.Sorts.{sort_at}
 use Rattle.sorting.proofs.sorts.variables_fit.Given as goal
 
-abbrev pub invariant-loop-i : goal.invariant-loop-i
-invariant-loop-i l =
-    (l.i ≤ l.b.links) × (l.j ≤ l.b.links)
-    × (same_list (variable_sorts l.file l.b l.variables) (term_sorts l.file l.b l.terms) ≡ same_list (variable_sorts l.file l.b l.i) (term_sorts l.file l.b l.j))
-
-abbrev pub decreases-loop-i : goal.decreases-loop-i
-decreases-loop-i l = length (items (bundle_at l.file l.b) l.i)
+abbrev pub invariant-loop-v : goal.invariant-loop-v
+invariant-loop-v l =
+    same_list (map (sort_of_variable l.bundle) (items l.bundle l.variables)) (map (sort_at l.bundle) (items l.bundle l.terms))
+    ≡ same_list (map (sort_of_variable l.bundle) l.v-iterator) (map (sort_at l.bundle) l.others)

@@ -1,6 +1,7 @@
 -- `steps::count_fits` meets its contract: in each arm the rule is known.
 use native.Mathlib.Omega.{arith}
-use mathlib.Core.Logic.{⊎_elim, inl, inr}
+use borrow.Author.Rules.{rules}
+use mathlib.Core.Logic.{⊎_elim}
 use Rattle.bundle.proofs.Walks.{walk_start, walk_start_le}
 use Rattle.logic.specs.Rules.{rule_of, count_fits}
 use Rattle.bundle.proofs.ListPlaces.{none_is, single_length}
@@ -12,8 +13,8 @@ unfolding rule_of count_fits
 returns-in-1 c =
     let a = c.args in
     let r = c.first_link in
-    rw (c.in-1.is, walk_start a.file.now a.b a.premises r.result r.ensures)
-    (none_is a.file.now a.b r.result (walk_start_le a.file.now a.b a.premises r.result r.ensures))
+    rw (c.in-1.is, walk_start a.bundle.now a.premises r.result r.ensures)
+    (none_is a.bundle.now r.result (walk_start_le a.bundle.now a.premises r.result r.ensures))
 
 pub returns-in-2 : goal.returns-in-2
 unfolding rule_of count_fits
@@ -29,6 +30,4 @@ returns-in-4 c = rw (c.in-4.is, ← single_length) c.is_single.ensures
 
 pub returns-in_default : goal.returns-in_default
 unfolding count_fits
-returns-in_default c =
-    let n = c.in_default.in_default-own.rest in
-    rw (rule_none c.args.rule (omega arith) (λ e. n.0.0.1 (inl e)) (omega arith) (omega arith) (λ e. n.0.0.1 (inr e)))
+returns-in_default c = rw (rule_none c.args.rule (omega arith) (search rules) (omega arith) (omega arith) (search rules))

@@ -1,21 +1,21 @@
 -- `steps::step_matches` meets its contract: in each arm the rule is known.
 use native.Mathlib.Omega.{arith}
+use borrow.Author.Rules.{rules}
 use mathlib.Core.Path.{sym, ap, ◌∙◌}
-use mathlib.Core.Logic.{⊎_elim, inl, inr}
+use mathlib.Core.Logic.{⊎_elim}
 use Rattle.bundle.specs.Bundle.{Step}
-use Rattle.bundle.specs.File.{bundle_at}
 use Prim.Native.Nat.{ℕ}
 use Rattle.logic.specs.declared.Walk.{Walk}
 use Rattle.logic.specs.Tests.{passed}
 use Rattle.logic.specs.Rules.{cong_walk_by, trans_tests_by, let_tests_by, matches_by}
-use Rattle.rules.specs.StepWords.{as_step}
+use Rattle.bundle.specs.RecordWords.{as_step}
 use Rattle.steps.proofs.RuleOf.{rule_none, matches_cong, matches_trans, matches_bind, matches_let}
 use Rattle.steps.proofs.steps.step_matches.Goals as goal
 
 pub returns-in-2 : goal.returns-in-2
 returns-in-2 c g same =
     let a = c.args in
-    let b = bundle_at a.file.now a.b in
+    let b = a.bundle.now in
     let w = c.step_walk-walked in
     ⊎_elim
     (λ e. ap (λ (x : Walk). x.passes) (w.ensures.value e) ∙ ap (λ (u : ℕ → Step). (cong_walk_by u b (as_step a.s)).passes) (sym same)
@@ -26,19 +26,16 @@ returns-in-2 c g same =
 pub returns-in-3 : goal.returns-in-3
 returns-in-3 c g same =
     let a = c.args in
-    let b = bundle_at a.file.now a.b in
+    let b = a.bundle.now in
     c.trans_holds.ensures ∙ ap (λ (u : ℕ → Step). passed (trans_tests_by u b (as_step a.s))) (sym same)
     ∙ matches_trans g b (as_step a.s) c.in-3.is
 
 pub returns-in-4 : goal.returns-in-4
 returns-in-4 c g same =
     let a = c.args in
-    let b = bundle_at a.file.now a.b in
+    let b = a.bundle.now in
     rw (c.bind_terms-terms.ensures, c.bind_contexts-contexts.ensures, ← same) (matches_bind g b (as_step a.s) c.in-4.is)
 
 pub returns-in_default : goal.returns-in_default
 unfolding matches_by
-returns-in_default c g same =
-    let p = c.requires in
-    let n = c.in_default.in_default-own.rest in
-    rw (rule_none c.args.s.rule p.1 (λ e. n.0.0.1 (inl e)) (omega arith) (omega arith) (λ e. n.0.0.1 (inr e)))
+returns-in_default c g same = rw (rule_none c.args.s.rule c.requires (search rules) (omega arith) (omega arith) (search rules))

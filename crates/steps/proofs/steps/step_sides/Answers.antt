@@ -9,12 +9,12 @@ use Rattle.steps.proofs.steps.step_sides.Goals as goal
 pub trans_side-requires : goal.trans_side-requires
 trans_side-requires c =
     let p = c.requires in
-    (p.0, p.1.free, p.1.scopes, p.2)
+    (p.0.free, p.0.scopes, p.1)
 
 pub bind_sides-requires : goal.bind_sides-requires
 bind_sides-requires c =
     let p = c.requires in
-    (p.0, p.1.free, p.1.images, p.2)
+    (p.0.free, p.0.images, p.1)
 
 pub returns-in-3 : goal.returns-in-3
 unfolding rule_of sides_by reading_in

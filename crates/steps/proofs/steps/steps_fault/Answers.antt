@@ -6,9 +6,9 @@ use Rattle.steps.proofs.steps.steps_fault.Goals as goal
 pub steps_fault_in-requires : goal.steps_fault_in-requires
 steps_fault_in-requires c =
     let p = c.requires in
-    (p.0, p.1, p.2, p.3, p.4, p.5, omega (arith, c.if-b-lt256.true), zeros 256)
+    (p.0, p.1, p.2, p.3, p.4, omega arith, zeros 256)
 
 pub steps_fault_in-requires-2 : goal.steps_fault_in-requires-2
 steps_fault_in-requires-2 c =
     let p = c.requires in
-    (p.0, p.1, p.2, p.3, p.4, p.5, omega (arith, p.0.within.links), zeros 2049)
+    (p.0, p.1, p.2, p.3, p.4, omega arith, zeros 2049)

@@ -1,9 +1,8 @@
 -- `terms::noted_fault` meets its contract. The invariant: the first bad term of all is the first from term i on, the terms below i are filed, and
 -- what is noted holds for them.
-use Prim.Native.Nat.{◌+◌, ◌-◌, ◌≤◌}
+use Prim.Native.Nat.{◌-◌}
 use mathlib.Core.Path.{◌≡◌}
 use lib.ListN.{length}
-use Rattle.bundle.specs.File.{bundle_at}
 use Rattle.bundle.specs.LinkNotes.{LowerNoted}
 use Rattle.logic.specs.Checks.{term_fault, terms_fault}
 use Rattle.logic.proofs.Firsts.{rest_fault}
@@ -13,9 +12,6 @@ use Rattle.terms.proofs.terms.noted_fault.Given as goal
 
 abbrev pub invariant-loop-i : goal.invariant-loop-i
 invariant-loop-i l =
-    (1 ≤ l.i) × (length l.heads ≡ 2048) × (length l.next ≡ length l.initial.next) × FiledBelow (bundle_at l.file l.b) l.heads l.next l.i
-    × (terms_fault (bundle_at l.file l.b) ≡ rest_fault (term_fault (bundle_at l.file l.b)) l.b.terms l.i)
-    × LowerNoted l.file l.b (l.i - 1) l.lower × Fitting l.file l.b l.fitting × (length l.lower ≡ length l.initial.lower) × (length l.fitting ≡ length l.initial.fitting)
-
-abbrev pub decreases-loop-i : goal.decreases-loop-i
-decreases-loop-i l = l.b.terms + 1 - l.i
+    (length l.heads ≡ 2048) × (length l.next ≡ length l.initial.next) × FiledBelow l.bundle l.heads l.next l.i
+    × (terms_fault l.bundle ≡ rest_fault (term_fault l.bundle) (length l.bundle.terms) l.i)
+    × LowerNoted l.bundle (l.i - 1) l.lower × Fitting l.bundle l.fitting × (length l.lower ≡ length l.initial.lower) × (length l.fitting ≡ length l.initial.fitting)

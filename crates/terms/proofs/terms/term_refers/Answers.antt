@@ -3,7 +3,6 @@
 use mathlib.Core.Path.{sym, ◌∙◌}
 use mathlib.Core.Bool.{◌&&◌}
 use lib.Dec.{eqb, leb}
-use Rattle.bundle.proofs.Fields.{symbols_length, variables_length, links_length}
 use Rattle.logic.specs.Terms.{kind_of}
 use Rattle.logic.specs.Tests.{passed}
 use Rattle.logic.specs.Checks.{refers_as}
@@ -14,22 +13,22 @@ use Rattle.terms.proofs.terms.term_refers.Goals as goal
 pub returns-then-kind-eq-VARIABLE : goal.returns-then-kind-eq-VARIABLE
 unfolding kind_of refers_as passed
 returns-then-kind-eq-VARIABLE c = (
-  rw (c.if-kind-eq-VARIABLE.true, variables_length, ← c.is_number.ensures),
-  λ e. c.requires.1,
+  rw (c.if-kind-eq-VARIABLE.true, ← c.variables-variables.ensures.0, ← c.is_number.ensures),
+  λ e. c.requires.0,
 )
 
 pub returns-then-is_binder : goal.returns-then-is_binder
 unfolding kind_of refers_as passed
 returns-then-is_binder c =
     let q = kind_binder c.args.w.kind (sym c.is_binder.ensures ∙ c.if-is_binder.true) in
-    (rw (q.1, variables_length, ← c.is_number-then-is_binder.ensures, ← c.is_number-then-is_binder-2.ensures), λ e. c.requires.1)
+    (rw (q.1, ← c.variables-variables.ensures.0, ← c.is_number-then-is_binder.ensures, ← c.is_number-then-is_binder-2.ensures), λ e. c.requires.0)
 
 pub returns-then-kind : goal.returns-then-kind
 unfolding kind_of refers_as passed
 returns-then-kind c =
     let no_binder = sym c.is_binder.ensures ∙ c.if-is_binder.false in (
       rw (kind_none c.args.w.kind c.if-kind-eq-VARIABLE.false no_binder c.if-kind.true),
-      λ e. c.requires.1,
+      λ e. c.requires.0,
     )
 
 pub returns-then-kind-eq-APPLICATION : goal.returns-then-kind-eq-APPLICATION
@@ -37,15 +36,14 @@ unfolding kind_of refers_as passed
 returns-then-kind-eq-APPLICATION c =
     let a = c.args in
     let known = c.is_known-symbol.result in
-    let starts = leb a.w.second a.b.links in
+    let starts = leb a.w.second c.links-links.result in
     let all = c.all_lower-terms in (
       rw (
         c.if-kind-eq-APPLICATION.true,
-        symbols_length,
         ← c.signature_of.ensures,
         ← c.is_known-symbol.ensures,
         ← all.ensures.0,
-        links_length,
+        ← c.links-links.ensures.0,
       ),
       λ e. all.ensures.1 (and_right (known && starts) all.result (and_left (known && starts && all.result) (eqb a.w.third 0) e)),
     )
@@ -54,15 +52,15 @@ pub returns : goal.returns
 unfolding kind_of refers_as passed
 returns c =
     let a = c.args in
-    let first = leb a.w.first a.b.links && c.all_numbers-bound.result && leb a.w.second a.b.links in
+    let first = leb a.w.first c.links-links.result && c.all_numbers-bound.result && leb a.w.second c.links-links.result in
     let all = c.all_lower-terms in (
       rw (
         kind_let a.w.kind c.if-kind-eq-APPLICATION.false c.if-kind.false,
-        variables_length,
+        ← c.variables-variables.ensures.0,
         ← c.all_numbers-bound.ensures,
         ← all.ensures.0,
         ← c.is_number-2.ensures,
-        links_length,
+        ← c.links-links.ensures.0,
       ),
       λ e. all.ensures.1 (and_right first all.result (and_left (first && all.result) c.is_number-2.result e)),
     )

@@ -1,5 +1,7 @@
 -- `places::content_end` meets its contract. The invariant: there is nothing but white space from byte j on.
-use mathlib.Core.Path.{sym, ◌∙◌}
+use native.Mathlib.Omega.{arith}
+use Prim.Native.Nat.{◌+◌, ◌-◌}
+use mathlib.Core.Path.{◌≡◌, sym, ◌∙◌}
 use Rattle.text_places.proofs.PlaceLaws.{trailing_start, trailing_more, trailing_content, trailing_none}
 use Rattle.text_places.proofs.places.content_end.Goals as goal
 
@@ -9,7 +11,8 @@ loop-j-init c = trailing_start c.args.text.now
 pub returns-then-not-is_space : goal.returns-then-not-is_space
 returns-then-not-is_space c =
     let e = c.is_space in
-    trailing_content c.args.text.now c.loop-j.j c.loop-j.invariant (sym e.ensures ∙ c.if-not-is_space.true)
+    let there : c.loop-j.j - 1 + 1 ≡ c.loop-j.j = omega arith in
+    rw there (trailing_content c.args.text.now c.loop-j.j c.loop-j.invariant (sym e.ensures ∙ c.if-not-is_space.true))
 
 pub loop-j-preserved : goal.loop-j-preserved
 loop-j-preserved c =
@@ -18,4 +21,5 @@ loop-j-preserved c =
 
 pub returns : goal.returns
 returns c =
-    trailing_none c.args.text.now c.loop-j.j c.loop-j.invariant c.loop-j-test.false
+    let none : c.loop-j.j ≡ 0 = omega arith in
+    rw none at (trailing_none c.args.text.now c.loop-j.j c.loop-j.invariant (omega arith))

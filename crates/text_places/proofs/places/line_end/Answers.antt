@@ -1,5 +1,7 @@
 -- `places::line_end` meets its contract. The invariant: no line ends from `at` up to j.
-use Prim.Native.Nat.{◌-◌}
+use native.Mathlib.Omega.{arith}
+use mathlib.Core.Path.{◌≡◌}
+use lib.ListN.{length}
 use Rattle.text_places.proofs.PlaceLaws.{passed_start, passed_on, passed_line, passed_return, passed_end}
 use Rattle.text_places.proofs.places.line_end.Goals as goal
 
@@ -20,9 +22,10 @@ pub loop-j-preserved : goal.loop-j-preserved
 loop-j-preserved c =
     let a = c.args in
     passed_on a.text.now a.at c.loop-j.j c.loop-j.invariant
-    c.loop-j-test.true c.if-text-j-eq10.false c.if-text-j-eq13.false
+    (omega arith) c.if-text-j-eq10.false c.if-text-j-eq13.false
 
 pub returns : goal.returns
 returns c =
     let a = c.args in
-    passed_end a.text.now a.at c.loop-j.j c.loop-j.invariant c.loop-j-test.false
+    let past : c.loop-j.j ≡ length a.text.now = omega arith in
+    rw past at (passed_end a.text.now a.at c.loop-j.j c.loop-j.invariant (omega arith))

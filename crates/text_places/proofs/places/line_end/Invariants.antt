@@ -1,11 +1,6 @@
 -- `places::line_end` meets its contract. The invariant: no line ends from `at` up to j.
-use Prim.Native.Nat.{◌-◌}
-use lib.ListN.{length}
 use Rattle.text_places.proofs.PlaceLaws.{Passed}
 use Rattle.text_places.proofs.places.line_end.Given as goal
 
 abbrev pub invariant-loop-j : goal.invariant-loop-j
 invariant-loop-j l = Passed l.text l.at l.j
-
-abbrev pub decreases-loop-j : goal.decreases-loop-j
-decreases-loop-j l = length l.text - l.j

@@ -1,10 +1,6 @@
 -- `places::place_of` meets its contract. The invariant: line and start are those of byte j.
-use Prim.Native.Nat.{◌-◌}
 use Rattle.text_places.proofs.PlaceLaws.{Counted}
 use Rattle.text_places.proofs.places.place_of.Given as goal
 
 abbrev pub invariant-loop-j : goal.invariant-loop-j
 invariant-loop-j l = Counted l.text l.at l.line l.start l.j
-
-abbrev pub decreases-loop-j : goal.decreases-loop-j
-decreases-loop-j l = l.at - l.j

@@ -1,4 +1,6 @@
 -- `shown::shown_line` meets its contract. The invariant: the first n bytes are in the area, as they are shown.
+use native.Mathlib.Omega.{arith}
+use mathlib.Core.Path.{◌≡◌}
 use Prim.Native.Nat.{◌-◌}
 use Rattle.text_places.proofs.ShownLaws.{showing_none, showing_more, showing_all}
 use Rattle.text_places.proofs.shown.shown_line.Goals as goal
@@ -10,9 +12,10 @@ loop-n-init c =
 pub loop-n-preserved : goal.loop-n-preserved
 loop-n-preserved c =
     showing_more c.args.text.now c.args.from c.args.to c.loop-n.line c.loop-n.n c.loop-n.invariant c.requires.2 c.requires.1
-    c.shown_byte.result c.loop-n-test.true c.shown_byte.ensures
+    c.shown_byte.result (omega arith) c.shown_byte.ensures
 
 pub returns : goal.returns
 returns c =
-    showing_all c.args.text.now c.args.from c.args.to c.loop-n.line c.loop-n.n c.loop-n.invariant c.requires.2 c.requires.1
-    c.loop-n-test.false
+    let a = c.args in
+    let all : c.loop-n.n ≡ a.to - a.from = omega arith in
+    rw all at (showing_all a.text.now a.from a.to c.loop-n.line c.loop-n.n c.loop-n.invariant c.requires.2 c.requires.1 (omega arith))

@@ -1,10 +1,6 @@
 -- `shown::shown_line` meets its contract. The invariant: the first n bytes are in the area, as they are shown.
-use Prim.Native.Nat.{◌-◌}
 use Rattle.text_places.proofs.ShownLaws.{Showing}
 use Rattle.text_places.proofs.shown.shown_line.Given as goal
 
 abbrev pub invariant-loop-n : goal.invariant-loop-n
 invariant-loop-n l = Showing l.text l.from l.to l.line l.n
-
-abbrev pub decreases-loop-n : goal.decreases-loop-n
-decreases-loop-n l = l.to - l.n

@@ -1,19 +1,22 @@
--- `jobs::is_closed` meets its contract. The invariant: the test of all variables is that of those up to v.
-use mathlib.Core.Path.{refl, sym, ◌∙◌}
+-- `jobs::is_closed` meets its contract. The invariant: the variables so far are not in the set.
+use Prim.Native.Nat.{ℕ, ◌+◌, ◌<◌}
+use native.Mathlib.Omega.{arith}
+use mathlib.Core.Path.{◌≡◌, sym}
+use mathlib.Core.Bool.{true, not}
+use borrow.Author.Count.{below_none, below_more}
 use Rattle.sets.specs.Sets.{member}
-use Rattle.logic.proofs.UpTo.{upto_on, upto_here, upto_end}
+use Rattle.writer.proofs.JobTests.{all_pass, one_fails}
 use Rattle.writer.proofs.jobs.is_closed.Goals as goal
 
-pub loop-v-init : goal.loop-v-init
-loop-v-init c = refl
+pub loop-k-init : goal.loop-k-init
+loop-k-init c = below_none _
 
 pub returns-then-member : goal.returns-then-member
 returns-then-member c =
-    sym (c.loop-v.invariant ∙ upto_here _ _ c.loop-v-test.true (rw (← c.member.ensures, c.if-member.true)))
+    sym (one_fails _ c.args.variables c.loop-k.k c.loop-k-test.true (rw (← c.member.ensures, c.if-member.true)))
 
-pub loop-v-preserved : goal.loop-v-preserved
-loop-v-preserved c =
-    c.loop-v.invariant ∙ upto_on _ _ c.loop-v-test.true (rw (← c.member.ensures, c.if-member.false))
+pub loop-k-preserved : goal.loop-k-preserved
+loop-k-preserved c = below_more _ c.loop-k.k c.loop-k.invariant (rw (← c.member.ensures, c.if-member.false))
 
 pub returns : goal.returns
-returns c = sym (c.loop-v.invariant ∙ upto_end _ _ c.loop-v-test.false)
+returns c = sym (all_pass _ c.args.variables (λ k l. c.loop-k.invariant k (omega (arith, l, c.loop-k-test.false))))

@@ -1,13 +1,9 @@
--- `jobs::is_closed` meets its contract. The invariant: the test of all variables is that of those up to v.
+-- `jobs::is_closed` meets its contract. The invariant: the variables so far are not in the set.
+use Prim.Native.Nat.{ℕ, ◌+◌, ◌<◌}
 use mathlib.Core.Path.{◌≡◌}
-use mathlib.Core.Bool.{not}
+use mathlib.Core.Bool.{true, not}
 use Rattle.sets.specs.Sets.{member}
-use Rattle.logic.specs.Tests.{up_to}
 use Rattle.writer.proofs.jobs.is_closed.Given as goal
 
-abbrev pub invariant-loop-v : goal.invariant-loop-v
-invariant-loop-v l =
-    up_to l.variables (λ x. not (member l.sets l.at l.n x)) ≡ up_to l.v (λ x. not (member l.sets l.at l.n x))
-
-abbrev pub decreases-loop-v : goal.decreases-loop-v
-decreases-loop-v l = l.v
+abbrev pub invariant-loop-k : goal.invariant-loop-k
+invariant-loop-k l = (k : ℕ) → k < l.k → not (member l.sets l.at l.n (k + 1)) ≡ true

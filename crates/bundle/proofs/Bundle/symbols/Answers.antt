@@ -1,0 +1,7 @@
+-- `Bundle::symbols` meets its contract: the section is as long as the counts say.
+use mathlib.Core.Path.{sym}
+use Rattle.bundle.proofs.Fields.{symbols_length}
+use Rattle.bundle.proofs.Bundle.symbols.Goals as goal
+
+pub returns : goal.returns
+returns c = (rw (← c.self.view_is) (sym (symbols_length c.self.inside.file.now c.self.inside.counts)), c.self.invariant.within.symbols)

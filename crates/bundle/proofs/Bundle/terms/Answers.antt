@@ -1,0 +1,7 @@
+-- `Bundle::terms` meets its contract: the section is as long as the counts say.
+use mathlib.Core.Path.{sym}
+use Rattle.bundle.proofs.Fields.{terms_length}
+use Rattle.bundle.proofs.Bundle.terms.Goals as goal
+
+pub returns : goal.returns
+returns c = (rw (← c.self.view_is) (sym (terms_length c.self.inside.file.now c.self.inside.counts)), c.self.invariant.within.terms)

@@ -1,0 +1,91 @@
+// The checks by name, in the order of their numbers; and which one fails.
+ghost use Rattle.std.specs.Prelude.{◌≡◌};
+ghost use Rattle.logic.specs.Failures.{number_of};
+
+// Where a check says what is wrong, it fails at the first record of which that is true.
+#[derive(Clone, Copy, Debug, PartialEq, Eq)]
+pub enum Check {
+    // The file's length is not that of its header and counts.
+    Length,
+    // Its version is not 1.
+    Version,
+    // A count is over its limit.
+    Limits,
+    // A lent area is too short.
+    Area,
+    // A link's next is neither 0 nor a later link.
+    Next,
+    // A symbol's or a variable's sorts.
+    Declared,
+    // A term refers to what is not there.
+    Refers,
+    // Counts and sorts of a term.
+    Sorted,
+    // A term is equal to an earlier one.
+    New,
+    // A context.
+    Context,
+    // A replacing term is not settled.
+    Settled,
+    // A step refers to what is not there.
+    Step,
+    // A step does not match its rule.
+    Matches,
+    // A rule's side condition.
+    Side,
+    // The last step is not the claim.
+    Claim,
+    // The derivation does not fit.
+    Room,
+    // The rule is not closed.
+    Closed,
+    // The file is no job.
+    Job,
+    // A text is no formula.
+    Text,
+    // A name is not known.
+    Name,
+    // A walk would visit too many pairs.
+    Pairs,
+    // A side has a variable that its context does not mention.
+    Scope,
+}
+
+impl Check {
+    // Its number.
+    pub fn number(self) -> usize
+        ensures { result ≡ number_of self }
+    {
+        match self {
+            Check::Length => 1,
+            Check::Version => 2,
+            Check::Limits => 3,
+            Check::Area => 4,
+            Check::Next => 5,
+            Check::Declared => 6,
+            Check::Refers => 7,
+            Check::Sorted => 8,
+            Check::New => 9,
+            Check::Context => 10,
+            Check::Settled => 11,
+            Check::Step => 12,
+            Check::Matches => 13,
+            Check::Side => 14,
+            Check::Claim => 15,
+            Check::Room => 16,
+            Check::Closed => 17,
+            Check::Job => 18,
+            Check::Text => 19,
+            Check::Name => 20,
+            Check::Pairs => 21,
+            Check::Scope => 22,
+        }
+    }
+}
+
+// The check that fails first, and the record; 0 where it is of no record.
+#[derive(Clone, Copy, Debug, PartialEq, Eq)]
+pub struct Failure {
+    pub check: Check,
+    pub record: usize,
+}
