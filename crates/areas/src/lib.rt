@@ -2,11 +2,12 @@
 #![tactic(auto)]
 
 ghost use Rattle.std.specs.Prelude.{◌≡◌, ◌++◌, ◌-◌, ◌≤◌, length, take, replicate};
+ghost use Rattle.expansion.specs.Answer.{answer_in};
 ghost use Rattle.expansion.specs.Expansion.{long_enough};
 ghost use Rattle.expansion.specs.AreasAfter.{kept, Zeroed};
 
 use bundle::Bundle;
-use expansion::Answer;
+use logic::checks::Failure;
 
 // Words of 64 bits for the stack: as many as the free sets of all terms may take.
 const STACK: usize = Bundle::SET_WORDS * Bundle::TERMS;
@@ -36,21 +37,18 @@ pub fn zero_bytes(out: &mut [u8], from: usize)
 }
 
 // The end of every call that writes a file: zeros after the file, or in all of the output where there is none, and in the scratch and the stack.
-pub fn close(answer: Answer, out: &mut [u8], words: &mut [u32], sets: &mut [u64]) -> Answer
-    requires { kept answer ≤ length out.old }
-    ensures { (result ≡ answer) × Zeroed answer out.old words.old sets.old out.new words.new
+pub fn close(
+    answer: Result<usize, Failure>,
+    out: &mut [u8],
+    words: &mut [u32],
+    sets: &mut [u64],
+) -> Result<usize, Failure>
+    requires { kept (answer_in answer) ≤ length out.old }
+    ensures { (result ≡ answer) × Zeroed (answer_in answer) out.old words.old sets.old out.new words.new
         sets.new }
 {
     zero_words(words);
     sets::clear(sets, 0, sets.len());
-    match answer {
-        Answer::Refused { number, record } => {
-            zero_bytes(out, 0);
-            Answer::Refused { number, record }
-        }
-        Answer::Written { length } => {
-            zero_bytes(out, length);
-            Answer::Written { length }
-        }
-    }
+    zero_bytes(out, answer.unwrap_or(0));
+    answer
 }

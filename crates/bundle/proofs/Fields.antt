@@ -1,5 +1,5 @@
 -- The fields of a memory's records are the words where they stand, and its counts are the lengths of the bundle's lists.
---     record_within                      a record ends where its section ends, or before
+--     row_within, record_within          a record ends where its section ends, or before
 --     symbol_word, ..                    field k of a record of words
 --     symbol_same, ..                    two records of the same words
 --     section_same, section_more         two memories that agree on a section
@@ -22,7 +22,7 @@ use Rattle.bundle.specs.File.{tab, record_by, symbol_from, link_from, term_from,
 use Rattle.bundle.proofs.Tab.{tab_length, tab_at, tab_ext, tab_more, at_field}
 
 -- a record of a section, by its place and by its number, ends where the section ends, or before
-row_within : (size count j : ℕ) → j < count → size * j + size ≤ size * count
+pub row_within : (size count j : ℕ) → j < count → size * j + size ≤ size * count
 row_within size count j h =
     let e : size * (j + 1) ≡ size * j + size = rw (mul-add, mul-one) in
     let l : size * (j + 1) ≤ size * count = mul-le-mul_left size (omega arith) in

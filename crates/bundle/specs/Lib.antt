@@ -4,6 +4,7 @@
 --     Links      the list that starts at a link
 --     Limits     the limits of the counts, the places of the sections, the length that the counts give
 --     File       THE TIE: the bundle that a file stands for
+--     Parts      the file from each section on
 --     RecordWords  a term and a step as the code holds them
 --     Lists      tests on lists of numbers, and items by their place
 --     LinkNotes  what is noted at the links of lists
@@ -13,6 +14,7 @@ pub mod Bundle
 pub mod Links
 pub mod Limits
 pub mod File
+pub mod Parts
 pub mod RecordWords
 pub mod Lists
 pub mod LinkNotes

@@ -1,6 +1,10 @@
 -- The words of a file: little-endian, 32 bits each.
 use Rattle.std.specs.Prelude.{ℕ, ◌+◌, ◌*◌, ◌/◌, ◌%◌, List, [], ◌∷◌, get_or}
 
+-- the largest number that a word holds
+abbrev pub largest_word : ℕ
+largest_word = 4294967295
+
 -- four bytes as one word, little-endian
 abbrev pub joined_of : ℕ → ℕ → ℕ → ℕ → ℕ
 joined_of a b c d = a + 256 * b + 65536 * c + 16777216 * d

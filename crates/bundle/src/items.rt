@@ -1,30 +1,60 @@
 // The items of a list, one after another. A walk goes on while its link is not 0; it ends by itself, whatever the links are.
-ghost use Rattle.std.specs.Prelude.{◌≡◌, length};
+ghost use Rattle.std.specs.Prelude.{◌≡◌, ◌<◌, length};
 ghost use Rattle.std.specs.Iterator.{YieldsFirst, item_count};
+ghost use Rattle.bundle.specs.Bundle.{link_of, link_field};
 ghost use Rattle.bundle.specs.Links.{follows, next_of, starts_at, items};
 
 use super::Bundle;
 use std::marker::Model;
 
+// What holds the links of a bundle: a lent file, or the writer's scratch.
+pub trait Links {
+    ghost use Rattle.bundle.specs.Bundle.{Bundle, link_of, link_field};
+
+    // The bundle that it stands for.
+    ghost bundle: { Self → Bundle };
+
+    // How many links there are.
+    fn count(&self) -> usize
+        ensures { result ≡ length (bundle self.now).links };
+
+    // Field k of link i.
+    fn field(&self, i: usize, k: usize) -> usize
+        requires { k < 2 }
+        ensures { result ≡ link_field (link_of (bundle self.now) i) k };
+}
+
 // What is left of a list: the items from a link on.
 #[derive(Drop)]
-pub struct Items<'a, 'b> {
-    bundle: &'b Bundle<'a>,
+pub struct Items<'b, L: Links> {
+    of: &'b L,
     link: usize,
 }
 
-impl<'a, 'b> Model for Items<'a, 'b> {
+impl<'b, L: Links> Model for Items<'b, L> {
     ghost use Rattle.std.specs.Prelude.{ℕ, List, ◌≤◌, length};
     ghost use Rattle.bundle.specs.Links.{items};
 
     ghost Value = { List ℕ };
 
-    ghost view = { λ s. items s.bundle.now s.link };
+    ghost view = { λ s. items (L.bundle s.of.now) s.link };
 
-    ghost invariant = { λ s. s.link ≤ length s.bundle.now.links };
+    ghost invariant = { λ s. s.link ≤ length (L.bundle s.of.now).links };
 }
 
-impl<'a, 'b> Iterator for Items<'a, 'b> {
+impl<'b, L: Links> Items<'b, L> {
+    // The items of the list that starts at a link.
+    pub fn of(of: &'b L, start: usize) -> Items<'b, L>
+        ensures { result ≡ items (L.bundle of.now) start }
+    {
+        Items {
+            of,
+            link: starting(of.count(), start),
+        }
+    }
+}
+
+impl<'b, L: Links> Iterator for Items<'b, L> {
     type Item = usize;
 
     ghost next_gives = { YieldsFirst (λ s. s) };
@@ -35,9 +65,9 @@ impl<'a, 'b> Iterator for Items<'a, 'b> {
         if self.link == 0 {
             return None;
         }
-        let bundle = self.bundle;
-        let item = bundle.link_field(self.link, 0);
-        self.link = bundle.next_link(self.link);
+        let of = self.of;
+        let item = of.field(self.link, 0);
+        self.link = followed(of.count(), self.link, of.field(self.link, 1));
         Some(item)
     }
 }
@@ -60,6 +90,18 @@ pub fn starting(links: usize, start: usize) -> usize
     if start <= links { start } else { 0 }
 }
 
+impl<'a> Links for Bundle<'a> {
+    ghost bundle = { λ b. b };
+
+    fn count(&self) -> usize {
+        self.links()
+    }
+
+    fn field(&self, i: usize, k: usize) -> usize {
+        self.link_field(i, k)
+    }
+}
+
 impl<'a> Bundle<'a> {
     // The first link of a list: 0, which starts the empty list, for a number that is no link's.
     pub fn first_link(&self, start: usize) -> usize
@@ -76,12 +118,9 @@ impl<'a> Bundle<'a> {
     }
 
     // The items of the list that starts at a link.
-    pub fn items<'b>(&'b self, start: usize) -> Items<'a, 'b>
+    pub fn items<'b>(&'b self, start: usize) -> Items<'b, Bundle<'a>>
         ensures { result ≡ items self.now start }
     {
-        Items {
-            bundle: self,
-            link: self.first_link(start),
-        }
+        Items::of(self, start)
     }
 }

@@ -23,17 +23,25 @@ use std::marker::Model;
 pub struct Bundle<'a> {
     file: &'a [u8],
     counts: Counts,
+    // The file from each section on: its place is computed once.
+    symbols: &'a [u8],
+    variables: &'a [u8],
+    terms: &'a [u8],
+    links: &'a [u8],
+    contexts: &'a [u8],
+    steps: &'a [u8],
 }
 
 impl<'a> Model for Bundle<'a> {
     ghost use Rattle.bundle.specs.Bundle.{Bundle};
-    ghost use Rattle.bundle.specs.File.{Whole, bundle_at};
+    ghost use Rattle.bundle.specs.File.{bundle_at};
+    ghost use Rattle.bundle.specs.Parts.{Parted};
 
     ghost Value = { Bundle };
 
     ghost view = { λ b. bundle_at b.file.now b.counts };
 
-    ghost invariant = { λ b. Whole b.file.now b.counts };
+    ghost invariant = { λ b. Parted b.file.now b.counts b.symbols.now b.variables.now b.terms.now b.links.now b.contexts.now b.steps.now };
 }
 
 impl<'a> Bundle<'a> {
@@ -77,7 +85,16 @@ impl<'a> Bundle<'a> {
         requires { Whole file.now counts }
         ensures { result ≡ bundle_at file.now counts }
     {
-        Bundle { file, counts }
+        Bundle {
+            file,
+            counts,
+            symbols: &file[4 * counts.symbols_at()..],
+            variables: &file[4 * counts.variables_at()..],
+            terms: &file[4 * counts.terms_at()..],
+            links: &file[4 * counts.links_at()..],
+            contexts: &file[4 * counts.contexts_at()..],
+            steps: &file[4 * counts.steps_at()..],
+        }
     }
 
     // The file, and its counts.
@@ -144,7 +161,7 @@ impl<'a> Bundle<'a> {
     }
 }
 
-// A bundle's version, and the numbers of records of its sections: with the lent file it gives every record. The limits belong to it.
+// A bundle's version, and the numbers of records of its sections: with the lent file it gives every record.
 #[derive(Clone, Copy)]
 pub struct Counts {
     pub version: usize,

@@ -51,6 +51,7 @@ impl<'a> Bundle<'a> {
         ensures { result ≡ different (items self.now list) }
     {
         let mut i = self.first_link(list);
+        // No `for`: each item is looked for in the list that follows it, which starts at its link's next.
         while i != 0 {
             let x = self.link_field(i, 0);
             let rest = self.next_link(i);

@@ -15,6 +15,7 @@ impl<'a> Bundle<'a> {
             × (result ≡ true → LowerNoted self.now n lower.new) }
     {
         let mut i = start;
+        // No `for`: the link's number is the place of its note.
         while i != 0 {
             if lower[i] != 0 {
                 return true;
@@ -37,6 +38,7 @@ impl<'a> Bundle<'a> {
     {
         let mut i = self.first_link(list);
         let mut left = 8usize;
+        // No `for`: the link where this stops is handed on.
         while (i != 0) & (left != 0) {
             let x = self.link_field(i, 0);
             if (x == 0) | (x > n) {

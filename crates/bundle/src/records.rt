@@ -1,21 +1,29 @@
 // Fields of records, by the record's number. See `term_field` and the like in specs/Bundle.antt for the order of the fields.
-ghost use Rattle.std.specs.Prelude.{◌≡◌, ◌+◌, ◌*◌, ◌≤◌, ◌<◌, length};
+ghost use Rattle.std.specs.Prelude.{◌≡◌, ◌+◌, ◌-◌, ◌*◌, ◌≤◌, ◌<◌, length};
 ghost use Rattle.bundle.specs.Words.{word_at};
 ghost use Rattle.bundle.specs.Bundle.{at, symbol_of, sort_of_variable, term_of, link_of, context_of, step_of, symbol_field, term_field, link_field, context_field};
 ghost use Rattle.bundle.specs.Bundle.{step_field};
-ghost use Rattle.bundle.specs.File.{tab, record_by, Whole, bundle_at};
+ghost use Rattle.bundle.specs.File.{tab};
 ghost use Rattle.bundle.specs.RecordWords.{as_term, as_step};
 
+use super::Bundle;
 use super::words::word_at;
-use super::{Bundle, Counts};
 
-// The words of a term, and of a step.
+// The words of a term, of a context and of a step.
 #[derive(Clone, Copy)]
 pub struct TermWords {
     pub kind: usize,
     pub first: usize,
     pub second: usize,
     pub third: usize,
+}
+
+#[derive(Clone, Copy)]
+pub struct ContextWords {
+    pub kind: usize,
+    pub first: usize,
+    pub second: usize,
+    pub parent: usize,
 }
 
 #[derive(Clone, Copy)]
@@ -34,10 +42,10 @@ pub struct LinkWords {
     pub next: usize,
 }
 
-// Word k of record i of a section: the section starts at word `start` and has `count` records of `size` words.
-fn field(file: &[u8], start: usize, size: usize, count: usize, i: usize, k: usize) -> usize
-    requires { (k < size) × (4 * (start + size * count) ≤ length file.now) }
-    ensures { result ≡ at 0 (tab (λ j. record_by (word_at file.now) start size j k) count) i }
+// Word k of record i of a section of `count` records of `size` words, with which `section` starts.
+fn field(section: &[u8], size: usize, count: usize, i: usize, k: usize) -> usize
+    requires { (k < size) × (4 * (size * count) ≤ length section.now) }
+    ensures { result ≡ at 0 (tab (λ j. word_at section.now (size * j + k)) count) i }
 {
     if i == 0 {
         return 0;
@@ -45,36 +53,37 @@ fn field(file: &[u8], start: usize, size: usize, count: usize, i: usize, k: usiz
     if i > count {
         return 0;
     }
-    word_at(file, start + size * (i - 1) + k)
+    word_at(section, size * (i - 1) + k)
 }
 
-// The words of a step that there is: its record is a part of the file, so that its words have one place.
-fn step_in(file: &[u8], counts: Counts, i: usize) -> StepWords
-    requires { Whole file.now counts × (i ≡ 0 → ⊥) × (i ≤ counts.steps) }
-    ensures { as_step result ≡ step_of (bundle_at file.now counts) i }
+// The words of step i, and of link i, where the section has it.
+fn step_in(section: &[u8], i: usize) -> StepWords
+    requires { (0 < i) × (20 * i ≤ length section.now) }
+    ensures { let f = word_at section.now in
+        let first = 5 * (i - 1) in
+        (result.rule ≡ f (first + 0)) × (result.context ≡ f (first + 1)) × (result.left ≡ f (first + 2)) × (result.right ≡ f (first + 3))
+        × (result.premises ≡ f (first + 4)) }
 {
-    let at = 4 * (counts.steps_at() + 5 * (i - 1));
-    let words = &file[at..];
+    let first = 5 * (i - 1);
     StepWords {
-        rule: word_at(words, 0),
-        context: word_at(words, 1),
-        left: word_at(words, 2),
-        right: word_at(words, 3),
-        premises: word_at(words, 4),
+        rule: word_at(section, first),
+        context: word_at(section, first + 1),
+        left: word_at(section, first + 2),
+        right: word_at(section, first + 3),
+        premises: word_at(section, first + 4),
     }
 }
 
-// The words of a link that there is, as a part of the file.
-fn link_in(file: &[u8], counts: Counts, i: usize) -> LinkWords
-    requires { Whole file.now counts × (i ≡ 0 → ⊥) × (i ≤ counts.links) }
-    ensures { let link = link_of (bundle_at file.now counts) i in
-        (result.value ≡ link.value) × (result.next ≡ link.next) }
+fn link_in(section: &[u8], i: usize) -> LinkWords
+    requires { (0 < i) × (8 * i ≤ length section.now) }
+    ensures { let f = word_at section.now in
+        let first = 2 * (i - 1) in
+        (result.value ≡ f (first + 0)) × (result.next ≡ f (first + 1)) }
 {
-    let at = 4 * counts.links_at();
-    let section = &file[at..];
+    let first = 2 * (i - 1);
     LinkWords {
-        value: word_at(section, 2 * (i - 1)),
-        next: word_at(section, 2 * (i - 1) + 1),
+        value: word_at(section, first),
+        next: word_at(section, first + 1),
     }
 }
 
@@ -83,47 +92,41 @@ impl<'a> Bundle<'a> {
         requires { k < 2 }
         ensures { result ≡ symbol_field (symbol_of self.now i) k }
     {
-        let counts = self.counts;
-        field(self.file, counts.symbols_at(), 2, counts.symbols, i, k)
+        field(self.symbols, 2, self.counts.symbols, i, k)
     }
 
     pub fn variable_sort(&self, i: usize) -> usize
         ensures { result ≡ sort_of_variable self.now i }
     {
-        let counts = self.counts;
-        field(self.file, counts.variables_at(), 1, counts.variables, i, 0)
+        field(self.variables, 1, self.counts.variables, i, 0)
     }
 
     pub fn term_field(&self, i: usize, k: usize) -> usize
         requires { k < 4 }
         ensures { result ≡ term_field (term_of self.now i) k }
     {
-        let counts = self.counts;
-        field(self.file, counts.terms_at(), 4, counts.terms, i, k)
+        field(self.terms, 4, self.counts.terms, i, k)
     }
 
     pub fn link_field(&self, i: usize, k: usize) -> usize
         requires { k < 2 }
         ensures { result ≡ link_field (link_of self.now i) k }
     {
-        let counts = self.counts;
-        field(self.file, counts.links_at(), 2, counts.links, i, k)
+        field(self.links, 2, self.counts.links, i, k)
     }
 
     pub fn context_field(&self, i: usize, k: usize) -> usize
         requires { k < 4 }
         ensures { result ≡ context_field (context_of self.now i) k }
     {
-        let counts = self.counts;
-        field(self.file, counts.contexts_at(), 4, counts.contexts, i, k)
+        field(self.contexts, 4, self.counts.contexts, i, k)
     }
 
     pub fn step_field(&self, i: usize, k: usize) -> usize
         requires { k < 5 }
         ensures { result ≡ step_field (step_of self.now i) k }
     {
-        let counts = self.counts;
-        field(self.file, counts.steps_at(), 5, counts.steps, i, k)
+        field(self.steps, 5, self.counts.steps, i, k)
     }
 
     // The words of term i.
@@ -156,7 +159,7 @@ impl<'a> Bundle<'a> {
         requires { (i ≡ 0 → ⊥) × (i ≤ length self.now.steps) }
         ensures { as_step result ≡ step_of self.now i }
     {
-        step_in(self.file, self.counts, i)
+        step_in(self.steps, i)
     }
 
     // The words of a link that there is.
@@ -165,6 +168,6 @@ impl<'a> Bundle<'a> {
         ensures { let link = link_of self.now i in
             (result.value ≡ link.value) × (result.next ≡ link.next) }
     {
-        link_in(self.file, self.counts, i)
+        link_in(self.links, i)
     }
 }

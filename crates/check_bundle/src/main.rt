@@ -2,7 +2,6 @@
 #![tactic(auto)]
 
 use bundle::Bundle;
-use judgement::Answer;
 
 // A word, two numbers and a newline.
 fn print_line(word: &[u8], first: usize, second: usize) {
@@ -17,9 +16,8 @@ fn main() {
     let mut input = io::large_buffer();
     let n = io::read_full(0, &mut input);
     let mut free = [0u64; Bundle::SET_WORDS * Bundle::TERMS];
-    let answer = checker::check(&input[..n], &mut free);
-    match answer {
-        Answer::Accepted(a) => print_line(b"accepted ", a.left, a.right),
-        Answer::Refused { number, record } => print_line(b"refused ", number, record),
+    match checker::check(&input[..n], &mut free) {
+        Ok(accepted) => print_line(b"accepted ", accepted.left, accepted.right),
+        Err(failure) => print_line(b"refused ", failure.check.number(), failure.record),
     }
 }

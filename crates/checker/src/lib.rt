@@ -12,6 +12,7 @@ ghost use Rattle.sorting.specs.Notes.{Sorted};
 ghost use Rattle.free_variables.specs.FreeSets.{FreeSets};
 ghost use Rattle.images.specs.ContextRows.{Images, Scopes};
 ghost use Rattle.steps.specs.Verdicts.{Found};
+ghost use Rattle.judgement.specs.Answer.{answer_in};
 ghost use Rattle.judgement.specs.Judge.{claim_tests, acceptance, lent_for, late_fault, fault_of, judge, area_after};
 
 use bundle::Bundle;
@@ -19,7 +20,7 @@ use bundle::words::word_at;
 use declarations::header::opened;
 use free_variables::spread::spread;
 use free_variables::words_for;
-use judgement::{Acceptance, Answer};
+use judgement::Acceptance;
 use logic::checks::{Check, Failure};
 use sorting::notes::note_sorts;
 
@@ -65,10 +66,8 @@ fn late_fault_in(
 {
     contexts::contexts::contexts_fault(bundle, sorts, free, n, images, scopes)?;
     let pairs = steps::steps::steps_fault(bundle, free, n, images, scopes)?;
-    match claim_fault(bundle) {
-        Err(check) => Err(Failure { check, record: 0 }),
-        Ok(()) => Ok(pairs),
-    }
+    claim_fault(bundle)?;
+    Ok(pairs)
 }
 
 // The same with room of its own, for files with many variables. Two places call this: so the compiler keeps it, and its room, apart, and no other file pays
@@ -168,31 +167,23 @@ fn accepted(file: &[u8], free: &mut [u64]) -> Result<Acceptance, Failure>
 {
     let lent = free.len();
     let required = lent_for(file);
-    match opened(file, lent, required) {
-        Err(check) => Err(Failure { check, record: 0 }),
-        Ok(bundle) => {
-            let pairs = noted_fault(&bundle, free)?;
-            Ok(Acceptance {
-                left: bundle.claim_left(),
-                right: bundle.claim_right(),
-                pairs,
-            })
-        }
-    }
+    let bundle = opened(file, lent, required)?;
+    let pairs = noted_fault(&bundle, free)?;
+    Ok(Acceptance {
+        left: bundle.claim_left(),
+        right: bundle.claim_right(),
+        pairs,
+    })
 }
 
 // Checks a file. Where it is accepted, the lent area holds the free sets of its terms and zeros after them; where it is refused, zeros.
-pub fn check(file: &[u8], free: &mut [u64]) -> Answer
-    ensures value { result ≡ judge file.now (length free.old) }
+pub fn check(file: &[u8], free: &mut [u64]) -> Result<Acceptance, Failure>
+    ensures value { answer_in result ≡ judge file.now (length free.old) }
     ensures free_after { free.new ≡ area_after file.now (length free.old) }
 {
-    match accepted(file, free) {
-        Ok(acceptance) => Answer::Accepted(acceptance),
-        Err(failure) => {
-            sets::clear(free, 0, free.len());
-            let number = failure.check.number();
-            let record = failure.record;
-            Answer::Refused { number, record }
-        }
+    let answer = accepted(file, free);
+    if answer.is_err() {
+        sets::clear(free, 0, free.len());
     }
+    answer
 }

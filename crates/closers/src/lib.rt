@@ -1,285 +1,224 @@
-// What a visit opens and closes with, each against its definition without limits. `Full` as soon as a section would pass its limit.
-// The index holds all terms; a term that is appended is filed in it.
+// What a visit opens and closes with, each against its definition without limits. `None` as soon as a section would pass its limit.
 #![tactic(auto)]
 
-ghost use Rattle.std.specs.Prelude.{◌≡◌, true, false, [], ◌∷◌, ◌≤◌, length};
+ghost use Rattle.std.specs.Prelude.{◌≡◌, true, false, [], ◌∷◌, ◌≤◌};
+ghost use Rattle.bundle.specs.Words.{largest_word};
 ghost use Rattle.logic.specs.Terms.{Binder, binder, number_of, is_binder};
-ghost use Rattle.scratch.specs.Scratch.{bundle_in, Ready};
-ghost use Rattle.scratch.specs.Stack.{halves};
-ghost use Rattle.filing.specs.Filing.{Indexed};
+ghost use Rattle.scratch.specs.Stack.{halves_of};
 ghost use Rattle.expansion.specs.Nodes.{leaf};
 ghost use Rattle.expansion.specs.Visit.{visit, concluded, replacing, renaming, open_binder, close_application, close_binder};
-ghost use Rattle.placing.specs.Outcomes.{VisitOutcome, OpenOutcome, BinderOutcome, VisitIndexed, BinderIndexed};
+ghost use Rattle.placing.specs.Outcomes.{VisitOutcome, VisitFits, OpenOutcome, BinderOutcome};
 
-use bundle::digests::DIGESTS;
-use bundle::{Bundle, Counts};
+use bundle::records::{ContextWords, StepWords};
+use filing::Filed;
 use logic::Image;
 use logic::kinds::{FIXES, REPLACES};
 use logic::rules::{BIND, CONG, REFL};
 use placing::{
-    Opened, Recorded, Visited, add_context, add_halves, add_step, add_value, place_application,
-    place_binder, place_fresh,
+    Opened, Visited, add_context, add_halves, add_step, add_value, place_application, place_binder,
+    place_fresh,
 };
-use scratch::images::image_in;
 
 // ---- A list, and then a record
 
 // The step of a visit with no premises.
 fn conclude_alone(
-    words: &mut [u32],
-    c: Counts,
+    filed: &mut Filed<'_>,
     rule: usize,
     context: usize,
     left: usize,
     right: usize,
-) -> Visited
-    requires { Ready words.old c × (rule ≤ 5) × (context ≤ 4294967295) × (left ≤ 4294967295) × (right ≤ 4294967295) }
-    ensures { (length words.new ≡ length words.old)
-        × VisitOutcome (concluded (bundle_in words.old c) rule context left right []) words.new result }
+) -> Option<Visited>
+    requires { (rule ≤ 5) × (context ≤ largest_word) × (left ≤ largest_word) × (right ≤ largest_word) }
+    ensures { VisitOutcome (concluded filed.old rule context left right []) filed.new result × VisitFits result }
 {
-    add_step(words, c, rule, context, left, right, 0)
+    add_step(
+        filed,
+        StepWords {
+            rule,
+            context,
+            left,
+            right,
+            premises: 0,
+        },
+    )
 }
 
 // The step of a visit with one premise.
 fn conclude_one(
-    words: &mut [u32],
-    c: Counts,
+    filed: &mut Filed<'_>,
     rule: usize,
     context: usize,
     left: usize,
     right: usize,
     premise: usize,
-) -> Visited
-    requires { Ready words.old c × (rule ≤ 5) × (context ≤ 4294967295) × (left ≤ 4294967295) × (right ≤ 4294967295) × (premise ≤ 4294967295) }
-    ensures { (length words.new ≡ length words.old)
-        × VisitOutcome (concluded (bundle_in words.old c) rule context left right (premise ∷ [])) words.new result }
+) -> Option<Visited>
+    requires { (rule ≤ 5) × (context ≤ largest_word) × (left ≤ largest_word) × (right ≤ largest_word) × (premise ≤ largest_word) }
+    ensures { VisitOutcome (concluded filed.old rule context left right (premise ∷ [])) filed.new result × VisitFits result }
 {
-    let listed = add_value(words, c, premise);
-    match listed {
-        Recorded::Full => Visited::Full,
-        Recorded::Done {
-            counts,
-            number: start,
-        } => { add_step(words, counts, rule, context, left, right, start) }
-    }
+    let premises = add_value(filed, premise)?;
+    add_step(
+        filed,
+        StepWords {
+            rule,
+            context,
+            left,
+            right,
+            premises,
+        },
+    )
 }
 
-// The step of a visit whose premises are the steps of the pairs from `from` to before `to`.
+// The step of a visit whose premises are the lower halves of pairs.
 pub fn conclude(
-    words: &mut [u32],
-    c: Counts,
+    filed: &mut Filed<'_>,
     rule: usize,
     context: usize,
     left: usize,
     right: usize,
-    stack: &[u64],
-    from: usize,
-    to: usize,
-) -> Visited
-    requires { Ready words.old c × (rule ≤ 5) × (context ≤ 4294967295) × (left ≤ 4294967295) × (right ≤ 4294967295) × (from ≤ to)
-        × (to ≤ length stack.now) }
-    ensures { (length words.new ≡ length words.old)
-        × VisitOutcome (concluded (bundle_in words.old c) rule context left right (halves false stack.now from to)) words.new result }
+    pairs: &[u64],
+) -> Option<Visited>
+    requires { (rule ≤ 5) × (context ≤ largest_word) × (left ≤ largest_word) × (right ≤ largest_word) }
+    ensures { VisitOutcome (concluded filed.old rule context left right (halves_of false pairs.now)) filed.new result × VisitFits result }
 {
-    let listed = add_halves(words, c, stack, false, from, to);
-    match listed {
-        Recorded::Full => Visited::Full,
-        Recorded::Done {
-            counts,
-            number: start,
-        } => { add_step(words, counts, rule, context, left, right, start) }
-    }
+    let premises = add_halves(filed, pairs, false)?;
+    add_step(
+        filed,
+        StepWords {
+            rule,
+            context,
+            left,
+            right,
+            premises,
+        },
+    )
 }
 
-// A context that replaces the variables of a list by the results of the pairs from `from` to before `to`.
+// A context that replaces the variables of a list by the upper halves of pairs.
 pub fn open_let(
-    words: &mut [u32],
-    c: Counts,
+    filed: &mut Filed<'_>,
     variables: usize,
     parent: usize,
-    stack: &[u64],
-    from: usize,
-    to: usize,
-) -> Recorded
-    requires { Ready words.old c × (variables ≤ 4294967295) × (parent ≤ 4294967295) × (from ≤ to) × (to ≤ length stack.now) }
-    ensures { (length words.new ≡ length words.old)
-        × OpenOutcome (replacing (bundle_in words.old c) variables parent (halves true stack.now from to)) words.new result }
+    pairs: &[u64],
+) -> Option<usize>
+    requires { (variables ≤ largest_word) × (parent ≤ largest_word) }
+    ensures { OpenOutcome (replacing filed.old variables parent (halves_of true pairs.now)) filed.new result }
 {
-    let listed = add_halves(words, c, stack, true, from, to);
-    match listed {
-        Recorded::Full => Recorded::Full,
-        Recorded::Done {
-            counts,
-            number: start,
-        } => add_context(words, counts, REPLACES, variables, start, parent),
-    }
+    let second = add_halves(filed, pairs, true)?;
+    add_context(
+        filed,
+        ContextWords {
+            kind: REPLACES,
+            first: variables,
+            second,
+            parent,
+        },
+    )
 }
 
 // A context that replaces the variables of a list by one term.
-fn open_one(words: &mut [u32], c: Counts, variables: usize, parent: usize, term: usize) -> Recorded
-    requires { Ready words.old c × (variables ≤ 4294967295) × (parent ≤ 4294967295) × (term ≤ 4294967295) }
-    ensures { (length words.new ≡ length words.old)
-        × OpenOutcome (replacing (bundle_in words.old c) variables parent (term ∷ [])) words.new result }
+fn open_one(filed: &mut Filed<'_>, variables: usize, parent: usize, term: usize) -> Option<usize>
+    requires { (variables ≤ largest_word) × (parent ≤ largest_word) × (term ≤ largest_word) }
+    ensures { OpenOutcome (replacing filed.old variables parent (term ∷ [])) filed.new result }
 {
-    let listed = add_value(words, c, term);
-    match listed {
-        Recorded::Full => Recorded::Full,
-        Recorded::Done {
-            counts,
-            number: start,
-        } => add_context(words, counts, REPLACES, variables, start, parent),
-    }
+    let second = add_value(filed, term)?;
+    add_context(
+        filed,
+        ContextWords {
+            kind: REPLACES,
+            first: variables,
+            second,
+            parent,
+        },
+    )
 }
 
 // ---- Variable
 
 // REFL from the term, which is variable x, to the image of x.
 pub fn close_variable(
-    words: &mut [u32],
-    c: Counts,
+    filed: &mut Filed<'_>,
     context: usize,
     term: usize,
     x: usize,
-) -> Visited
-    requires { Ready words.old c × (context ≤ 4294967295) × (term ≤ 4294967295) }
-    ensures { (length words.new ≡ length words.old)
-        × VisitOutcome (visit (leaf term x) context (bundle_in words.old c)) words.new result }
+) -> Option<Visited>
+    requires { (context ≤ largest_word) × (term ≤ largest_word) }
+    ensures { VisitOutcome (visit (leaf term x) context filed.old) filed.new result × VisitFits result }
 {
-    let image = image_in(words, c, context, x);
-    match image {
-        Image::Own => conclude_alone(words, c, REFL, context, term, term),
-        Image::Gives(t) => conclude_alone(words, c, REFL, context, term, t),
-    }
+    let right = match filed.scratch().image(context, x) {
+        Image::Own => term,
+        Image::Gives(t) => t,
+    };
+    conclude_alone(filed, REFL, context, term, right)
 }
 
 pub fn close_application(
-    words: &mut [u32],
-    c: Counts,
+    filed: &mut Filed<'_>,
     context: usize,
     term: usize,
     symbol: usize,
-    stack: &[u64],
-    from: usize,
-    to: usize,
-    index: &mut [u16; DIGESTS + Bundle::TERMS + 1],
-) -> Visited
-    requires { Ready words.old c × (context ≤ 4294967295) × (term ≤ 4294967295) × (symbol ≤ 4294967295) × (from ≤ to) × (to ≤ length stack.now)
-        × Indexed (bundle_in words.old c) index.old }
-    ensures { (length words.new ≡ length words.old)
-        × VisitOutcome
+    pairs: &[u64],
+) -> Option<Visited>
+    requires { (context ≤ largest_word) × (term ≤ largest_word) × (symbol ≤ largest_word) }
+    ensures { VisitOutcome
         (close_application context term symbol
-        (record {
-          bundle = bundle_in words.old c;
-          results = halves true stack.now from to;
-          steps =
-              halves false stack.now from to;
-        })) words.new result × VisitIndexed words.new index.new result }
+        (record { bundle = filed.old; results = halves_of true pairs.now; steps = halves_of false pairs.now })) filed.new result
+        × VisitFits result }
 {
-    let placed = place_application(words, c, symbol, stack, from, to, index);
-    match placed {
-        Recorded::Full => Visited::Full,
-        Recorded::Done {
-            counts,
-            number: right,
-        } => conclude(words, counts, CONG, context, term, right, stack, from, to),
-    }
+    let right = place_application(filed, symbol, pairs)?;
+    conclude(filed, CONG, context, term, right, pairs)
 }
 
 // The contexts of a quantifier over x whose new variable is y, with the term t: y fixed, then x replaced by t.
 fn open_renaming(
-    words: &mut [u32],
-    c: Counts,
+    filed: &mut Filed<'_>,
     x: usize,
     y: usize,
     t: usize,
     parent: usize,
-) -> Recorded
-    requires { Ready words.old c × (x ≤ 4294967295) × (y ≤ 4294967295) × (t ≤ 4294967295) × (parent ≤ 4294967295) }
-    ensures { (length words.new ≡ length words.old)
-        × OpenOutcome (renaming (bundle_in words.old c) x y t parent) words.new result }
+) -> Option<usize>
+    requires { (x ≤ largest_word) × (y ≤ largest_word) × (t ≤ largest_word) × (parent ≤ largest_word) }
+    ensures { OpenOutcome (renaming filed.old x y t parent) filed.new result }
 {
-    let fixed = add_context(words, c, FIXES, y, 0, parent);
-    match fixed {
-        Recorded::Full => Recorded::Full,
-        Recorded::Done {
-            counts: with_y,
-            number: context,
-        } => {
-            let listed = add_value(words, with_y, x);
-            match listed {
-                Recorded::Full => Recorded::Full,
-                Recorded::Done {
-                    counts,
-                    number: start,
-                } => open_one(words, counts, start, context, t),
-            }
-        }
-    }
+    let context = add_context(
+        filed,
+        ContextWords {
+            kind: FIXES,
+            first: y,
+            second: 0,
+            parent,
+        },
+    )?;
+    let variables = add_value(filed, x)?;
+    open_one(filed, variables, context, t)
 }
 
 // The new variable, its term and the contexts of a quantifier over x. Its result binds the new variable.
-pub fn open_quantifier(
-    words: &mut [u32],
-    c: Counts,
-    x: usize,
-    context: usize,
-    index: &mut [u16; DIGESTS + Bundle::TERMS + 1],
-) -> Opened
-    requires { Ready words.old c × (x ≤ 4294967295) × (context ≤ 4294967295) × Indexed (bundle_in words.old c) index.old }
-    ensures { (length words.new ≡ length words.old)
-        × BinderOutcome (open_binder (bundle_in words.old c) x context) words.new result
-        × BinderIndexed words.new index.new result }
+pub fn open_quantifier(filed: &mut Filed<'_>, x: usize, parent: usize) -> Option<Opened>
+    requires { (x ≤ largest_word) × (parent ≤ largest_word) }
+    ensures { BinderOutcome (open_binder filed.old x parent) filed.new result }
 {
-    let y = c.variables + 1;
-    let placed = place_fresh(words, c, x, index);
-    match placed {
-        Recorded::Full => Opened::Full,
-        Recorded::Done {
-            counts: with_y,
-            number: term,
-        } => {
-            let renamed = open_renaming(words, with_y, x, y, term, context);
-            match renamed {
-                Recorded::Full => Opened::Full,
-                Recorded::Done {
-                    counts,
-                    number: inner,
-                } => Opened::Done {
-                    counts,
-                    context: inner,
-                    variable: y,
-                },
-            }
-        }
-    }
+    let variable = filed.scratch().variables() + 1;
+    let term = place_fresh(filed, x)?;
+    let context = open_renaming(filed, x, variable, term, parent)?;
+    Some(Opened { context, variable })
 }
 
-// The result of a quantifier's visit, and BIND, whose premise is the step.
+// The result of a quantifier's visit, which binds y in the body's result, and BIND, whose premise is the body's step.
 pub fn close_quantifier(
-    words: &mut [u32],
-    c: Counts,
+    filed: &mut Filed<'_>,
     context: usize,
     term: usize,
     kind: usize,
     y: usize,
-    res: usize,
-    step: usize,
-    index: &mut [u16; DIGESTS + Bundle::TERMS + 1],
-) -> Visited
-    requires { Ready words.old c × (context ≤ 4294967295) × (term ≤ 4294967295) × (is_binder kind ≡ true) × (kind ≤ 4294967295) × (y ≤ 4294967295)
-        × (res ≤ 4294967295)
-        × (step ≤ 4294967295) × Indexed (bundle_in words.old c) index.old }
-    ensures { (length words.new ≡ length words.old)
-        × ((q : Binder) → kind ≡ number_of (binder q) → VisitOutcome
-        (close_binder context term q y (record { bundle = bundle_in words.old c; result = res; step = step })) words.new result)
-        × VisitIndexed words.new index.new result }
+    body: Visited,
+) -> Option<Visited>
+    requires { (context ≤ largest_word) × (term ≤ largest_word) × (is_binder kind ≡ true) × (kind ≤ largest_word) × (y ≤ largest_word)
+        × (body.result ≤ largest_word) × (body.step ≤ largest_word) }
+    ensures { ((q : Binder) → kind ≡ number_of (binder q) → VisitOutcome
+        (close_binder context term q y (record { bundle = filed.old; result = body.result; step = body.step })) filed.new result)
+        × VisitFits result }
 {
-    let placed = place_binder(words, c, kind, y, res, index);
-    match placed {
-        Recorded::Full => Visited::Full,
-        Recorded::Done {
-            counts,
-            number: right,
-        } => conclude_one(words, counts, BIND, context, term, right, step),
-    }
+    let right = place_binder(filed, kind, y, body.result)?;
+    conclude_one(filed, BIND, context, term, right, body.step)
 }

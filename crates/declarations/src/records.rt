@@ -2,7 +2,7 @@
 ghost use Rattle.std.specs.Prelude.{◌≡◌, cond, leb};
 ghost use Rattle.bundle.specs.Links.{items};
 ghost use Rattle.bundle.specs.Lists.{each};
-ghost use Rattle.logic.specs.Failures.{number_of, number_in};
+ghost use Rattle.logic.specs.Failures.{check_number, number_in};
 ghost use Rattle.logic.specs.Symbols.{item_sort, is_sort};
 ghost use Rattle.logic.specs.Checks.{good_next};
 ghost use Rattle.declarations.specs.Sections.{record_fault};
@@ -39,7 +39,7 @@ fn all_sorts(bundle: &Bundle, list: usize) -> bool
 
 // The check, where it is not passed.
 fn unless(passed: bool, check: Check) -> Result<(), Check>
-    ensures { number_in result ≡ cond passed 0 (number_of check) }
+    ensures { number_in result ≡ cond passed 0 (check_number check) }
 {
     if passed { Ok(()) } else { Err(check) }
 }

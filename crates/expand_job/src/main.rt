@@ -3,7 +3,6 @@
 #![tactic(auto)]
 
 use bundle::Bundle;
-use expansion::Answer;
 
 // The first bytes of an area, so many as the file has.
 fn write_start(area: &[u8], length: usize) {
@@ -18,14 +17,13 @@ fn main() {
     let mut out = [0u8; Bundle::BYTES];
     let mut words = [0u32; Bundle::WORDS];
     let mut sets = [0u64; Bundle::SET_WORDS * Bundle::TERMS];
-    let answer = writer::expand(&input[..n], &mut out, &mut words, &mut sets);
-    match answer {
-        Answer::Written { length } => write_start(&out, length),
-        Answer::Refused { number, record } => {
+    match writer::expand(&input[..n], &mut out, &mut words, &mut sets) {
+        Ok(length) => write_start(&out, length),
+        Err(failure) => {
             io::write_all(2, b"refused ");
-            io::print_decimal(2, number as u64);
+            io::print_decimal(2, failure.check.number() as u64);
             io::write_all(2, b" ");
-            io::print_decimal(2, record as u64);
+            io::print_decimal(2, failure.record as u64);
             io::write_all(2, b"\n");
         }
     }

@@ -6,9 +6,8 @@ use Prim.Native.Nat.{ℕ, ◌-◌, ◌≤◌}
 use native.Mathlib.Omega.{arith}
 use mathlib.Core.Path.{◌≡◌, refl, sym, ap, ◌∙◌}
 use mathlib.Core.List.{List, ◌++◌}
-use lib.ListN.{length, take, drop, replicate, take-append-drop}
-use Rattle.expansion.specs.declared.Answer.{Answer}
-use Rattle.expansion.specs.declared.Answer.TheVariants.{Written, Refused}
+use lib.ListN.{length, take, replicate, take-append-drop}
+use Rattle.expansion.specs.Answer.{Answer, Written, Refused}
 use Rattle.bundle.specs.Bundle.{Bundle}
 use Rattle.expansion.specs.File.{file_of}
 use Rattle.expansion.specs.Expansion.{Outcome, writes}

@@ -14,7 +14,7 @@ use lib.ListN.{length, get_or}
 use Rattle.bundle.specs.Bundle.{Bundle}
 use Rattle.bundle.specs.Limits.{header_words, set_words, Within}
 use Rattle.bundle.specs.File.{counts_of, bundle_by, bundle_of}
-use Rattle.judgement.specs.declared.Answer.TheVariants.{Accepted}
+use Rattle.judgement.specs.Answer.{Accepted}
 use Rattle.judgement.specs.Judge.{acceptance, judge}
 use Rattle.judgement.specs.Demands.{Acceptable}
 use Rattle.judgement.proofs.Order.{first_fails, fails_first, failing_number}

@@ -33,7 +33,7 @@ use Rattle.logic.proofs.Formed.{tables_exactly}
 use Rattle.judgement.specs.Order.{Holds}
 use Rattle.judgement.proofs.Order.{none_fails, all_hold}
 use Rattle.logic.proofs.Headers.{header_exactly}
-use Rattle.expansion.specs.declared.Answer.TheVariants.{Written, Refused}
+use Rattle.expansion.specs.Answer.{Written, Refused}
 use Rattle.expansion.specs.Visit.{visited, expanded}
 use Rattle.expansion.specs.File.{counts_in, file_of}
 use Rattle.expansion.specs.Expansion.{long_enough, is_bare, rule_closed, job_fault, Outcome, outcome_of, expansion}

@@ -8,7 +8,7 @@ use Rattle.bundle.specs.File.{bundle_of}
 use Rattle.logic.specs.Tests.{first_failing, fault, or_else}
 use Rattle.logic.specs.Checks.{tables_fault}
 use Rattle.judgement.proofs.Sizes.{last_number, SmallFault, failing_le, none_small, else_small, next_small, tables_small}
-use Rattle.expansion.specs.declared.Answer.TheVariants.{Refused}
+use Rattle.expansion.specs.Answer.{Refused}
 use Rattle.expansion.specs.Expansion.{long_enough, job_tests, job_fault, expansion}
 use Rattle.expansion.proofs.JobChecks.{refused_job_where}
 

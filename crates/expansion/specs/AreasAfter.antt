@@ -1,7 +1,6 @@
 -- What a call leaves in the lent areas, and what is left before the zeros are written.
 use Rattle.std.specs.Prelude.{ℕ, ◌-◌, ◌≤◌, ◌≡◌, List, ◌++◌, length, take, replicate}
-use Rattle.expansion.specs.declared.Answer.{Answer}
-use Rattle.expansion.specs.declared.Answer.TheVariants.{Written, Refused}
+use Rattle.expansion.specs.Answer.{Answer, Written, Refused}
 use Rattle.expansion.specs.Expansion.{Outcome}
 
 -- the answer and every byte and word of the areas are those of the outcome

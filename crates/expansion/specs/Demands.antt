@@ -9,10 +9,10 @@ use Rattle.logic.specs.Lets.{holds_let}
 use Rattle.logic.specs.WellFormed.{HeaderFormed, TablesFormed}
 use Rattle.logic.specs.Values.{EqualValues}
 use Rattle.logic.specs.Longer.{Longer}
-use Rattle.judgement.specs.declared.Answer.TheVariants.{Accepted}
+use Rattle.judgement.specs.Answer.{Accepted}
 use Rattle.judgement.specs.Judge.{acceptance, judge}
 use Rattle.judgement.specs.Order.{FirstFailing}
-use Rattle.expansion.specs.declared.Answer.TheVariants.{Written, Refused}
+use Rattle.expansion.specs.Answer.{Written, Refused}
 use Rattle.expansion.specs.Visit.{visited}
 use Rattle.expansion.specs.File.{counts_in}
 use Rattle.expansion.specs.Expansion.{stack_words, Outcome, expansion}

@@ -4,11 +4,9 @@
 use Rattle.std.specs.Prelude.{ℕ, ◌≡◌, List, [], ◌∷◌, ◌++◌, replicate}
 use Rattle.bundle.specs.Words.{encode}
 use Rattle.logic.specs.Lists.{All}
-use Rattle.judgement.specs.declared.Answer.{Answer}
-use Rattle.judgement.specs.declared.Answer.TheVariants.{Accepted, Refused}
+use Rattle.judgement.specs.Answer.{Answer, Accepted, Refused}
 use Rattle.judgement.specs.Judge.{judge, area_after}
-use Rattle.expansion.specs.declared.Answer.{Answer as Reply}
-use Rattle.expansion.specs.declared.Answer.TheVariants.{Written}
+use Rattle.expansion.specs.Answer.{Answer as Reply, Written}
 use Rattle.expansion.specs.Expansion.{expansion}
 use Rattle.expansion.specs.ExampleFiles.{printed, bare, name_clash, fixed, unsettled, repeated, job, file, swapped}
 

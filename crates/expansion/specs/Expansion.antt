@@ -8,8 +8,7 @@ use Rattle.logic.specs.Tests.{Fault}
 use Rattle.logic.specs.Tests.{passed, up_to, Test, test, first_failing, fault, or_else, or_next}
 use Rattle.logic.specs.Free.{free_at}
 use Rattle.logic.specs.Checks.{tables_fault}
-use Rattle.expansion.specs.declared.Answer.{Answer}
-use Rattle.expansion.specs.declared.Answer.TheVariants.{Written, Refused}
+use Rattle.expansion.specs.Answer.{Answer, Written, Refused}
 use Rattle.expansion.specs.Visit.{visited, expanded}
 use Rattle.expansion.specs.File.{counts_in, file_of}
 

@@ -3,6 +3,7 @@
 --     Placed         terms looked up before they are appended: variables, applications, binders, lets
 --     Visit          THE VISITS, without limits: what each appends, in order
 --     File           the file of a bundle
+--     Answer         the two answers, and how the code gives them
 --     Expansion      the answer for every job and all lengths of the lent areas, and what is left there
 --     JobOrder       document 01's one order of the writer's checks, as one list
 --     AreasAfter     what is left in the areas
@@ -13,6 +14,7 @@ pub mod Nodes
 pub mod Placed
 pub mod Visit
 pub mod File
+pub mod Answer
 pub mod Expansion
 pub mod JobOrder
 pub mod AreasAfter

@@ -1,26 +1,28 @@
 // The job's way into the scratch.
 ghost use Rattle.std.specs.Prelude.{◌≡◌, ◌≤◌, length};
 ghost use Rattle.bundle.specs.Limits.{limits, words_of};
-ghost use Rattle.bundle.specs.File.{Whole, bundle_at};
-ghost use Rattle.scratch.specs.Scratch.{bundle_in};
 
 use super::sections::copy_section;
 use bundle::{Bundle, Counts};
+use scratch::Scratch;
 
-// Copies the header and every section of the job into its place in the scratch, where each section has room for its limit.
-pub fn copy_job(job: &[u8], b: Counts, words: &mut [u32])
-    requires { Whole job.now b × (words_of limits ≤ length words.old) }
-    ensures { (length words.new ≡ length words.old) × (bundle_in words.new b ≡ bundle_at job.now b) }
+// Copies the header and every section of the job into its place in the words, where each section has room for its limit.
+pub fn copy_job<'a>(job: &Bundle<'_>, words: &'a mut [u32]) -> Scratch<'a>
+    requires { (job.now.version ≡ 1) × (words_of limits ≤ length words.old) }
+    ensures { result ≡ job.now }
 {
+    let counts = job.counts();
+    let file = job.file();
     let room = Counts::largest();
-    let mut from = b.symbols_at();
+    let mut from = counts.symbols_at();
     let mut to = room.symbols_at();
-    copy_section(job, 0, words, 0, Bundle::HEADER);
+    copy_section(file, 0, words, 0, Bundle::HEADER);
     for s in 0..Bundle::SECTIONS {
-        let count = b.extent(s);
+        let count = counts.extent(s);
         let most = room.extent(s);
-        copy_section(job, from, words, to, count);
+        copy_section(file, from, words, to, count);
         from += count;
         to += most;
     }
+    Scratch::of(words, counts)
 }

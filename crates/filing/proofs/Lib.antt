@@ -1,5 +1,5 @@
 -- Laws that the functions' proofs share, here and in the crates above. Each file stands on those above it.
---     Seeks   terms looked up, for loops that count up
---     Filed   terms filed by their digests, and the walk down the chain of a digest
+--     Seeks        the first term that passes a test
+--     FiledTerms   terms filed by their digests, and the walk down the chain of a digest
 pub mod Seeks
-pub mod Filed
+pub mod FiledTerms

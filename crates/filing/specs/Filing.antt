@@ -3,7 +3,7 @@
 --
 -- One list of numbers, the index, holds it all: at place d, a digest, the newest term with digest d; at place `digests` + t the term before t among
 -- those with its digest; 0 for none.
-use Rattle.std.specs.Prelude.{ℕ, ◌+◌, ◌≡◌, cond, List, [], ◌∷◌, length, get_or, eqb}
+use Rattle.std.specs.Prelude.{ℕ, zero, suc, ◌+◌, ◌≡◌, Option, Some, None, cond, List, [], ◌∷◌, length, get_or, eqb}
 use Rattle.bundle.specs.Limits.{limits}
 use Rattle.bundle.specs.Bundle.{Bundle, TermRecord, term_of}
 use Rattle.bundle.specs.Links.{items}
@@ -41,3 +41,8 @@ pub record FiledTo (b : Bundle) (ix : List ℕ) (n : ℕ) : Type 0 where
 -- and holds all its terms
 abbrev pub Indexed : Bundle → List ℕ → Type 0
 Indexed b ix = FiledTo b ix (length b.terms)
+
+-- a lookup's answer: the number that it found, None for 0
+abbrev pub found : ℕ → Option ℕ
+found zero = None
+found (suc n) = Some (suc n)

@@ -1,187 +1,118 @@
-// Terms looked up in the scratch, the lowest number first; 0 where there is none. Each is looked for among the terms with its digest alone, from
-// the newest on: so the last that is found is the lowest.
-ghost use Rattle.std.specs.Prelude.{◌≡◌, true, false, ◌≤◌, ◌<◌, length};
-ghost use Rattle.bundle.specs.Bundle.{term_of};
+// Terms looked up in the scratch, the lowest number first. Each is looked for among the terms with its digest alone, from the newest on: so the last
+// that is found is the lowest.
+ghost use Rattle.std.specs.Prelude.{◌≡◌, Bool, true, false, ℕ, ◌<◌, ◌≤◌};
+ghost use Rattle.bundle.specs.Bundle.{TermRecord, term_of};
+ghost use Rattle.bundle.specs.Limits.{limits};
 ghost use Rattle.bundle.specs.Filed.{digests};
 ghost use Rattle.logic.specs.Terms.{Binder, binder, number_of};
 ghost use Rattle.logic.specs.Lookup.{seek, same_variable, same_application, same_binder, same_let};
-ghost use Rattle.scratch.specs.Scratch.{bundle_in, Roomy};
-ghost use Rattle.scratch.specs.Stack.{halves};
-ghost use Rattle.filing.specs.Filing.{mix_all, root_digest, let_digest, Indexed};
+ghost use Rattle.scratch.specs.Stack.{halves_of};
+ghost use Rattle.filing.specs.Filing.{mix_all, root_digest, let_digest, lookup_digest, found};
 
+use super::Filed;
+use bundle::Bundle;
 use bundle::digests::DIGESTS;
-use bundle::{Bundle, Counts};
 use logic::kinds::{APPLICATION, LET, VARIABLE};
-use scratch::lists::same_halves;
-use scratch::records::term_field;
+use scratch::Scratch;
 
 // Whether term t is the variable y.
-fn is_variable(words: &[u32], c: Counts, t: usize, y: usize) -> bool
-    requires { Roomy words.now c }
-    ensures { result ≡ same_variable y (term_of (bundle_in words.now c) t) }
+fn is_variable(scratch: &Scratch<'_>, t: usize, y: usize) -> bool
+    ensures { result ≡ same_variable y (term_of scratch.now t) }
 {
-    let kind = term_field(words, c, t, 0);
-    let first = term_field(words, c, t, 1);
-    (kind == VARIABLE) & (first == y)
+    let term = scratch.term_words(t);
+    (term.kind == VARIABLE) & (term.first == y)
 }
 
-// d is the digest of the variable.
-pub fn find_variable(
-    words: &[u32],
-    c: Counts,
-    index: &[u16; DIGESTS + Bundle::TERMS + 1],
-    d: usize,
-    y: usize,
-) -> usize
-    requires { Roomy words.now c × Indexed (bundle_in words.now c) index.now × (d < digests) × (d ≡ root_digest 1 y) }
-    ensures { result ≡ seek (same_variable y) (bundle_in words.now c).terms }
+// Whether term t is the symbol at the upper halves of pairs.
+fn is_application(scratch: &Scratch<'_>, t: usize, symbol: usize, arguments: &[u64]) -> bool
+    ensures { result ≡ same_application scratch.now symbol (halves_of true arguments.now) (term_of scratch.now t) }
 {
-    let mut found = 0;
-    let mut t = usize::from(index[d]);
-    while t != 0 {
-        let same = is_variable(words, c, t, y);
-        found = if same { t } else { found };
-        t = usize::from(index[DIGESTS + t]);
-    }
-    found
-}
-
-// Whether term t is the symbol at the results of the pairs from `from` to before `to`.
-fn is_application(
-    words: &[u32],
-    c: Counts,
-    t: usize,
-    symbol: usize,
-    stack: &[u64],
-    from: usize,
-    to: usize,
-) -> bool
-    requires { Roomy words.now c × (from ≤ to) × (to ≤ length stack.now) }
-    ensures { result ≡ same_application (bundle_in words.now c) symbol (halves true stack.now from to)
-        (term_of (bundle_in words.now c) t) }
-{
-    let kind = term_field(words, c, t, 0);
-    let first = term_field(words, c, t, 1);
-    let second = term_field(words, c, t, 2);
-    if kind != APPLICATION {
+    let term = scratch.term_words(t);
+    if term.kind != APPLICATION {
         return false;
     }
-    if first != symbol {
+    if term.first != symbol {
         return false;
     }
-    same_halves(words, c, second, stack, true, from, to)
-}
-
-// d is the digest of the application.
-pub fn find_application(
-    words: &[u32],
-    c: Counts,
-    index: &[u16; DIGESTS + Bundle::TERMS + 1],
-    d: usize,
-    symbol: usize,
-    stack: &[u64],
-    from: usize,
-    to: usize,
-) -> usize
-    requires { Roomy words.now c × Indexed (bundle_in words.now c) index.now × (d < digests)
-        × (d ≡ mix_all (root_digest 2 symbol) (halves true stack.now from to)) × (from ≤ to) × (to ≤ length stack.now) }
-    ensures { result ≡ seek (same_application (bundle_in words.now c) symbol (halves true stack.now from to))
-        (bundle_in words.now c).terms }
-{
-    let mut found = 0;
-    let mut t = usize::from(index[d]);
-    while t != 0 {
-        let same = is_application(words, c, t, symbol, stack, from, to);
-        found = if same { t } else { found };
-        t = usize::from(index[DIGESTS + t]);
-    }
-    found
+    scratch.same_halves(term.second, arguments, true)
 }
 
 // Whether term t has this kind, which is a binder's, this variable and this body.
-fn same_binder(words: &[u32], c: Counts, t: usize, kind: usize, y: usize, body: usize) -> bool
-    requires { Roomy words.now c }
-    ensures { (q : Binder) → kind ≡ number_of (binder q) → result ≡ same_binder q y body (term_of (bundle_in words.now c) t) }
+fn same_binder(scratch: &Scratch<'_>, t: usize, kind: usize, y: usize, body: usize) -> bool
+    ensures { (q : Binder) → kind ≡ number_of (binder q) → result ≡ same_binder q y body (term_of scratch.now t) }
 {
-    let own = term_field(words, c, t, 0);
-    let first = term_field(words, c, t, 1);
-    let second = term_field(words, c, t, 2);
-    (own == kind) & ((first == y) & (second == body))
+    let term = scratch.term_words(t);
+    (term.kind == kind) & ((term.first == y) & (term.second == body))
 }
 
-// d is the digest of the binder.
-pub fn find_binder(
-    words: &[u32],
-    c: Counts,
-    index: &[u16; DIGESTS + Bundle::TERMS + 1],
-    d: usize,
-    kind: usize,
-    y: usize,
-    body: usize,
-) -> usize
-    requires { Roomy words.now c × Indexed (bundle_in words.now c) index.now × (d < digests) × (d ≡ root_digest kind y) }
-    ensures { (q : Binder) → kind ≡ number_of (binder q) → result ≡ seek (same_binder q y body) (bundle_in words.now c).terms }
+// Whether term t is the let, in the term `body`, of pairs: a pair has a variable in its lower half and the variable's bound term in its upper.
+fn is_let(scratch: &Scratch<'_>, t: usize, body: usize, pairs: &[u64]) -> bool
+    ensures { result ≡ same_let scratch.now (halves_of false pairs.now) (halves_of true pairs.now) body (term_of scratch.now t) }
 {
-    let mut found = 0;
-    let mut t = usize::from(index[d]);
-    while t != 0 {
-        let same = same_binder(words, c, t, kind, y, body);
-        found = if same { t } else { found };
-        t = usize::from(index[DIGESTS + t]);
-    }
-    found
-}
-
-// Whether term t is the let, in the term `body`, of the pairs from `from` to before `to`: a pair has a variable in its lower half and the variable's
-// bound term in its upper.
-fn is_let(
-    words: &[u32],
-    c: Counts,
-    t: usize,
-    body: usize,
-    stack: &[u64],
-    from: usize,
-    to: usize,
-) -> bool
-    requires { Roomy words.now c × (from ≤ to) × (to ≤ length stack.now) }
-    ensures { result ≡ same_let (bundle_in words.now c) (halves false stack.now from to) (halves true stack.now from to) body
-        (term_of (bundle_in words.now c) t) }
-{
-    let kind = term_field(words, c, t, 0);
-    if kind != LET {
+    let term = scratch.term_words(t);
+    if term.kind != LET {
         return false;
     }
-    let variables = term_field(words, c, t, 1);
-    let bound = term_field(words, c, t, 2);
-    let inner = term_field(words, c, t, 3);
-    let p = same_halves(words, c, variables, stack, false, from, to);
-    let q = same_halves(words, c, bound, stack, true, from, to);
-    p & (q & (inner == body))
+    let named = scratch.same_halves(term.first, pairs, false);
+    let bound = scratch.same_halves(term.second, pairs, true);
+    named & (bound & (term.third == body))
 }
 
-// d is the digest of the let.
-pub fn find_let(
-    words: &[u32],
-    c: Counts,
-    index: &[u16; DIGESTS + Bundle::TERMS + 1],
-    d: usize,
-    body: usize,
-    stack: &[u64],
-    from: usize,
-    to: usize,
-) -> usize
-    requires { Roomy words.now c × Indexed (bundle_in words.now c) index.now × (d < digests)
-        × (d ≡ let_digest (halves false stack.now from to) (halves true stack.now from to) body) × (from ≤ to) × (to ≤ length stack.now) }
-    ensures { result ≡ seek
-        (same_let (bundle_in words.now c) (halves false stack.now from to) (halves true stack.now from to) body)
-        (bundle_in words.now c).terms }
-{
-    let mut found = 0;
-    let mut t = usize::from(index[d]);
-    while t != 0 {
-        let same = is_let(words, c, t, body, stack, from, to);
-        found = if same { t } else { found };
-        t = usize::from(index[DIGESTS + t]);
+impl<'a> Filed<'a> {
+    // The lowest term that passes a test, where all that pass have the digest d.
+    fn lowest<F: Fn(usize) -> bool>(&self, d: usize, same: F) -> Option<usize>
+        requires { (d < digests) × F.IsAlwaysCallable same }
+        ensures { (p : TermRecord → Bool) → ((t : ℕ) (r : Bool) → t ≤ limits.terms → F.post same t r → r ≡ p (term_of self.now t))
+            → ((r : TermRecord) → p r ≡ true → lookup_digest self.now r ≡ d)
+            → result ≡ found (seek p self.now.terms) }
+    {
+        // So each place that the chain names is in the index.
+        prove!(self.scratch.terms() <= Bundle::TERMS);
+        let mut lowest = None;
+        let mut t = usize::from(self.index[d]);
+        // No `for`: this follows the chain of a digest through the index.
+        while t != 0 {
+            if same(t) {
+                lowest = Some(t);
+            }
+            t = usize::from(self.index[DIGESTS + t]);
+        }
+        lowest
     }
-    found
+
+    // d is the digest of the variable.
+    pub fn find_variable(&self, d: usize, y: usize) -> Option<usize>
+        requires { (d < digests) × (d ≡ root_digest 1 y) }
+        ensures { result ≡ found (seek (same_variable y) self.now.terms) }
+    {
+        let scratch = self.scratch();
+        self.lowest(d, |t| is_variable(scratch, t, y))
+    }
+
+    // d is the digest of the application, of a symbol at the upper halves of pairs.
+    pub fn find_application(&self, d: usize, symbol: usize, arguments: &[u64]) -> Option<usize>
+        requires { (d < digests) × (d ≡ mix_all (root_digest 2 symbol) (halves_of true arguments.now)) }
+        ensures { result ≡ found (seek (same_application self.now symbol (halves_of true arguments.now)) self.now.terms) }
+    {
+        let scratch = self.scratch();
+        self.lowest(d, |t| is_application(scratch, t, symbol, arguments))
+    }
+
+    // d is the digest of the binder.
+    pub fn find_binder(&self, d: usize, kind: usize, y: usize, body: usize) -> Option<usize>
+        requires { (d < digests) × (d ≡ root_digest kind y) }
+        ensures { (q : Binder) → kind ≡ number_of (binder q) → result ≡ found (seek (same_binder q y body) self.now.terms) }
+    {
+        let scratch = self.scratch();
+        self.lowest(d, |t| same_binder(scratch, t, kind, y, body))
+    }
+
+    // d is the digest of the let.
+    pub fn find_let(&self, d: usize, body: usize, pairs: &[u64]) -> Option<usize>
+        requires { (d < digests) × (d ≡ let_digest (halves_of false pairs.now) (halves_of true pairs.now) body) }
+        ensures { result ≡ found (seek (same_let self.now (halves_of false pairs.now) (halves_of true pairs.now) body) self.now.terms) }
+    {
+        let scratch = self.scratch();
+        self.lowest(d, |t| is_let(scratch, t, body, pairs))
+    }
 }

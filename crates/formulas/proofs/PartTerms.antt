@@ -4,15 +4,14 @@
 --     variable_called_lem, symbol_called_lem                    names, by the counts of the declarations
 --     constant_none, constant_sort                      true and false are no variables; their sort is truth
 use Prim.Native.Nat.{ℕ, suc}
-use mathlib.Core.Path.{◌≡◌, refl, sym, ap, ap₂, ◌∙◌}
-use mathlib.Core.Bool.{Bool, true, false, cond, ◌&&◌, false≢true}
+use mathlib.Core.Path.{◌≡◌, refl, sym, ap}
+use mathlib.Core.Bool.{Bool, true, false, cond, false≢true}
 use mathlib.Core.List.{List, [], ◌∷◌, map}
 use lib.ListN.{length}
-use lib.Dec.{eqb, leb}
 use Rattle.bundle.specs.Bundle.{Bundle}
 use Rattle.logic.specs.Symbols.{truth_sort, signature_of, result_sort, kind_of_symbol, symbol_kind, signature}
-use Rattle.logic.specs.Terms.{Term, Terms, none, more}
-use Rattle.grammar.specs.Bytes.{Word, constant, negation, connective, quantifier, letting, sort, name, bytes, twelve, word_of}
+use Rattle.logic.specs.Terms.{more}
+use Rattle.grammar.specs.Bytes.{constant, name, bytes, twelve, word_of}
 use Rattle.grammar.specs.Grammar.{Formulas, no_formula, and_formula, Bindings, no_binding, and_binding}
 use Rattle.reading.specs.Called.{variable_called, symbol_called, number_after}
 use Rattle.reading.specs.Local.{plain, plain_all, plain_bound, bound_names}

@@ -2,7 +2,7 @@
 --     file_longer, all_longer                       records are appended
 --     no_level, no_place                            no level is left; no place for a pair is left
 --     applied_large, first_large, rest_large, ..    a term is too large where a part of it is
-use Prim.Native.Nat.{ℕ, suc, ◌+◌, ◌≤◌, ◌<◌, max}
+use Prim.Native.Nat.{ℕ, suc, ◌+◌, ◌≤◌, ◌<◌}
 use native.Mathlib.Omega.{arith}
 use mathlib.Core.Path.{◌≡◌}
 use mathlib.Core.List.{List}
@@ -13,9 +13,9 @@ use Rattle.logic.specs.Longer.{Longer}
 use Rattle.logic.proofs.Longer.{longer_refl, longer_trans}
 use Rattle.expansion.specs.Placed.{PlacedTerm}
 use Rattle.expansion.proofs.Grown.{variable_longer, application_longer, binder_longer, let_longer}
-use Rattle.placing.proofs.ScratchOutcomes.{longer_over}
-use Rattle.reading.specs.Records.{PlacedTerms, file, file_all, depth, depth_all}
-use Rattle.formulas.specs.Pending.{count, pending, pending_all}
+use Rattle.placing.proofs.OutcomeFacts.{longer_over}
+use Rattle.reading.specs.Records.{PlacedTerms, file, file_all, depth}
+use Rattle.formulas.specs.Pending.{count, pending}
 use Rattle.formulas.specs.ReadGives.{TooLarge, AllTooLarge}
 
 -- ---- records are appended

@@ -3,14 +3,13 @@
 --     pending_below                  at most so many parts wait at once in the term of that number
 --     Light, file_light              THE LAW: a formula's records have a link for each part
 --     pending_never_fits             THE THEOREM
-use Prim.Native.Nat.{ℕ, zero, suc, ◌+◌, ◌≤◌, ◌<◌, max}
+use Prim.Native.Nat.{ℕ, zero, suc, ◌+◌, ◌≤◌}
 use native.Mathlib.Omega.{arith}
 use native.Mathlib.Decide.{dec_le}
 use mathlib.Core.Path.{◌≡◌, refl, sym, ap, ap₂, ◌∙◌, subst}
-use mathlib.Core.List.{List, [], ◌∷◌, ◌++◌}
+use mathlib.Core.List.{List, [], ◌∷◌}
 use lib.ListN.{length, length-append}
 use Rattle.bundle.specs.Bundle.{Bundle, TermRecord}
-use Rattle.bundle.specs.Limits.{limits}
 use Rattle.bundle.specs.File.{bundle_of}
 use Rattle.logic.specs.Lists.{All, Number}
 use Rattle.logic.specs.Terms.{Term, Terms, var, app, bind, let_in, none, more, gather, tree}
@@ -20,15 +19,13 @@ use Rattle.logic.specs.Lookup.{seek, same_variable, same_application, same_binde
 use Rattle.logic.proofs.Longer.{longer_refl, longer_trans, list_longer, terms_longer, consecutive_length}
 use Rattle.logic.proofs.Kept.{tree_kept}
 use Rattle.logic.proofs.Shapes.{Shape, var_shape, app_shape, bind_shape, let_shape, shape}
-use Rattle.expansion.specs.Placed.{PlacedTerm, placed, place_variable, place_application, place_binder, place_let}
+use Rattle.expansion.specs.Placed.{PlacedTerm, placed}
 use Rattle.expansion.proofs.Grown.{lists_longer}
 use Rattle.expansion.proofs.AppendedChecked.{Checked}
 use Rattle.expansion.proofs.Placement.{PlacedAs}
-use Rattle.grammar.specs.Grammar.{Formula}
 use Rattle.reading.specs.Local.{plain}
 use Rattle.reading.specs.Records.{PlacedTerms, file, file_all}
-use Rattle.reading.specs.Answers.{ReadAs, FitsLimits, filed_for}
-use Rattle.reading.specs.Demands.{DeclarationsFormed}
+use Rattle.reading.specs.Answers.{filed_for}
 use Rattle.reading.proofs.TermSorts.{TermSorted, TermsSorted}
 use Rattle.reading.proofs.Records.{FiledAs, AllFiled, filed, all_filed}
 use Rattle.reading.proofs.Jobs.{declared_checked, term_sorted, job_filed}

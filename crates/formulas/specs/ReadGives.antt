@@ -1,15 +1,13 @@
 -- What the functions that read a formula ask and give: the records of its term, or that it does not fit.
-use Rattle.std.specs.Prelude.{ℕ, suc, ◌+◌, ◌≤◌, ◌<◌, ◌≡◌, Bool, true, false, cond, List, [], ◌∷◌, map, length}
-use Rattle.bundle.specs.declared.Counts.{Counts}
+use Rattle.std.specs.Prelude.{IfSome, ℕ, suc, ◌+◌, ◌≤◌, ◌<◌, ◌≡◌, Bool, true, false, cond, Option, Some, None, List, [], ◌∷◌, map, length}
 use Rattle.bundle.specs.Bundle.{Bundle}
 use Rattle.bundle.specs.File.{bundle_of}
-use Rattle.bundle.specs.Limits.{limits}
+use Rattle.bundle.specs.Limits.{limits, Within}
 use Rattle.logic.specs.Symbols.{truth_sort}
 use Rattle.logic.specs.Terms.{Binder, binder, number_of, Term, Terms, let_in, none, more}
-use Rattle.scratch.specs.Scratch.{bundle_in}
 use Rattle.scratch.specs.Stack.{halves}
 use Rattle.expansion.specs.File.{counts_in}
-use Rattle.placing.specs.Outcomes.{TooMuch, StandsFor, StackKept}
+use Rattle.placing.specs.Outcomes.{TooMuch, StackKept}
 use Rattle.grammar.specs.Grammar as grammar
 use Rattle.grammar.specs.Grammar.{Formula, SortedVariable, Lexeme, closes, spell, spell_variables}
 use Rattle.reading.specs.Called.{variable_called}
@@ -22,7 +20,7 @@ use Rattle.lexing.specs.Lexes.{lexemes_at}
 use Rattle.heads.specs.Places.{Part, spell_parts}
 use Rattle.endings.specs.declared.ReadTerm.{ReadTerm}
 use Rattle.endings.specs.declared.ReadParts.{ReadParts}
-use Rattle.endings.specs.ReadOutcomes.{Held, TermHeld, PartsHeld}
+use Rattle.endings.specs.ReadOutcomes.{TermFits}
 use Rattle.formulas.specs.Pending.{count, pending, pending_all}
 
 -- ---- parts, beside the declarations D
@@ -37,12 +35,12 @@ terms_of D (p ∷ ps) = more (plain D p.formula) (terms_of D ps)
 abbrev pub variable_of : Bundle → Bool → Part → ℕ
 variable_of D bound p = cond bound (variable_called D p.called) 0
 
--- the sort of the first: s where it is known already, or where there is none
-unfoldable pub first_sort : Bundle → Bool → ℕ → List Part → ℕ
+-- the sort of the first: s where it is known already; 0 where there is none
+unfoldable pub first_sort : Bundle → Option ℕ → List Part → ℕ
 unfolding head_sort
-first_sort D true s ps = s
-first_sort D false s [] = s
-first_sort D false s (p ∷ ps) = head_sort D p.formula
+first_sort D (Some s) ps = s
+first_sort D None [] = 0
+first_sort D None (p ∷ ps) = head_sort D p.formula
 
 -- the sort of a formula under variables of a quantifier
 unfoldable pub sort_under : Bundle → List SortedVariable → Formula → ℕ
@@ -66,76 +64,74 @@ pub data AllTooLarge (ts : Terms) (b : Bundle) (h n : ℕ) : Type 0 where
 
 -- ---- what is answered
 
--- r, and the words w after the call, are the records of τ after b, its sort s, and the lexemes ls that follow; or τ is too large
-pub data ReadOutcome (text : List ℕ) (τ : Term) (s : ℕ) (ls : List Lexeme) (b : Bundle) (h n : ℕ) (w : List ℕ) (r : ReadTerm) : Type 0 where
-  done : (c : Counts) (e : ℕ) → r ≡ ReadTerm.Done c (file τ b).term s e → bundle_in w c ≡ (file τ b).bundle → lexemes_at text e ≡ ls
-      → ReadOutcome text τ s ls b h n w r
-  full : TooLarge τ b h n → r ≡ ReadTerm.Full → ReadOutcome text τ s ls b h n w r
+-- r, and the bundle b' after the call, are the records of τ after b, its sort s, and the lexemes ls that follow; or τ is too large
+pub data ReadOutcome (text : List ℕ) (τ : Term) (s : ℕ) (ls : List Lexeme) (b : Bundle) (h n : ℕ) (b' : Bundle) (r : Option ReadTerm) : Type 0 where
+  done : (e : ℕ) → r ≡ Some (record { term = (file τ b).term; sort = s; end = e }) → b' ≡ (file τ b).bundle → lexemes_at text e ≡ ls
+      → ReadOutcome text τ s ls b h n b' r
+  full : TooLarge τ b h n → r ≡ None → ReadOutcome text τ s ls b h n b' r
 
 -- the same of m terms, whose pairs stand on the stack st from height h on: the terms, and the numbers vs
-pub data PartsOutcome (text : List ℕ) (ts : Terms) (vs : List ℕ) (m s : ℕ) (ls : List Lexeme) (b : Bundle) (h n : ℕ) (w st : List ℕ) (r : ReadParts) : Type 0
+pub data PartsOutcome (text : List ℕ) (ts : Terms) (vs : List ℕ) (m s : ℕ) (ls : List Lexeme) (b : Bundle) (h n : ℕ) (b' : Bundle) (st : List ℕ)
+    (r : Option ReadParts) : Type 0
   where
-    done : (c : Counts) (e : ℕ) → r ≡ ReadParts.Done c (h + m) s e → bundle_in w c ≡ (file_all ts b).bundle → halves true st h (h + m) ≡ (file_all ts b).terms
-        → halves false st h (h + m) ≡ vs → lexemes_at text e ≡ ls → PartsOutcome text ts vs m s ls b h n w st r
-    full : AllTooLarge ts b h n → r ≡ ReadParts.Full → PartsOutcome text ts vs m s ls b h n w st r
+    done : (e : ℕ) → r ≡ Some (record { height = h + m; sort = s; end = e }) → b' ≡ (file_all ts b).bundle → halves true st h (h + m) ≡ (file_all ts b).terms
+        → halves false st h (h + m) ≡ vs → lexemes_at text e ≡ ls → PartsOutcome text ts vs m s ls b h n b' st r
+    full : AllTooLarge ts b h n → r ≡ None → PartsOutcome text ts vs m s ls b h n b' st r
 
 -- ---- what a call asks, at byte i of the text, and what it leaves, whatever the text is
 
-pub record Asks (text w st ix : List ℕ) (c : Counts) (h i : ℕ) : Type 0 where
-  pub held : Held w ix c
+pub record Asks (text st : List ℕ) (h i : ℕ) : Type 0 where
   pub places : limits.links ≤ length st
   pub height : h ≤ limits.links
   pub here : i ≤ length text
 
-pub record Leaves (text w st : List ℕ) (h i : ℕ) (w' st' ix' : List ℕ) (r : ReadTerm) : Type 0 where
-  pub long : length w' ≡ length w
+pub record Leaves (text st : List ℕ) (h i : ℕ) (st' : List ℕ) (r : Option ReadTerm) : Type 0 where
   pub kept : StackKept st st' h
-  pub held : TermHeld w' ix' r
-  pub further : (c : Counts) (t s e : ℕ) → r ≡ ReadTerm.Done c t s e → (i < e) × (e ≤ length text)
+  pub word : TermFits r
+  pub further : IfSome r (λ t. (i < t.end) × (t.end ≤ length text))
 
-pub record LeavesParts (text w st : List ℕ) (h i : ℕ) (w' st' ix' : List ℕ) (r : ReadParts) : Type 0 where
-  pub long : length w' ≡ length w
+pub record LeavesParts (text st : List ℕ) (h i : ℕ) (st' : List ℕ) (r : Option ReadParts) : Type 0 where
   pub kept : StackKept st st' h
-  pub held : PartsHeld w' ix' st' h r
-  pub height : (c : Counts) (top s e : ℕ) → r ≡ ReadParts.Done c top s e → top ≤ limits.links
-  pub further : (c : Counts) (top s e : ℕ) → r ≡ ReadParts.Done c top s e → (i ≤ e) × (e ≤ length text)
+  pub height : IfSome r (λ p. (h ≤ p.height) × (p.height ≤ limits.links))
+  pub further : IfSome r (λ p. (i ≤ p.end) × (p.end ≤ length text))
 
--- ---- and what it gives, where the text spells this from byte i on: D has the declarations, b is the bundle before
+-- ---- and what it gives, where the text spells this from byte i on: D has the declarations, b is the bundle before, b' the one after
 
 -- a formula
-abbrev pub Reads : (D : Bundle) (text : List ℕ) (b : Bundle) (h i n : ℕ) (w' : List ℕ) (r : ReadTerm) → Type 0
-Reads D text b h i n w' r =
-    (φ : Formula) (rest : List Lexeme) → lexemes_at text i ≡ spell φ rest → ReadOutcome text (plain D φ) (head_sort D φ) rest b h n w' r
+abbrev pub Reads : (D : Bundle) (text : List ℕ) (b : Bundle) (h i n : ℕ) (b' : Bundle) (r : Option ReadTerm) → Type 0
+Reads D text b h i n b' r =
+    (φ : Formula) (rest : List Lexeme) → lexemes_at text i ≡ spell φ rest → ReadOutcome text (plain D φ) (head_sort D φ) rest b h n b' r
 
 -- the variables of a quantifier of this kind, its body and its closing bracket
-abbrev pub ReadsQuantified : (D : Bundle) (text : List ℕ) (b : Bundle) (h i n kind : ℕ) (w' : List ℕ) (r : ReadTerm) → Type 0
-ReadsQuantified D text b h i n kind w' r =
+abbrev pub ReadsQuantified : (D : Bundle) (text : List ℕ) (b : Bundle) (h i n kind : ℕ) (b' : Bundle) (r : Option ReadTerm) → Type 0
+ReadsQuantified D text b h i n kind b' r =
     (q : Binder) (xs : List SortedVariable) (φ : Formula) (rest : List Lexeme)
     → kind ≡ number_of (binder q) → lexemes_at text i ≡ spell_variables xs (spell φ (closes ∷ rest))
-    → ReadOutcome text (nested D q xs (plain D φ)) (sort_under D xs φ) rest b h n w' r
+    → ReadOutcome text (nested D q xs (plain D φ)) (sort_under D xs φ) rest b h n b' r
 
 -- the pairs of a let, its body and its closing bracket; the let is one level more
-abbrev pub ReadsLet : (D : Bundle) (text : List ℕ) (b : Bundle) (h i n : ℕ) (w' : List ℕ) (r : ReadTerm) → Type 0
-ReadsLet D text b h i n w' r =
+abbrev pub ReadsLet : (D : Bundle) (text : List ℕ) (b : Bundle) (h i n : ℕ) (b' : Bundle) (r : Option ReadTerm) → Type 0
+ReadsLet D text b h i n b' r =
     (ps : List Part) (φ : Formula) (rest : List Lexeme) → lexemes_at text i ≡ spell_parts true ps (spell φ (closes ∷ rest))
-    → ReadOutcome text (let_in (map (variable_of D true) ps) (terms_of D ps) (plain D φ)) (head_sort D φ) rest b h (suc n) w' r
+    → ReadOutcome text (let_in (map (variable_of D true) ps) (terms_of D ps) (plain D φ)) (head_sort D φ) rest b h (suc n) b' r
 
 -- parts, where the sort of the first is known or not
-abbrev pub ReadsParts : (D : Bundle) (text : List ℕ) (b : Bundle) (h i n : ℕ) (bound known : Bool) (s : ℕ) (w' st' : List ℕ) (r : ReadParts) → Type 0
-ReadsParts D text b h i n bound known s w' st' r =
+abbrev pub ReadsParts : (D : Bundle) (text : List ℕ) (b : Bundle) (h i n : ℕ) (bound : Bool) (first : Option ℕ) (b' : Bundle) (st' : List ℕ)
+    (r : Option ReadParts) → Type 0
+ReadsParts D text b h i n bound first b' st' r =
     (ps : List Part) (rest : List Lexeme) → lexemes_at text i ≡ spell_parts bound ps rest
-    → PartsOutcome text (terms_of D ps) (map (variable_of D bound) ps) (length ps) (first_sort D known s ps) rest b h n w' st' r
+    → PartsOutcome text (terms_of D ps) (map (variable_of D bound) ps) (length ps) (first_sort D first ps) rest b h n b' st' r
 
 -- ---- a whole text
 
--- r, and the words w after the call, are the records of the term of φ after b; or that term is too large
-pub data TextOutcome (D : Bundle) (φ : Formula) (b : Bundle) (w : List ℕ) (r : ReadTerm) : Type 0 where
-  done : StandsFor w (file (plain D φ) b).bundle → (e : ℕ)
-      → r ≡ ReadTerm.Done (counts_in (file (plain D φ) b).bundle) (file (plain D φ) b).term (head_sort D φ) e → TextOutcome D φ b w r
-  full : TooLarge (plain D φ) b 0 limits.terms → r ≡ ReadTerm.Full → TextOutcome D φ b w r
+-- r, and the bundle b' after the call, are the records of the term of φ after b; or that term is too large
+pub data TextOutcome (D : Bundle) (φ : Formula) (b b' : Bundle) (r : Option ReadTerm) : Type 0 where
+  done : Within (counts_in (file (plain D φ) b).bundle) → b' ≡ (file (plain D φ) b).bundle → (e : ℕ)
+      → r ≡ Some (record { term = (file (plain D φ) b).term; sort = head_sort D φ; end = e }) → TextOutcome D φ b b' r
+  full : TooLarge (plain D φ) b 0 limits.terms → r ≡ None → TextOutcome D φ b b' r
 
-abbrev pub ReadsText : (D : Bundle) (text : List ℕ) (b : Bundle) (w : List ℕ) (r : ReadTerm) → Type 0
-ReadsText D text b w r = (φ : Formula) → grammar.Reads text φ → TextOutcome D φ b w r
+abbrev pub ReadsText : (D : Bundle) (text : List ℕ) (b b' : Bundle) (r : Option ReadTerm) → Type 0
+ReadsText D text b b' r = ((φ : Formula) → grammar.Reads text φ → TextOutcome D φ b b' r) × TermFits r
 
 -- What is too large for the declarations alone does not fit: so the answer is 16 exactly where the text's job is not within the limits.
 abbrev pub TooLargeNeverFits : Type 0

@@ -24,7 +24,7 @@ use Rattle.logic.proofs.Firsts.{or_else_here, next_both, both_next}
 use Rattle.logic.proofs.Formed.{well_formed_exactly}
 use Rattle.logic.proofs.Instances.{steps_exactly}
 use Rattle.judgement.specs.declared.Acceptance.{Acceptance}
-use Rattle.judgement.specs.declared.Answer.TheVariants.{Accepted, Refused}
+use Rattle.judgement.specs.Answer.{Accepted, Refused}
 use Rattle.judgement.specs.Judge.{acceptance, required, claim_tests, late_fault, fault_of, answer_of, judge}
 use Rattle.judgement.specs.Demands.{LastIsClaim, Acceptable}
 use Rattle.logic.proofs.Headers.{header_exactly}

@@ -19,7 +19,7 @@ use Rattle.logic.specs.Checks.{header_tests, header_fault, link_tests, link_faul
 use Rattle.logic.specs.Checks.{links_fault, symbols_fault, variables_fault, terms_fault, sections_fault, tables_fault}
 use Rattle.logic.specs.Contexts.{context_tests, context_fault, contexts_fault}
 use Rattle.logic.specs.Rules.{step_tests, step_fault, steps_fault}
-use Rattle.judgement.specs.declared.Answer.TheVariants.{Refused}
+use Rattle.judgement.specs.Answer.{Refused}
 use Rattle.judgement.specs.Judge.{required, claim_tests, late_fault, fault_of, judge}
 use Rattle.logic.proofs.Headers.{header_exactly}
 use Rattle.judgement.proofs.Accepting.{refused_where}

@@ -13,7 +13,7 @@ use Rattle.logic.specs.Values.{EqualValues}
 use Rattle.logic.specs.ReflWalk.{pair_limit}
 use Rattle.logic.specs.Statements.{LastWalked}
 use Rattle.judgement.specs.declared.Acceptance.{Acceptance}
-use Rattle.judgement.specs.declared.Answer.TheVariants.{Accepted, Refused}
+use Rattle.judgement.specs.Answer.{Accepted, Refused}
 use Rattle.judgement.specs.Judge.{acceptance, judge, area_after}
 use Rattle.judgement.specs.Order.{all_checks, Holds, FirstFailing}
 

@@ -10,8 +10,7 @@ use Rattle.logic.specs.Checks.{tables_fault}
 use Rattle.logic.specs.Contexts.{contexts_fault}
 use Rattle.logic.specs.Rules.{steps_fault, last_pairs}
 use Rattle.judgement.specs.declared.Acceptance.{Acceptance}
-use Rattle.judgement.specs.declared.Answer.{Answer}
-use Rattle.judgement.specs.declared.Answer.TheVariants.{Accepted, Refused}
+use Rattle.judgement.specs.Answer.{Answer, Accepted, Refused}
 
 -- The checker is lent 64-bit words, at least so many for each of T terms.
 abbrev pub required : List ℕ → ℕ

@@ -1,4 +1,4 @@
-// The answer of the checker, as a type: what `check` answers to every file is in specs/, with the demands and their proofs.
+// What is said of an accepted file, as a type: what `check` answers to every file is in specs/, with the demands and their proofs.
 #![tactic(auto)]
 
 // What is said of a file that is accepted: the claim, by its two term numbers, and the number of pairs of the last REFL walked, 0 if none was.
@@ -7,12 +7,4 @@ pub struct Acceptance {
     pub left: usize,
     pub right: usize,
     pub pairs: usize,
-}
-
-// The answer to a file.
-#[derive(Clone, Copy)]
-pub enum Answer {
-    Accepted(Acceptance),
-    // The number of the first check that fails, and its record.
-    Refused { number: usize, record: usize },
 }

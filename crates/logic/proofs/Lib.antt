@@ -3,6 +3,7 @@
 --     Firsts           first faults, for loops over a section
 --     Tests            tests put together and taken apart
 --     UpTo             a test of every lower number, for a loop that counts down
+--     CheckNumbers     a check has a number
 --     Headers          the tests of the header and of the area, and what they say
 --     TermKinds        kinds of terms and their numbers
 --     KindTests        the kind of a term's record as code tests it, and the record by its fields
@@ -52,6 +53,7 @@ pub mod Tables
 pub mod Firsts
 pub mod Tests
 pub mod UpTo
+pub mod CheckNumbers
 pub mod Headers
 pub mod TermKinds
 pub mod KindTests

@@ -1,6 +1,6 @@
 // The checks by name, in the order of their numbers; and which one fails.
 ghost use Rattle.std.specs.Prelude.{◌≡◌};
-ghost use Rattle.logic.specs.Failures.{number_of};
+ghost use Rattle.logic.specs.Failures.{check_number};
 
 // Where a check says what is wrong, it fails at the first record of which that is true.
 #[derive(Clone, Copy, Debug, PartialEq, Eq)]
@@ -54,7 +54,7 @@ pub enum Check {
 impl Check {
     // Its number.
     pub fn number(self) -> usize
-        ensures { result ≡ number_of self }
+        ensures { result ≡ check_number self }
     {
         match self {
             Check::Length => 1,
@@ -88,4 +88,13 @@ impl Check {
 pub struct Failure {
     pub check: Check,
     pub record: usize,
+}
+
+// A check of the file as a whole is of no record.
+impl From<Check> for Failure {
+    ghost from_gives = { λ c f. f ≡ record { check = c; «record» = 0 } };
+
+    fn from(check: Check) -> Failure {
+        Failure { record: 0, check }
+    }
 }

@@ -8,7 +8,7 @@ pub mod checks; // checks.rt: the checks, and which one fails
 pub mod kinds; // kinds.rt: the kinds of terms and of contexts
 pub mod rules; // rules.rt: the rules
 
-// What a walk over lists of links finds: whether they pass its test, and how many links it read.
+// What a walk over lists of links finds: whether they pass its test, and how many links it read, which counts also where they do not.
 #[derive(Clone, Copy)]
 pub struct Walk {
     pub passes: bool,

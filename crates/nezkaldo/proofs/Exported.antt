@@ -22,14 +22,12 @@ use lib.ListN.{length, take}
 use Rattle.bundle.specs.Limits.{limits, header_words, bytes_of}
 use Rattle.bundle.specs.File.{bundle_of}
 use Rattle.judgement.specs.declared.Acceptance.{Acceptance}
-use Rattle.judgement.specs.declared.Answer.{Answer}
-use Rattle.judgement.specs.declared.Answer.TheVariants.{Accepted, Refused}
+use Rattle.judgement.specs.Answer.{Answer, Accepted, Refused}
 use Rattle.judgement.specs.Judge.{judge}
 use Rattle.judgement.proofs.Sizes.{last_number, refused_small}
 use Rattle.judgement.proofs.Accepting.{refused_where}
 use Rattle.judgement.proofs.Demands.{refused_exactly, accepted_exactly, accepted_sound, accepted_closed, accepted_pairs}
-use Rattle.expansion.specs.declared.Answer.{Answer as Reply}
-use Rattle.expansion.specs.declared.Answer.TheVariants.{Written, Refused as Denied}
+use Rattle.expansion.specs.Answer.{Answer as Reply, Written, Refused as Denied}
 use Rattle.expansion.specs.Visit.{expanded}
 use Rattle.expansion.specs.File.{file_of}
 use Rattle.expansion.specs.Expansion.{Outcome, expansion}

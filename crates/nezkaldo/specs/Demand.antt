@@ -5,12 +5,10 @@ use Rattle.bundle.specs.File.{counts_of, bundle_of}
 use Rattle.logic.specs.Terms.{tree}
 use Rattle.logic.specs.Free.{Closed}
 use Rattle.logic.specs.Values.{EqualValues}
-use Rattle.judgement.specs.declared.Answer.{Answer}
+use Rattle.judgement.specs.Answer.{Answer, Accepted}
 use Rattle.judgement.specs.declared.Acceptance.{Acceptance}
-use Rattle.judgement.specs.declared.Answer.TheVariants.{Accepted}
 use Rattle.judgement.specs.Judge.{acceptance, judge}
-use Rattle.expansion.specs.declared.Answer.{Answer as Reply}
-use Rattle.expansion.specs.declared.Answer.TheVariants.{Written}
+use Rattle.expansion.specs.Answer.{Answer as Reply, Written}
 use Rattle.expansion.specs.Expansion.{expansion}
 use Rattle.expansion.specs.AreasAfter.{Left}
 use Rattle.expansion.specs.Demands.{Bytes, JobFormed, Fits, LongEnough, WrittenWell}

@@ -11,7 +11,7 @@ use Rattle.logic.specs.Statements.{LastWalked}
 use Rattle.judgement.specs.Judge.{judge}
 use Rattle.judgement.specs.Order.{all_checks, FirstFailing}
 use Rattle.judgement.specs.Demands.{Acceptable}
-use Rattle.expansion.specs.declared.Answer.TheVariants.{Written}
+use Rattle.expansion.specs.Answer.{Written}
 use Rattle.expansion.specs.Expansion.{Outcome, expansion}
 use Rattle.expansion.specs.JobOrder.{all_job_checks}
 use Rattle.expansion.specs.Demands.{Bytes, JobFormed, Fits, LongEnough, WrittenWell}

@@ -1,9 +1,7 @@
 -- Answers as one number, for other languages.
 use Rattle.std.specs.Prelude.{ℕ, ◌+◌, ◌*◌}
-use Rattle.judgement.specs.declared.Answer.{Answer}
-use Rattle.judgement.specs.declared.Answer.TheVariants.{Accepted, Refused}
-use Rattle.expansion.specs.declared.Answer.{Answer as Reply}
-use Rattle.expansion.specs.declared.Answer.TheVariants.{Written, Refused as Denied}
+use Rattle.judgement.specs.Answer.{Answer, Accepted, Refused}
+use Rattle.expansion.specs.Answer.{Answer as Reply, Written, Refused as Denied}
 
 -- the number of pairs of the last REFL walked where the file is accepted, else number · 2^32 + record
 unfoldable pub packed : Answer → ℕ

@@ -3,11 +3,12 @@
 
 ghost use Rattle.std.specs.Prelude.{◌≡◌, ◌+◌, ◌*◌, ◌≤◌, length};
 ghost use Rattle.judgement.specs.Judge.{judge, area_after};
+ghost use Rattle.expansion.specs.Answer.{answer_in};
 ghost use Rattle.expansion.specs.Expansion.{expansion};
 ghost use Rattle.reading.specs.Reading.{reading};
 ghost use Rattle.nezkaldo.specs.Packed.{packed, packed_reply};
 
-use judgement::Answer;
+use logic::checks::Failure;
 
 // Number and record in one word.
 fn pack(number: usize, place: usize) -> u64
@@ -23,21 +24,20 @@ pub fn nezkaldo_check(file: &[u8], free: &mut [u64]) -> u64
     ensures value { result ≡ packed (judge file.now (length free.old)) }
     ensures free_after { free.new ≡ area_after file.now (length free.old) }
 {
-    let answer = checker::check(file, free);
-    match answer {
-        Answer::Accepted(acceptance) => acceptance.pairs as u64,
-        Answer::Refused { number, record } => pack(number, record),
+    match checker::check(file, free) {
+        Ok(acceptance) => acceptance.pairs as u64,
+        Err(failure) => pack(failure.check.number(), failure.record),
     }
 }
 
 // A file's length, or number and record in one word.
-fn reply_number(reply: expansion::Answer) -> u64
-    requires { packed_reply reply ≤ 18446744073709551615 }
-    ensures { result ≡ packed_reply reply }
+fn reply_number(reply: Result<usize, Failure>) -> u64
+    requires { packed_reply (answer_in reply) ≤ 18446744073709551615 }
+    ensures { result ≡ packed_reply (answer_in reply) }
 {
     match reply {
-        expansion::Answer::Written { length } => length as u64,
-        expansion::Answer::Refused { number, record } => pack(number, record),
+        Ok(length) => length as u64,
+        Err(denied) => pack(denied.check.number(), denied.record),
     }
 }
 

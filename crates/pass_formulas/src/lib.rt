@@ -1,4 +1,4 @@
-// A formula read in one pass: its structure, its names, its sorts and its records together. 0 is answered where the pass is given up, and nothing is
+// A formula read in one pass: its structure, its names, its sorts and its records together. `None` is answered where the pass is given up, and nothing is
 // promised then: the text may be refused, or need more room than there is.
 #![tactic(auto)]
 

@@ -1,7 +1,5 @@
 -- Laws. Each file stands on those above it.
---     Declarations   what the declarations say, by their header
 --     PairSorts      a list compared with the lower halves of pairs
 --     PairsPut       from a placement, and its pair on the stack, to what is promised of both
-pub mod Declarations
 pub mod PairSorts
 pub mod PairsPut

@@ -1,63 +1,42 @@
 // Words, heads and variables of a text beside declarations.
 ghost use Rattle.std.specs.Prelude.{◌≤◌, length};
-ghost use Rattle.bundle.specs.File.{Whole, counts_of};
 ghost use Rattle.pass_tokens.specs.Tokens.{WordAt, HeadAt, BoundAt};
 ghost use Rattle.pass_terms.specs.Passing.{DeclaredAt};
 
-use super::declared::{declared_sort, declared_symbols, declared_variables};
+use bundle::Bundle;
 use pass_tokens::places::{bound_at, head_at, sorted_at};
 use pass_tokens::words::word_at;
-use pass_tokens::{Item, Token};
+use pass_tokens::{Bound, Sorted, Token};
 
-pub fn word_in(file: &[u8], text: &[u8], i: usize) -> Token
-    requires { Whole file.now (counts_of file.now) × (i ≤ length text.now) }
-    ensures { WordAt (counts_of file.now).symbols (counts_of file.now).variables text.now i result }
+pub fn word_in(bundle: &Bundle, text: &[u8], i: usize) -> Option<Token>
+    requires { i ≤ length text.now }
+    ensures { WordAt (length bundle.now.symbols) (length bundle.now.variables) text.now i result }
 {
-    let symbols = declared_symbols(file);
-    let variables = declared_variables(file);
-    word_at(text, symbols, variables, i)
+    word_at(text, bundle.symbols(), bundle.variables(), i)
 }
 
-pub fn head_in(file: &[u8], text: &[u8], i: usize) -> Token
-    requires { Whole file.now (counts_of file.now) × (i ≤ length text.now) }
-    ensures { HeadAt (counts_of file.now).symbols text.now i result }
+pub fn head_in(bundle: &Bundle, text: &[u8], i: usize) -> Option<Token>
+    requires { i ≤ length text.now }
+    ensures { HeadAt (length bundle.now.symbols) text.now i result }
 {
-    let symbols = declared_symbols(file);
-    let variables = declared_variables(file);
-    head_at(text, symbols, variables, i)
+    head_at(text, bundle.symbols(), bundle.variables(), i)
 }
 
-pub fn bound_in(file: &[u8], text: &[u8], i: usize) -> Item
-    requires { Whole file.now (counts_of file.now) × (i ≤ length text.now) }
-    ensures { BoundAt (counts_of file.now).variables text.now i result }
+pub fn bound_in(bundle: &Bundle, text: &[u8], i: usize) -> Option<Bound>
+    requires { i ≤ length text.now }
+    ensures { BoundAt (length bundle.now.variables) text.now i result }
 {
-    let symbols = declared_symbols(file);
-    let variables = declared_variables(file);
-    bound_at(text, symbols, variables, i)
+    bound_at(text, bundle.symbols(), bundle.variables(), i)
 }
 
 // A variable of a quantifier's list, with its declared sort.
-pub fn sorted_in(file: &[u8], text: &[u8], i: usize) -> Item
-    requires { Whole file.now (counts_of file.now) × (i ≤ length text.now) }
-    ensures { DeclaredAt file.now text.now i result }
+pub fn sorted_in(bundle: &Bundle, text: &[u8], i: usize) -> Option<Sorted>
+    requires { i ≤ length text.now }
+    ensures { DeclaredAt bundle.now text.now i result }
 {
-    let symbols = declared_symbols(file);
-    let variables = declared_variables(file);
-    let x = sorted_at(text, symbols, variables, i);
-    let v = x.variable;
-    let sort = x.sort;
-    let end = x.end;
-    let own = declared_sort(file, v);
-    if own != sort {
-        return Item {
-            variable: 0,
-            sort: 0,
-            end: 0,
-        };
+    let x = sorted_at(text, bundle.symbols(), bundle.variables(), i)?;
+    if bundle.variable_sort(x.variable) != x.sort {
+        return None;
     }
-    Item {
-        variable: v,
-        sort,
-        end,
-    }
+    Some(x)
 }

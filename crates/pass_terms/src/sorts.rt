@@ -1,15 +1,14 @@
 // The sorts that a symbol takes, and the variables of a let.
-ghost use Rattle.std.specs.Prelude.{◌≡◌, false, not, ◌≤◌, length, replicate};
-ghost use Rattle.bundle.specs.Limits.{limits};
+ghost use Rattle.std.specs.Prelude.{◌≡◌, false, not, replicate};
 ghost use Rattle.bundle.specs.Links.{items};
 ghost use Rattle.bundle.specs.Lists.{same_list, has};
 ghost use Rattle.logic.specs.Symbols.{argument_sorts};
-ghost use Rattle.scratch.specs.Stack.{halves};
+ghost use Rattle.scratch.specs.Stack.{halves_of};
 ghost use Rattle.pass_tokens.specs.Tokens.{equal_on};
 
 use bundle::Bundle;
 use logic::Signature;
-use scratch::lists::half;
+use scratch::pairs::half;
 
 // 8 for equality where its first argument is an item.
 pub fn equal_on(symbol: usize, sort: usize) -> usize
@@ -22,77 +21,58 @@ pub fn equal_on(symbol: usize, sort: usize) -> usize
     }
 }
 
-// Whether the pairs from `from` to before `to` are so many, each of the same sort.
-fn all_of_sort(stack: &[u64], from: usize, to: usize, count: usize, sort: usize) -> bool
-    requires { (from ≤ to) × (to ≤ length stack.now) }
-    ensures { result ≡ same_list (replicate count sort) (halves false stack.now from to) }
+// Whether there are so many pairs, each with the same sort below.
+fn all_of_sort(pairs: &[u64], count: usize, sort: usize) -> bool
+    ensures { result ≡ same_list (replicate count sort) (halves_of false pairs.now) }
 {
-    let mut left = count;
-    for at in from..to {
-        if left == 0 {
-            return false;
-        }
-        let pair = stack[at];
-        if sort != half(pair, false) {
-            return false;
-        }
-        left -= 1;
+    if pairs.len() != count {
+        return false;
     }
-    left == 0
+    for pair in pairs {
+        if sort != half(*pair, false) {
+            return false;
+        }
+    }
+    true
 }
 
-// Whether the pairs from `from` to before `to` have the sorts of a list, one each.
-fn sorts_of(bundle: &Bundle, list: usize, stack: &[u64], from: usize, to: usize) -> bool
-    requires { (from ≤ to) × (to ≤ length stack.now) }
-    ensures { result ≡ same_list (items bundle.now list) (halves false stack.now from to) }
+// Whether pairs have the sorts of a list below, one each.
+fn sorts_of(bundle: &Bundle, list: usize, pairs: &[u64]) -> bool
+    ensures { result ≡ same_list (items bundle.now list) (halves_of false pairs.now) }
 {
     let mut sorts = bundle.items(list);
-    for at in from..to {
+    for pair in pairs {
         let Some(sort) = sorts.next() else {
             return false;
         };
-        let pair = stack[at];
-        if sort != half(pair, false) {
+        if sort != half(*pair, false) {
             return false;
         }
     }
     sorts.next().is_none()
 }
 
-// Whether a symbol of this signature takes the sorts of the pairs from `from` to before `to`.
-pub fn takes(bundle: &Bundle, s: Signature, stack: &[u64], from: usize, to: usize) -> bool
-    requires { (from ≤ to) × (to ≤ length stack.now) }
-    ensures { result ≡ same_list (argument_sorts bundle.now s) (halves false stack.now from to) }
+// Whether a symbol of this signature takes the sorts of pairs.
+pub fn takes(bundle: &Bundle, s: Signature, pairs: &[u64]) -> bool
+    ensures { result ≡ same_list (argument_sorts bundle.now s) (halves_of false pairs.now) }
 {
     match s {
         Signature::BuiltIn {
             count,
             sort,
             result: _,
-        } => all_of_sort(stack, from, to, count, sort),
-        Signature::Declared(i) => {
-            let list = bundle.symbol_field(i, 1);
-            sorts_of(bundle, list, stack, from, to)
-        }
-        Signature::Unknown => from == to,
+        } => all_of_sort(pairs, count, sort),
+        Signature::Declared(i) => sorts_of(bundle, bundle.symbol_field(i, 1), pairs),
+        Signature::Unknown => pairs.is_empty(),
     }
 }
 
-// Whether the variable x is not in the lower half of a pair from `from` to before `to`.
-pub fn is_new(stack: &[u64; Bundle::LINKS], from: usize, to: usize, x: usize) -> bool
-    requires { (from ≤ to) × (to ≤ limits.links) }
-    ensures { result ≡ not (has x (halves false stack.now from to)) }
+// Whether the variable x is not in the lower half of a pair.
+pub fn is_new(pairs: &[u64], x: usize) -> bool
+    ensures { result ≡ not (has x (halves_of false pairs.now)) }
 {
-    not_among(stack, from, to, x)
-}
-
-fn not_among(stack: &[u64], from: usize, to: usize, x: usize) -> bool
-    requires { (from ≤ to) × (to ≤ length stack.now) }
-    ensures { result ≡ not (has x (halves false stack.now from to)) }
-{
-    for at in from..to {
-        let pair = stack[at];
-        if x == half(pair, false) {
+    for pair in pairs {
+        if x == half(*pair, false) {
             return false;
         }
     }

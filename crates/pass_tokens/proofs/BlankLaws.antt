@@ -2,7 +2,7 @@
 --     line_start, line_on, line_feed, line_return, line_past   a comment up to its line's end, as `blanks::line_end` goes over it
 --     blanks_start, on_space, on_other, comment_on              white space and comments, as `blanks::past_blanks` goes over them
 --     seen_byte, opens_at, closes_at                           a byte that stands there; brackets
---     closed, not_closed                                       the answers of `blanks::closed_at`
+--     closed                                                   the answer of `blanks::closed_at`
 use Prim.Native.Nat.{ℕ, suc, ◌+◌, ◌≤◌, ◌<◌}
 use native.Mathlib.Omega.{arith}
 use native.Mathlib.Numerals.{add-one}
@@ -17,7 +17,7 @@ use Rattle.grammar.specs.Bytes.{Class, space, lineEnd, semicolon, opening, closi
 use Rattle.grammar.specs.Grammar.{opens, closes, Mode, between, comment, bracket, ends, outside, onwards, last, lexemes_from}
 use Rattle.lexing.specs.Lexes.{lexemes_at}
 use Rattle.lexing.proofs.SkipLaws.{step, past}
-use Rattle.pass_tokens.specs.Tokens.{LineEnd, Blanks, ClosedAt}
+use Rattle.pass_tokens.specs.Tokens.{LineEnd, Blanks, ClosedTo}
 
 -- one byte of a known class
 module _ (text : List ℕ) (j : ℕ) (l : j < length text) (m : Mode) (k : Class) where
@@ -156,10 +156,7 @@ closes_at text i e =
     let l = seen_byte text i 41 e (omega arith) in
     (l, rw (add-one i) (step_class text i l between closing (ap class_of e)))
 
-pub closed : (text : List ℕ) (i j : ℕ) → Blanks text i j → get_or text j 0 ≡ 41 → ClosedAt text i (j + 1)
+pub closed : (text : List ℕ) (i j : ℕ) → Blanks text i j → get_or text j 0 ≡ 41 → ClosedTo text i (j + 1)
 closed text i j h e =
     let f = closes_at text j e in
-    record { inside = omega (arith, f.0); closed = λ x. (omega (arith, h.after), h.same ∙ f.1) }
-
-pub not_closed : (text : List ℕ) (i : ℕ) → ClosedAt text i 0
-not_closed text i = record { inside = omega arith; closed = λ x. absurd (x refl) }
+    record { further = omega (arith, h.after); inside = omega (arith, f.0); closed = h.same ∙ f.1 }

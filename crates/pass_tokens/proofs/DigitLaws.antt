@@ -1,6 +1,6 @@
 -- Laws of digits, one by one, as `words::numeral` reads them.
 --     digits_start, digits_on     digits so far
---     digits_end, no_digits       its answers
+--     digits_end                  its answer
 use Prim.Native.Nat.{ℕ, suc, ◌+◌, ◌-◌, ◌*◌, ◌≤◌, ◌<◌}
 use native.Mathlib.Omega.{arith}
 use native.Mathlib.Numerals.{add-one}
@@ -15,7 +15,7 @@ use Rattle.logic.proofs.Tests.{and_left, and_right, and_both}
 use Rattle.reading.specs.Called.{decimal, is_digit, is_numeral}
 use Rattle.lexing.specs.Lexes.{part}
 use Rattle.lexing.proofs.SkipLaws.{part_more}
-use Rattle.pass_tokens.specs.Tokens.{DigitsAt}
+use Rattle.pass_tokens.specs.Tokens.{DigitsTo}
 
 -- ---- a digit more
 
@@ -90,8 +90,7 @@ module _ (text : List ℕ) (from high : ℕ) where
               rw grown (decimal_more 0 (part text from j) c ∙ ap (λ k. 10 * k + (c - 48)) v.2),
             )
 
-    pub digits_end : DigitsAt text from high (record { value = n; end = j })
-    digits_end = record { after = h.after; inside = h.inside; most = h.most; value = h.value }
-
-    pub no_digits : DigitsAt text from high (record { value = 0; end = j })
-    no_digits = record { after = h.after; inside = h.inside; most = omega arith; value = λ x. absurd (x refl) }
+    pub digits_end : (n ≡ 0 → ⊥) → DigitsTo text from high (record { value = n; end = j })
+    digits_end some =
+        let v = h.value some in
+        record { after = v.0; inside = h.inside; some = some; most = h.most; numeral = v.1; value = v.2 }

@@ -52,14 +52,14 @@ pub fn past_blanks(text: &[u8], i: usize) -> usize
     j
 }
 
-// The byte after the closing bracket that stands at byte i, after white space and comments; 0 where none does.
-pub fn closed_at(text: &[u8], i: usize) -> usize
+// The byte after the closing bracket that stands at byte i, after white space and comments.
+pub fn closed_at(text: &[u8], i: usize) -> Option<usize>
     requires { i ≤ length text.now }
     ensures { ClosedAt text.now i result }
 {
     let at = past_blanks(text, i);
     if byte_at(text, at) == b')' {
-        return at + 1;
+        return Some(at + 1);
     }
-    0
+    None
 }

@@ -5,18 +5,34 @@ pub mod blanks; // blanks.rt: white space and comments, brackets
 pub mod words; // words.rt: words and names
 pub mod places; // places.rt: heads and variables, as they stand in lists
 
-// A word. Code: 3 a variable, 4 a symbol, 5 a binder, 6 let, 7 a sort, each with its number; 2 none of them. `end` is the byte after it.
+// What a word stands for: a variable or a symbol by its number, a binder by its kind, let, or a sort.
+#[derive(Clone, Copy)]
+pub enum Meaning {
+    Variable(usize),
+    Symbol(usize),
+    Binder(usize),
+    Let,
+    Sort(usize),
+}
+
+// A word, and the byte after it.
 #[derive(Clone, Copy)]
 pub struct Token {
-    pub code: usize,
-    pub number: usize,
+    pub meaning: Meaning,
     pub end: usize,
 }
 
-// A variable, with a sort where one stands there, and the byte after it; 0 where none does.
+// A variable with its sort, as a quantifier lists it, and the byte after it.
 #[derive(Clone, Copy)]
-pub struct Item {
+pub struct Sorted {
     pub variable: usize,
     pub sort: usize,
+    pub end: usize,
+}
+
+// The variable of a let's pair, and the byte where its formula starts.
+#[derive(Clone, Copy)]
+pub struct Bound {
+    pub variable: usize,
     pub end: usize,
 }

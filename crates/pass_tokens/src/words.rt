@@ -1,21 +1,17 @@
 // Words and names.
 ghost use Rattle.std.specs.Prelude.{◌≡◌, Bool, true, ◌+◌, ◌≤◌, ◌<◌, length, get_or};
+ghost use Rattle.bundle.specs.Words.{largest_word};
 ghost use Rattle.bundle.specs.Limits.{limits};
-ghost use Rattle.pass_tokens.specs.Tokens.{goes_on, RunStops, DigitsAt, WordStands, WordAt};
+ghost use Rattle.pass_tokens.specs.Tokens.{goes_on, RunStops, DigitsAt, WordStands, WordIf, WordAt};
 
-use super::Token;
+use super::{Meaning, Token};
+use logic::kinds::{EXISTS, FOR_ALL};
 
-// Digits, from a byte on: their value, and the byte after them.
+// A number in digits, and the byte after them.
 #[derive(Clone, Copy)]
 pub struct Digits {
     pub value: usize,
     pub end: usize,
-}
-
-fn token(code: usize, number: usize, end: usize) -> Token
-    ensures { result ≡ record { code = code; number = number; end = end } }
-{
-    Token { code, number, end }
 }
 
 // Whether a run goes on with a byte: a symbol character or a digit.
@@ -54,32 +50,28 @@ fn run_stops(text: &[u8], j: usize) -> bool
     !goes_on(c)
 }
 
-// The number that digits from byte `from` on have, no zero first, where it is at most `high`; else 0.
-fn numeral(text: &[u8], from: usize, high: usize) -> Digits
-    requires { (from ≤ length text.now) × (high ≤ 4294967295) }
+// The number that digits from byte `from` on have, no zero first, where it is at most `high`.
+fn numeral(text: &[u8], from: usize, high: usize) -> Option<Digits>
+    requires { (from ≤ length text.now) × (high ≤ largest_word) }
     ensures { DigitsAt text.now from high result }
 {
-    let mut n = 0;
+    let mut value = 0;
+    let mut end = text.len();
     for j in from..text.len() {
         let c = usize::from(text[j]);
-        if c < 48 {
-            return Digits { value: n, end: j };
+        if (c < 48) | (c > 57) {
+            end = j;
+            break;
         }
-        if c > 57 {
-            return Digits { value: n, end: j };
-        }
-        n = 10 * n + (c - 48);
-        if n > high {
-            return Digits { value: 0, end: j };
-        }
-        if n == 0 {
-            return Digits { value: 0, end: j };
+        value = 10 * value + (c - 48);
+        if (value > high) | (value == 0) {
+            return None;
         }
     }
-    Digits {
-        value: n,
-        end: text.len(),
+    if value == 0 {
+        return None;
     }
+    Some(Digits { value, end })
 }
 
 // Whether a word stands at byte `start`, where its first byte does, and the run ends with it.
@@ -99,109 +91,80 @@ fn word_stands(text: &[u8], start: usize, spelled: &[u8]) -> bool
     run_stops(text, start + n)
 }
 
-// One of the twelve words, at byte `start`.
-fn reserved_at(text: &[u8], symbols: usize, variables: usize, start: usize) -> Token
+// One of the twelve words, where it stands at byte `start` and its first byte does.
+fn word_if(text: &[u8], start: usize, spelled: &[u8], meaning: Meaning) -> Option<Token>
+    requires { (start < length text.now) × (0 < length spelled.now) × (get_or text.now start 0 ≡ get_or spelled.now 0 0) }
+    ensures { WordIf text.now start spelled.now meaning result }
+{
+    if !word_stands(text, start, spelled) {
+        return None;
+    }
+    Some(Token {
+        meaning,
+        end: start + spelled.len(),
+    })
+}
+
+// One of the twelve words, at byte `start`: at most two of them start with its first byte.
+fn reserved_at(text: &[u8], symbols: usize, variables: usize, start: usize) -> Option<Token>
     requires { start < length text.now }
     ensures { WordAt symbols variables text.now start result }
 {
-    let c = text[start];
-    if c == b'a' {
-        if word_stands(text, start, b"and") {
-            return token(4, 4, start + 3);
+    match text[start] {
+        b'a' => word_if(text, start, b"and", Meaning::Symbol(4)),
+        b'l' => word_if(text, start, b"let", Meaning::Let),
+        b'I' => word_if(text, start, b"Item", Meaning::Sort(1)),
+        b'=' => {
+            let equal = word_if(text, start, b"=", Meaning::Symbol(7));
+            if equal.is_some() {
+                return equal;
+            }
+            word_if(text, start, b"=>", Meaning::Symbol(6))
         }
-        return token(2, 0, start);
+        b'n' => word_if(text, start, b"not", Meaning::Symbol(3)),
+        b'f' => {
+            let for_all = word_if(text, start, b"forall", Meaning::Binder(FOR_ALL));
+            if for_all.is_some() {
+                return for_all;
+            }
+            word_if(text, start, b"false", Meaning::Symbol(2))
+        }
+        b'e' => word_if(text, start, b"exists", Meaning::Binder(EXISTS)),
+        b'o' => word_if(text, start, b"or", Meaning::Symbol(5)),
+        b't' => word_if(text, start, b"true", Meaning::Symbol(1)),
+        b'B' => word_if(text, start, b"Bool", Meaning::Sort(0)),
+        _ => None,
     }
-    if c == b'l' {
-        if word_stands(text, start, b"let") {
-            return token(6, 0, start + 3);
-        }
-        return token(2, 0, start);
-    }
-    if c == b'I' {
-        if word_stands(text, start, b"Item") {
-            return token(7, 1, start + 4);
-        }
-        return token(2, 0, start);
-    }
-    if c == b'=' {
-        if word_stands(text, start, b"=") {
-            return token(4, 7, start + 1);
-        }
-        if word_stands(text, start, b"=>") {
-            return token(4, 6, start + 2);
-        }
-        return token(2, 0, start);
-    }
-    if c == b'n' {
-        if word_stands(text, start, b"not") {
-            return token(4, 3, start + 3);
-        }
-        return token(2, 0, start);
-    }
-    if c == b'f' {
-        if word_stands(text, start, b"forall") {
-            return token(5, 3, start + 6);
-        }
-        if word_stands(text, start, b"false") {
-            return token(4, 2, start + 5);
-        }
-        return token(2, 0, start);
-    }
-    if c == b'e' {
-        if word_stands(text, start, b"exists") {
-            return token(5, 4, start + 6);
-        }
-        return token(2, 0, start);
-    }
-    if c == b'o' {
-        if word_stands(text, start, b"or") {
-            return token(4, 5, start + 2);
-        }
-        return token(2, 0, start);
-    }
-    if c == b't' {
-        if word_stands(text, start, b"true") {
-            return token(4, 1, start + 4);
-        }
-        return token(2, 0, start);
-    }
-    if c == b'B' {
-        if word_stands(text, start, b"Bool") {
-            return token(7, 0, start + 4);
-        }
-        return token(2, 0, start);
-    }
-    token(2, 0, start)
 }
 
 // The word at byte `start`, where so many symbols and variables are declared.
-pub fn word_at(text: &[u8], symbols: usize, variables: usize, start: usize) -> Token
+pub fn word_at(text: &[u8], symbols: usize, variables: usize, start: usize) -> Option<Token>
     requires { (start ≤ length text.now) × (symbols ≤ limits.symbols) × (variables ≤ limits.variables) }
     ensures { WordAt symbols variables text.now start result }
 {
     if start >= text.len() {
-        return token(2, 0, start);
+        return None;
     }
     let c = text[start];
     if c == b'v' {
-        let n = numeral(text, start + 1, variables);
-        let end = n.end;
-        if n.value == 0 {
-            return token(2, 0, start);
+        let n = numeral(text, start + 1, variables)?;
+        if !run_stops(text, n.end) {
+            return None;
         }
-        if run_stops(text, end) {
-            return token(3, n.value, end);
-        }
-        return token(2, 0, start);
+        return Some(Token {
+            meaning: Meaning::Variable(n.value),
+            end: n.end,
+        });
     }
     if c == b'f' {
-        let n = numeral(text, start + 1, 32 + symbols);
-        let end = n.end;
-        if n.value > 32 {
-            if run_stops(text, end) {
-                return token(4, n.value, end);
+        if let Some(n) = numeral(text, start + 1, 32 + symbols) {
+            if (n.value <= 32) | !run_stops(text, n.end) {
+                return None;
             }
-            return token(2, 0, start);
+            return Some(Token {
+                meaning: Meaning::Symbol(n.value),
+                end: n.end,
+            });
         }
     }
     reserved_at(text, symbols, variables, start)

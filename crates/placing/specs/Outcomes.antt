@@ -1,18 +1,14 @@
--- What the inner functions answer, against the visits without limits: all that those give where no section passes its limit, and `Full` where
+-- What the inner functions answer, against the visits without limits: all that those give where no section passes its limit, and `None` where
 -- one does.
 use Rattle.logic.specs.Terms.{binder, number_of}
-use Rattle.std.specs.Prelude.{◌≡◌, true, false, List, ℕ, ◌+◌, ◌≤◌, ◌<◌, ◌⊎◌, length, take}
-use Rattle.bundle.specs.declared.Counts.{Counts}
+use Rattle.std.specs.Prelude.{IfSome, ◌≡◌, true, false, Option, Some, None, List, ℕ, ◌+◌, ◌≤◌, ◌<◌, ◌⊎◌, length, take}
 use Rattle.bundle.specs.Bundle.{Bundle, link_of, term_of}
+use Rattle.bundle.specs.Words.{largest_word}
 use Rattle.bundle.specs.Limits.{limits, Within}
 use Rattle.logic.specs.Lists.{Number}
-use Rattle.scratch.specs.Scratch.{bundle_in, Ready}
 use Rattle.scratch.specs.Stack.{halves}
-use Rattle.filing.specs.Filing.{Indexed}
 use Rattle.logic.specs.Longer.{add_list, list_start}
 use Rattle.placing.specs.declared.Visited.{Visited}
-use Rattle.placing.specs.declared.Listed.{Listed}
-use Rattle.placing.specs.declared.Recorded.{Recorded}
 use Rattle.placing.specs.declared.Opened.{Opened}
 use Rattle.expansion.specs.Nodes.{Node, Nodes, leaf, node, scope, block, nil, cons}
 use Rattle.expansion.specs.Visit.{Visit, Visits, visit, visit_all}
@@ -20,56 +16,41 @@ use Rattle.expansion.specs.Placed.{PlacedTerm}
 use Rattle.expansion.specs.Visit as unlimited
 use Rattle.expansion.specs.File.{counts_in}
 
--- the words w, after the call, stand for the bundle b, which is within the limits
-pub record StandsFor (w : List ℕ) (b : Bundle) : Type 0 where
-  pub within : Within (counts_in b)
-  pub ready : Ready w (counts_in b)
-  pub bundle : bundle_in w (counts_in b) ≡ b
-
 -- no section of b may pass its limit
 abbrev pub TooMuch : Bundle → Type 0
 TooMuch b = Within (counts_in b) → ⊥
 
--- r, and the words w after the call, are what the visit v gives
-pub data VisitOutcome (v : Visit) (w : List ℕ) (r : Visited) : Type 0 where
-  done : StandsFor w v.bundle → r ≡ Visited.Done (counts_in v.bundle) v.result v.step → VisitOutcome v w r
-  full : TooMuch v.bundle → r ≡ Visited.Full → VisitOutcome v w r
+-- r, and the bundle b after the call, are what the definition without limits gives: its bundle b' and a; or b' is past a limit
+pub data Outcome {A : Type 0} (b' : Bundle) (a : A) (b : Bundle) (r : Option A) : Type 0 where
+  done : Within (counts_in b') → b ≡ b' → r ≡ Some a → Outcome b' a b r
+  full : TooMuch b' → r ≡ None → Outcome b' a b r
 
-pub data OpenOutcome (o : unlimited.OpenedContext) (w : List ℕ) (r : Recorded) : Type 0 where
-  done : StandsFor w o.bundle → r ≡ Recorded.Done (counts_in o.bundle) o.context → OpenOutcome o w r
-  full : TooMuch o.bundle → r ≡ Recorded.Full → OpenOutcome o w r
+-- of a visit: its result and its step
+abbrev pub VisitOutcome : Visit → Bundle → Option Visited → Type 0
+VisitOutcome v = Outcome v.bundle (record { result = v.result; step = v.step })
 
-pub data BinderOutcome (o : unlimited.OpenedBinder) (w : List ℕ) (r : Opened) : Type 0 where
-  done : StandsFor w o.bundle → r ≡ Opened.Done (counts_in o.bundle) o.context o.variable → BinderOutcome o w r
-  full : TooMuch o.bundle → r ≡ Opened.Full → BinderOutcome o w r
+-- the result and the step of a visit that was done are words
+abbrev pub VisitFits : Option Visited → Type 0
+VisitFits r = IfSome r (λ v. (v.result ≤ largest_word) × (v.step ≤ largest_word))
 
-pub data PlaceOutcome (p : PlacedTerm) (w : List ℕ) (r : Recorded) : Type 0 where
-  done : StandsFor w p.bundle → r ≡ Recorded.Done (counts_in p.bundle) p.term → PlaceOutcome p w r
-  full : TooMuch p.bundle → r ≡ Recorded.Full → PlaceOutcome p w r
+-- of a context, of a quantifier's opener, of a term that is placed, of a list of values that is appended
+abbrev pub OpenOutcome : unlimited.OpenedContext → Bundle → Option ℕ → Type 0
+OpenOutcome o = Outcome o.bundle o.context
 
--- the same of a list of values that is appended
-pub data AddOutcome (b : Bundle) (vs : List ℕ) (w : List ℕ) (r : Recorded) : Type 0 where
-  done : StandsFor w (add_list b vs) → r ≡ Recorded.Done (counts_in (add_list b vs)) (list_start b vs) → AddOutcome b vs w r
-  full : TooMuch (add_list b vs) → r ≡ Recorded.Full → AddOutcome b vs w r
+abbrev pub BinderOutcome : unlimited.OpenedBinder → Bundle → Option Opened → Type 0
+BinderOutcome o = Outcome o.bundle (record { context = o.context; variable = o.variable })
 
--- the same of a visit to a list, whose pairs stand on the stack s from height h on
-pub data ListOutcome (v : Visits) (h : ℕ) (w s : List ℕ) (r : Listed) : Type 0 where
-  done : StandsFor w v.bundle → r ≡ Listed.Done (counts_in v.bundle) (h + length v.results)
-      → halves true s h (h + length v.results) ≡ v.results → halves false s h (h + length v.results) ≡ v.steps → ListOutcome v h w s r
-  full : TooMuch v.bundle → r ≡ Listed.Full → ListOutcome v h w s r
+abbrev pub PlaceOutcome : PlacedTerm → Bundle → Option ℕ → Type 0
+PlaceOutcome p = Outcome p.bundle p.term
 
--- where a call was done, the index ix holds all terms that the words w stand for
-pub record VisitIndexed (w ix : List ℕ) (r : Visited) : Type 0 where
-  pub held : (c : Counts) (t s : ℕ) → r ≡ Visited.Done c t s → Indexed (bundle_in w c) ix
+abbrev pub AddOutcome : Bundle → List ℕ → Bundle → Option ℕ → Type 0
+AddOutcome b vs = Outcome (add_list b vs) (list_start b vs)
 
-pub record RecordIndexed (w ix : List ℕ) (r : Recorded) : Type 0 where
-  pub held : (c : Counts) (n : ℕ) → r ≡ Recorded.Done c n → Indexed (bundle_in w c) ix
-
-pub record BinderIndexed (w ix : List ℕ) (r : Opened) : Type 0 where
-  pub held : (c : Counts) (n y : ℕ) → r ≡ Opened.Done c n y → Indexed (bundle_in w c) ix
-
-pub record ListIndexed (w ix : List ℕ) (r : Listed) : Type 0 where
-  pub held : (c : Counts) (h : ℕ) → r ≡ Listed.Done c h → Indexed (bundle_in w c) ix
+-- of a visit to a list: where the stack s ends, on which the pairs stand from height h on
+pub data ListOutcome (v : Visits) (h : ℕ) (b : Bundle) (s : List ℕ) (r : Option ℕ) : Type 0 where
+  done : Within (counts_in v.bundle) → b ≡ v.bundle → r ≡ Some (h + length v.results)
+      → halves true s h (h + length v.results) ≡ v.results → halves false s h (h + length v.results) ≡ v.steps → ListOutcome v h b s r
+  full : TooMuch v.bundle → r ≡ None → ListOutcome v h b s r
 
 -- ---- what the visits ask
 
@@ -99,36 +80,36 @@ abbrev mutual
       × Stands b (link_of b l).value τ
       × StandAll b o (link_of b l).next ns
 
--- the stack has a place for each step that there can be, and no more pairs are pending than there are steps
-pub record Pending (s : List ℕ) (c : Counts) (h : ℕ) : Type 0 where
+-- the stack has a place for each step that there can be, and no more pairs are pending than b has steps
+pub record Pending (s : List ℕ) (b : Bundle) (h : ℕ) : Type 0 where
   pub places : limits.steps ≤ length s
-  pub height : h ≤ c.steps
+  pub height : h ≤ length b.steps
 
 -- a visit leaves the stack as long as it was, and as it was below the height
 pub record StackKept (s s' : List ℕ) (h : ℕ) : Type 0 where
   pub long : length s' ≡ length s
   pub below : take h s' ≡ take h s
 
-pub record TermAsks (w s : List ℕ) (c : Counts) (Γ h t : ℕ) : Type 0 where
-  pub ready : Ready w c
-  pub pending : Pending s c h
-  pub context : Γ ≤ c.contexts
+-- ---- and what they give: b and s before the call, b' and s' after it
+
+pub record TermAsks (b : Bundle) (s : List ℕ) (Γ h t : ℕ) : Type 0 where
+  pub pending : Pending s b h
+  pub context : Γ ≤ length b.contexts
   pub standing : Node
-  pub stands : Stands (bundle_in w c) t standing
+  pub stands : Stands b t standing
 
-pub record TermGives (w s : List ℕ) (c : Counts) (Γ h t : ℕ) (w' s' : List ℕ) (r : Visited) : Type 0 where
-  pub long : length w' ≡ length w
+-- the result and the step are words
+pub record TermGives (b : Bundle) (s : List ℕ) (Γ h t : ℕ) (b' : Bundle) (s' : List ℕ) (r : Option Visited) : Type 0 where
   pub kept : StackKept s s' h
-  pub outcome : (τ : Node) → Stands (bundle_in w c) t τ → VisitOutcome (visit τ Γ (bundle_in w c)) w' r
+  pub outcome : (τ : Node) → Stands b t τ → VisitOutcome (visit τ Γ b) b' r
+  pub words : VisitFits r
 
-pub record ListAsks (w s : List ℕ) (c : Counts) (Γ h o l : ℕ) : Type 0 where
-  pub ready : Ready w c
-  pub pending : Pending s c h
-  pub context : Γ ≤ c.contexts
+pub record ListAsks (b : Bundle) (s : List ℕ) (Γ h o l : ℕ) : Type 0 where
+  pub pending : Pending s b h
+  pub context : Γ ≤ length b.contexts
   pub standing : Nodes
-  pub stands : StandAll (bundle_in w c) o l standing
+  pub stands : StandAll b o l standing
 
-pub record ListGives (w s : List ℕ) (c : Counts) (Γ h o l : ℕ) (w' s' : List ℕ) (r : Listed) : Type 0 where
-  pub long : length w' ≡ length w
+pub record ListGives (b : Bundle) (s : List ℕ) (Γ h o l : ℕ) (b' : Bundle) (s' : List ℕ) (r : Option ℕ) : Type 0 where
   pub kept : StackKept s s' h
-  pub outcome : (ns : Nodes) → StandAll (bundle_in w c) o l ns → ListOutcome (visit_all ns Γ (bundle_in w c)) h w' s' r
+  pub outcome : (ns : Nodes) → StandAll b o l ns → ListOutcome (visit_all ns Γ b) h b' s' r

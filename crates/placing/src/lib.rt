@@ -1,370 +1,228 @@
 // Records and lists appended where their section has room, and terms looked up before they are appended, each against its definition without
-// limits. `Full` as soon as a section would pass its limit. The index holds all terms; a term that is appended is filed in it.
+// limits. `None` as soon as a section would pass its limit.
 #![tactic(auto)]
 
 ghost use Rattle.std.specs.Prelude.{◌≡◌, true, false, [], ◌∷◌, suc, ◌≤◌, ◌<◌, length};
+ghost use Rattle.bundle.specs.Words.{largest_word};
 ghost use Rattle.bundle.specs.Filed.{digests};
+ghost use Rattle.bundle.specs.RecordWords.{as_term, as_context, as_step, TermFits, ContextFits, StepFits};
 ghost use Rattle.logic.specs.Terms.{Binder, binder, number_of, is_binder};
 ghost use Rattle.logic.specs.Longer.{with_terms, with_contexts, with_steps, add_list, list_start};
-ghost use Rattle.scratch.specs.Scratch.{bundle_in, Ready};
-ghost use Rattle.scratch.specs.Stack.{halves};
-ghost use Rattle.filing.specs.Filing.{Digested, Indexed};
+ghost use Rattle.scratch.specs.Stack.{halves_of};
+ghost use Rattle.filing.specs.Filing.{Digested};
 ghost use Rattle.expansion.specs.Placed.{place_variable, place_application, place_binder, place_let};
 ghost use Rattle.expansion.specs.Visit.{fresh};
-ghost use Rattle.placing.specs.Outcomes.{VisitOutcome, OpenOutcome, PlaceOutcome, AddOutcome, RecordIndexed};
+ghost use Rattle.placing.specs.Outcomes.{VisitOutcome, OpenOutcome, PlaceOutcome, AddOutcome};
 
-use bundle::digests::DIGESTS;
-use bundle::{Bundle, Counts};
-use filing::filing::{file_term, mixed_halves, pairs_digest, root_digest};
-use filing::lookups::{find_application, find_binder, find_let, find_variable};
+use bundle::Bundle;
+use bundle::records::{ContextWords, StepWords, TermWords};
+use filing::Filed;
+use filing::digests::{mixed_halves, pairs_digest, root_digest};
 use logic::kinds::{APPLICATION, LET, VARIABLE};
-use scratch::appends::{append_context, append_step, append_term, append_variable};
-use scratch::lists::{push_halves, push_one};
-use scratch::records::variable_sort;
 
-// What a visit to a term answers: the counts, the result's term and the step that carries the term to it; or that a section would pass its
-// limit.
+// What a visit to a term gives: the result's term, and the step that carries the term to it.
 #[derive(Clone, Copy)]
-pub enum Visited {
-    Done {
-        counts: Counts,
-        result: usize,
-        step: usize,
-    },
-    Full,
+pub struct Visited {
+    pub result: usize,
+    pub step: usize,
 }
 
-// What a visit to a list answers: the counts, and where the stack of pairs ends.
+// What the opener of a quantifier gives: the context of the body, and the variable that the result binds.
 #[derive(Clone, Copy)]
-pub enum Listed {
-    Done { counts: Counts, height: usize },
-    Full,
+pub struct Opened {
+    pub context: usize,
+    pub variable: usize,
 }
 
-// What stands in the scratch after a call: the counts, and the number of the context or term, or of a list's first link; or that a section would pass
-// its limit.
-#[derive(Clone, Copy)]
-pub enum Recorded {
-    Done { counts: Counts, number: usize },
-    Full,
-}
+// ---- One list or one record appended, where its section has room: its first link, or its number.
 
-// What the opener of a quantifier leaves: the counts, the context of the body and the variable that the result binds; or that a section would pass
-// its limit.
-#[derive(Clone, Copy)]
-pub enum Opened {
-    Done {
-        counts: Counts,
-        context: usize,
-        variable: usize,
-    },
-    Full,
-}
-
-// ---- One list or one record appended, where its section has room.
-
-// The results, or the steps, of the pairs from `from` to before `to`, as a list.
-pub fn add_halves(
-    words: &mut [u32],
-    c: Counts,
-    stack: &[u64],
-    upper: bool,
-    from: usize,
-    to: usize,
-) -> Recorded
-    requires { Ready words.old c × (from ≤ to) × (to ≤ length stack.now) }
-    ensures { (length words.new ≡ length words.old)
-        × AddOutcome (bundle_in words.old c) (halves upper stack.now from to) words.new result }
+// The upper halves of pairs, or the lower, as a list.
+pub fn add_halves(filed: &mut Filed<'_>, pairs: &[u64], upper: bool) -> Option<usize>
+    ensures { AddOutcome filed.old (halves_of upper pairs.now) filed.new result }
 {
-    let n = to - from;
-    let links = c.links;
-    if n > Bundle::LINKS - links {
-        return Recorded::Full;
+    let counts = filed.scratch().counts();
+    if pairs.len() > Bundle::LINKS - counts.links {
+        return None;
     }
-    let start = scratch::lists::list_start(c, n);
-    let counts = push_halves(words, c, stack, upper, from, to);
-    Recorded::Done {
-        counts,
-        number: start,
-    }
+    Some(filed.push_halves(pairs, upper))
 }
 
 // One value, as a list.
-pub fn add_value(words: &mut [u32], c: Counts, value: usize) -> Recorded
-    requires { Ready words.old c × (value ≤ 4294967295) }
-    ensures { (length words.new ≡ length words.old)
-        × AddOutcome (bundle_in words.old c) (value ∷ []) words.new result }
+pub fn add_value(filed: &mut Filed<'_>, value: usize) -> Option<usize>
+    requires { value ≤ largest_word }
+    ensures { AddOutcome filed.old (value ∷ []) filed.new result }
 {
-    let links = c.links;
-    if links >= Bundle::LINKS {
-        return Recorded::Full;
+    let counts = filed.scratch().counts();
+    if counts.links >= Bundle::LINKS {
+        return None;
     }
-    let counts = push_one(words, c, value);
-    Recorded::Done {
-        counts,
-        number: links + 1,
-    }
+    Some(filed.push_one(value))
 }
 
 // A term, filed by its digest, which is d.
-pub fn add_term(
-    words: &mut [u32],
-    c: Counts,
-    kind: usize,
-    first: usize,
-    second: usize,
-    third: usize,
-    index: &mut [u16; DIGESTS + Bundle::TERMS + 1],
-    d: usize,
-) -> Recorded
-    requires { Ready words.old c × (kind ≤ 4294967295) × (first ≤ 4294967295) × (second ≤ 4294967295) × (third ≤ 4294967295)
-        × Indexed (bundle_in words.old c) index.old × (d < digests)
-        × Digested (bundle_in words.old c) (record { kind = kind; a = first; b = second; c = third }) d }
-    ensures { (length words.new ≡ length words.old)
-        × PlaceOutcome
-        (record {
-          bundle = with_terms (bundle_in words.old c) (record { kind = kind; a = first; b = second; c = third } ∷ []);
-          term =
-              suc (length (bundle_in words.old c).terms);
-        }) words.new result × RecordIndexed words.new index.new result }
+pub fn add_term(filed: &mut Filed<'_>, term: TermWords, d: usize) -> Option<usize>
+    requires { TermFits term × (d < digests) × Digested filed.old (as_term term) d }
+    ensures { PlaceOutcome
+        (record { bundle = with_terms filed.old (as_term term ∷ []); term = suc (length filed.old.terms) }) filed.new result }
 {
-    let terms = c.terms;
-    if terms >= Bundle::TERMS {
-        return Recorded::Full;
+    let counts = filed.scratch().counts();
+    if counts.terms >= Bundle::TERMS {
+        return None;
     }
-    let counts = append_term(words, c, kind, first, second, third);
-    file_term(index, d, terms + 1);
-    Recorded::Done {
-        counts,
-        number: terms + 1,
-    }
+    filed.append_term(term, d);
+    Some(counts.terms + 1)
 }
 
-// A term whose second field is the list of the results of the pairs from `from` to before `to`, which is appended before it. d is the digest of the
-// term.
+// A term whose second field is the list of the upper halves of pairs, which is appended before it. d is the digest of the term.
 fn add_listed_term(
-    words: &mut [u32],
-    c: Counts,
+    filed: &mut Filed<'_>,
     kind: usize,
     first: usize,
-    stack: &[u64],
-    from: usize,
-    to: usize,
+    pairs: &[u64],
     third: usize,
-    index: &mut [u16; DIGESTS + Bundle::TERMS + 1],
     d: usize,
-) -> Recorded
-    requires { Ready words.old c × (kind ≤ 4294967295) × (first ≤ 4294967295) × (from ≤ to) × (to ≤ length stack.now) × (third ≤ 4294967295)
-        × Indexed (bundle_in words.old c) index.old × (d < digests)
-        × Digested (add_list (bundle_in words.old c) (halves true stack.now from to))
-        (record { kind = kind; a = first; b = list_start (bundle_in words.old c) (halves true stack.now from to); c = third }) d }
-    ensures { (length words.new ≡ length words.old)
-        × PlaceOutcome
+) -> Option<usize>
+    requires { (kind ≤ largest_word) × (first ≤ largest_word) × (third ≤ largest_word) × (d < digests)
+        × Digested (add_list filed.old (halves_of true pairs.now))
+        (record { kind = kind; a = first; b = list_start filed.old (halves_of true pairs.now); c = third }) d }
+    ensures { PlaceOutcome
         (record {
-          bundle = with_terms (add_list (bundle_in words.old c) (halves true stack.now from to))
-              (record { kind = kind; a = first; b = list_start (bundle_in words.old c) (halves true stack.now from to); c = third } ∷ []);
-          term = suc (length (bundle_in words.old c).terms);
-        }) words.new result × RecordIndexed words.new index.new result }
+          bundle = with_terms (add_list filed.old (halves_of true pairs.now))
+              (record { kind = kind; a = first; b = list_start filed.old (halves_of true pairs.now); c = third } ∷ []);
+          term = suc (length filed.old.terms);
+        }) filed.new result }
 {
-    let listed = add_halves(words, c, stack, true, from, to);
-    match listed {
-        Recorded::Full => Recorded::Full,
-        Recorded::Done {
-            counts,
-            number: start,
-        } => add_term(words, counts, kind, first, start, third, index, d),
-    }
+    let second = add_halves(filed, pairs, true)?;
+    add_term(
+        filed,
+        TermWords {
+            kind,
+            first,
+            second,
+            third,
+        },
+        d,
+    )
 }
 
-pub fn add_context(
-    words: &mut [u32],
-    c: Counts,
-    kind: usize,
-    first: usize,
-    second: usize,
-    parent: usize,
-) -> Recorded
-    requires { Ready words.old c × (kind ≤ 4294967295) × (first ≤ 4294967295) × (second ≤ 4294967295) × (parent ≤ 4294967295) }
-    ensures { (length words.new ≡ length words.old)
-        × OpenOutcome
-        (record {
-          bundle = with_contexts (bundle_in words.old c) (record { kind = kind; a = first; b = second; parent = parent } ∷ []);
-          context =
-              suc (length (bundle_in words.old c).contexts);
-        }) words.new result }
+pub fn add_context(filed: &mut Filed<'_>, context: ContextWords) -> Option<usize>
+    requires { ContextFits context }
+    ensures { OpenOutcome
+        (record { bundle = with_contexts filed.old (as_context context ∷ []); context = suc (length filed.old.contexts) })
+        filed.new result }
 {
-    let contexts = c.contexts;
-    if contexts >= Bundle::CONTEXTS {
-        return Recorded::Full;
+    let counts = filed.scratch().counts();
+    if counts.contexts >= Bundle::CONTEXTS {
+        return None;
     }
-    let counts = append_context(words, c, kind, first, second, parent);
-    Recorded::Done {
-        counts,
-        number: contexts + 1,
-    }
+    filed.append_context(context);
+    Some(counts.contexts + 1)
 }
 
-pub fn add_step(
-    words: &mut [u32],
-    c: Counts,
-    rule: usize,
-    context: usize,
-    left: usize,
-    right: usize,
-    premises: usize,
-) -> Visited
-    requires { Ready words.old c × (rule ≤ 4294967295) × (context ≤ 4294967295) × (left ≤ 4294967295) × (right ≤ 4294967295) × (premises ≤ 4294967295) }
-    ensures { (length words.new ≡ length words.old)
-        × VisitOutcome
-        (record {
-          bundle = with_steps (bundle_in words.old c)
-              (record { rule = rule; context = context; left = left; right = right; premises = premises } ∷ []);
-          result = right;
-          step =
-              suc (length (bundle_in words.old c).steps);
-        }) words.new result }
+pub fn add_step(filed: &mut Filed<'_>, step: StepWords) -> Option<Visited>
+    requires { StepFits step }
+    ensures { VisitOutcome
+        (record { bundle = with_steps filed.old (as_step step ∷ []); result = step.right; step = suc (length filed.old.steps) })
+        filed.new result }
 {
-    let steps = c.steps;
-    if steps >= Bundle::STEPS {
-        return Visited::Full;
+    let counts = filed.scratch().counts();
+    if counts.steps >= Bundle::STEPS {
+        return None;
     }
-    let counts = append_step(words, c, rule, context, left, right, premises);
-    Visited::Done {
-        counts,
-        result: right,
-        step: steps + 1,
-    }
+    filed.append_step(step);
+    Some(Visited {
+        result: step.right,
+        step: counts.steps + 1,
+    })
 }
 
-// The term of a symbol at the results of the pairs from `from` to before `to`, looked up before it is appended.
-pub fn place_application(
-    words: &mut [u32],
-    c: Counts,
-    symbol: usize,
-    stack: &[u64],
-    from: usize,
-    to: usize,
-    index: &mut [u16; DIGESTS + Bundle::TERMS + 1],
-) -> Recorded
-    requires { Ready words.old c × (symbol ≤ 4294967295) × (from ≤ to) × (to ≤ length stack.now) × Indexed (bundle_in words.old c) index.old }
-    ensures { (length words.new ≡ length words.old)
-        × PlaceOutcome (place_application (bundle_in words.old c) symbol (halves true stack.now from to)) words.new result
-        × RecordIndexed words.new index.new result }
+// ---- A term looked up before it is appended: its number.
+
+// Of a symbol at the upper halves of pairs.
+pub fn place_application(filed: &mut Filed<'_>, symbol: usize, arguments: &[u64]) -> Option<usize>
+    requires { symbol ≤ largest_word }
+    ensures { PlaceOutcome (place_application filed.old symbol (halves_of true arguments.now)) filed.new result }
 {
-    let root = root_digest(APPLICATION, symbol);
-    let d = mixed_halves(root, stack, true, from, to);
-    let found = find_application(words, c, index, d, symbol, stack, from, to);
-    if found != 0 {
-        return Recorded::Done {
-            counts: c,
-            number: found,
-        };
+    let d = mixed_halves(root_digest(APPLICATION, symbol), arguments, true);
+    let found = filed.find_application(d, symbol, arguments);
+    if found.is_some() {
+        prove!(filed.scratch().counts().terms <= Bundle::TERMS);
+        return found;
     }
-    add_listed_term(words, c, APPLICATION, symbol, stack, from, to, 0, index, d)
+    add_listed_term(filed, APPLICATION, symbol, arguments, 0, d)
 }
 
-// The term of the variable y, looked up before it is appended.
-pub fn place_variable(
-    words: &mut [u32],
-    c: Counts,
-    y: usize,
-    index: &mut [u16; DIGESTS + Bundle::TERMS + 1],
-) -> Recorded
-    requires { Ready words.old c × (y ≤ 4294967295) × Indexed (bundle_in words.old c) index.old }
-    ensures { (length words.new ≡ length words.old)
-        × PlaceOutcome (place_variable (bundle_in words.old c) y) words.new result × RecordIndexed words.new index.new result }
+// Of the variable y.
+pub fn place_variable(filed: &mut Filed<'_>, y: usize) -> Option<usize>
+    requires { y ≤ largest_word }
+    ensures { PlaceOutcome (place_variable filed.old y) filed.new result }
 {
     let d = root_digest(VARIABLE, y);
-    let found = find_variable(words, c, index, d, y);
-    if found != 0 {
-        return Recorded::Done {
-            counts: c,
-            number: found,
-        };
+    let found = filed.find_variable(d, y);
+    if found.is_some() {
+        prove!(filed.scratch().counts().terms <= Bundle::TERMS);
+        return found;
     }
-    add_term(words, c, VARIABLE, y, 0, 0, index, d)
+    add_term(
+        filed,
+        TermWords {
+            kind: VARIABLE,
+            first: y,
+            second: 0,
+            third: 0,
+        },
+        d,
+    )
 }
 
-// A new variable of the sort of x, and its term.
-pub fn place_fresh(
-    words: &mut [u32],
-    c: Counts,
-    x: usize,
-    index: &mut [u16; DIGESTS + Bundle::TERMS + 1],
-) -> Recorded
-    requires { Ready words.old c × Indexed (bundle_in words.old c) index.old }
-    ensures { (length words.new ≡ length words.old) × PlaceOutcome (fresh (bundle_in words.old c) x) words.new result
-        × RecordIndexed words.new index.new result }
+// Of a new variable of the sort of x.
+pub fn place_fresh(filed: &mut Filed<'_>, x: usize) -> Option<usize>
+    ensures { PlaceOutcome (fresh filed.old x) filed.new result }
 {
-    let sort = variable_sort(words, c, x);
-    let variables = c.variables;
-    if variables >= Bundle::VARIABLES {
-        return Recorded::Full;
+    let scratch = filed.scratch();
+    let sort = scratch.variable_sort(x);
+    let counts = scratch.counts();
+    if counts.variables >= Bundle::VARIABLES {
+        return None;
     }
-    let y = variables + 1;
-    let more = append_variable(words, c, sort);
-    place_variable(words, more, y, index)
+    filed.append_variable(sort);
+    place_variable(filed, counts.variables + 1)
 }
 
-// The term of a binder of y in the term `body`, looked up before it is appended.
-pub fn place_binder(
-    words: &mut [u32],
-    c: Counts,
-    kind: usize,
-    y: usize,
-    body: usize,
-    index: &mut [u16; DIGESTS + Bundle::TERMS + 1],
-) -> Recorded
-    requires { Ready words.old c × (is_binder kind ≡ true) × (kind ≤ 4294967295) × (y ≤ 4294967295) × (body ≤ 4294967295)
-        × Indexed (bundle_in words.old c) index.old }
-    ensures { (length words.new ≡ length words.old)
-        × ((q : Binder) → kind ≡ number_of (binder q) → PlaceOutcome (place_binder (bundle_in words.old c) q y body) words.new result)
-        × RecordIndexed words.new index.new result }
+// Of a binder of y in the term `body`.
+pub fn place_binder(filed: &mut Filed<'_>, kind: usize, y: usize, body: usize) -> Option<usize>
+    requires { (is_binder kind ≡ true) × (kind ≤ largest_word) × (y ≤ largest_word) × (body ≤ largest_word) }
+    ensures { (q : Binder) → kind ≡ number_of (binder q) → PlaceOutcome (place_binder filed.old q y body) filed.new result }
 {
     let d = root_digest(kind, y);
-    let found = find_binder(words, c, index, d, kind, y, body);
-    if found != 0 {
-        return Recorded::Done {
-            counts: c,
-            number: found,
-        };
+    let found = filed.find_binder(d, kind, y, body);
+    if found.is_some() {
+        prove!(filed.scratch().counts().terms <= Bundle::TERMS);
+        return found;
     }
-    add_term(words, c, kind, y, body, 0, index, d)
+    add_term(
+        filed,
+        TermWords {
+            kind,
+            first: y,
+            second: body,
+            third: 0,
+        },
+        d,
+    )
 }
 
-// The term of a let in the term `body`, looked up before it is appended: the variables are the lower halves of the pairs from `from` to before `to`, and
-// the upper halves are the terms that they are bound to.
-pub fn place_let(
-    words: &mut [u32],
-    c: Counts,
-    body: usize,
-    stack: &[u64],
-    from: usize,
-    to: usize,
-    index: &mut [u16; DIGESTS + Bundle::TERMS + 1],
-) -> Recorded
-    requires { Ready words.old c × (body ≤ 4294967295) × (from ≤ to) × (to ≤ length stack.now) × Indexed (bundle_in words.old c) index.old }
-    ensures { (length words.new ≡ length words.old)
-        × PlaceOutcome
-        (place_let (bundle_in words.old c) (halves false stack.now from to) (halves true stack.now from to) body)
-        words.new result × RecordIndexed words.new index.new result }
+// Of a let in the term `body`: the variables are the lower halves of pairs, and the upper halves are the terms that they are bound to.
+pub fn place_let(filed: &mut Filed<'_>, body: usize, pairs: &[u64]) -> Option<usize>
+    requires { body ≤ largest_word }
+    ensures { PlaceOutcome (place_let filed.old (halves_of false pairs.now) (halves_of true pairs.now) body) filed.new result }
 {
-    let d = pairs_digest(body, stack, from, to);
-    let found = find_let(words, c, index, d, body, stack, from, to);
-    if found != 0 {
-        return Recorded::Done {
-            counts: c,
-            number: found,
-        };
+    let d = pairs_digest(body, pairs);
+    let found = filed.find_let(d, body, pairs);
+    if found.is_some() {
+        prove!(filed.scratch().counts().terms <= Bundle::TERMS);
+        return found;
     }
-    let named = add_halves(words, c, stack, false, from, to);
-    match named {
-        Recorded::Full => Recorded::Full,
-        Recorded::Done {
-            counts,
-            number: variables,
-        } => add_listed_term(
-            words, counts, LET, variables, stack, from, to, body, index, d,
-        ),
-    }
+    let variables = add_halves(filed, pairs, false)?;
+    add_listed_term(filed, LET, variables, pairs, body, d)
 }

@@ -3,7 +3,6 @@
 #![tactic(auto)]
 
 use bundle::Bundle;
-use expansion::Answer;
 use std::env::FillError;
 use std::fmt::InlineText;
 use std::fs::File;
@@ -18,15 +17,9 @@ fn read_text(declarations: &[u8], text: &[u8]) {
     let mut out = [0u8; Bundle::BYTES];
     let mut words = [0u32; Bundle::WORDS];
     let mut sets = [0u64; Bundle::SET_WORDS * Bundle::TERMS];
-    let answer = reader::read(declarations, text, &mut out, &mut words, &mut sets);
-    match answer {
-        Answer::Written { length } => text_refusals::write_start(1, &out, length),
-        Answer::Refused { number, record } => text_refusals::refusal(
-            declarations,
-            text,
-            number,
-            record,
-        ),
+    match reader::read(declarations, text, &mut out, &mut words, &mut sets) {
+        Ok(length) => text_refusals::write_start(1, &out, length),
+        Err(failure) => text_refusals::refusal(declarations, text, failure),
     }
 }
 

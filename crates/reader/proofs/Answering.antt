@@ -1,12 +1,11 @@
--- The answer to a text, as the code comes to it.
+-- The answer to a text, as the code comes to it. D is the bundle of the declarations.
 --     refused_declared                        a check of the declarations fails
---     formed, areas_long, declared_whole      none does: what is known then, of the file, the areas and the counts that the code has read
---     copied_formed, copied_ready             the declarations copied into the scratch are ready for more records
---     refused_text                            19, 20 or 8
+--     formed, areas_long                      none does: what is known then of the file and the areas
+--     declared_version, copied_formed         and of D, which is copied into the scratch
+--     answer_is, refused_text                 the answer by what is read of the text; 19, 20 or 8
 --     Settled, settled, read_as               none of them: the text is read as φ
 --     refused_records                         16
---     Held, held_done, held_ready             the records are in the scratch
---     term_small                              the term is a word of 32 bits
+--     Held, held_done                         the records are in the scratch
 --     stored_read                             the job: what is left before the zeros are written
 use Prim.Native.Nat.{ℕ, zero, suc, ◌≤◌}
 use native.Mathlib.Omega.{arith}
@@ -14,27 +13,24 @@ use mathlib.Core.Path.{◌≡◌, refl, sym, ap, ◌∙◌, subst}
 use mathlib.Core.Bool.{Bool, true, false, cond, ◌&&◌}
 use mathlib.Core.List.{List, []}
 use lib.ListN.{length, take}
+use Rattle.std.specs.Prelude.{Option, Some, None}
 use lib.Dec.{eqb}
 use borrow.Author.Tests.{eqb-true}
-use Rattle.bundle.specs.declared.Counts.{Counts}
 use Rattle.bundle.specs.Bundle.{Bundle}
-use Rattle.bundle.specs.Limits.{limits, bytes_of}
-use Rattle.bundle.specs.File.{Whole, bundle_at, bundle_of}
+use Rattle.bundle.specs.Limits.{limits, bytes_of, Within}
+use Rattle.bundle.specs.File.{bundle_of, own_counts}
 use Rattle.bundle.proofs.Limits.{within_words}
 use Rattle.logic.specs.Tests.{Fault}
 use Rattle.logic.specs.Tests.{fault}
 use Rattle.logic.specs.Symbols.{truth_sort}
 use Rattle.logic.specs.WellFormed.{TablesFormed}
 use Rattle.logic.proofs.Tests.{and_left, and_right}
-use Rattle.logic.proofs.Headers.{bundle_is}
-use Rattle.scratch.specs.Scratch.{bundle_in, Ready}
-use Rattle.placing.specs.Outcomes.{StandsFor}
 use Rattle.endings.specs.declared.ReadTerm.{ReadTerm}
 use Rattle.formulas.specs.ReadGives.{TooLarge, TextOutcome, done, full as tooLarge, ReadsText}
 use Rattle.formulas.proofs.TextTurns.{too_large_never_fits}
-use Rattle.expansion.specs.declared.Answer.TheVariants.{Written, Refused}
+use Rattle.expansion.specs.Answer.{Written, Refused}
 use Rattle.expansion.specs.Visit.{claiming}
-use Rattle.expansion.specs.File.{counts_in, file_of}
+use Rattle.expansion.specs.File.{file_of}
 use Rattle.expansion.specs.Expansion.{Outcome, writes}
 use Rattle.expansion.specs.Demands.{LongEnough}
 use Rattle.expansion.specs.AreasAfter.{Stored}
@@ -58,7 +54,7 @@ use Rattle.reading.proofs.LocalSorts.{sorts_local}
 use Rattle.reading.proofs.TypingExactly.{typing_exactly}
 use Rattle.reading.proofs.Answers.{names_exactly, answers_exactly}
 use Rattle.reading.proofs.ReadOrder.{declarations_exactly}
-use Rattle.reading.proofs.Jobs.{declared_checked, job_filed}
+use Rattle.reading.proofs.Jobs.{declared_checked}
 
 -- ---- the answer by what refuses the text
 
@@ -109,35 +105,26 @@ module _ (f text : List ℕ) (out words sets : ℕ) where
       go zero ne = absurd (ne refl)
       go (suc m) ne = refl
 
--- no check of the declarations fails; c is what the code has read
-module _ {f : List ℕ} {out words sets : ℕ} {c : Counts} (declared : Declared f out words sets c) where
+-- no check of the declarations fails
+module _ {f : List ℕ} {out words sets : ℕ} {D : Bundle} (declared : Declared f out words sets D) where
   pub formed : DeclarationsFormed f
   formed = ((declarations_exactly f out words sets).0 declared.none).0
 
   pub areas_long : LongEnough out words sets
   areas_long = ((declarations_exactly f out words sets).0 declared.none).1
 
-  pub declared_whole : Whole f c
-  declared_whole = rw declared.counted formed.header.whole
+  pub declared_version : D.version ≡ 1
+  unfolding bundle_of
+  declared_version = ap (λ (b : Bundle). b.version) declared.bundle ∙ formed.header.version
 
-  -- w is the scratch, where the declarations were copied
-  module _ (w : List ℕ) (copied : bundle_in w c ≡ bundle_at f c) where
-    pub copied_is : bundle_in w c ≡ bundle_of f
-    copied_is = copied ∙ bundle_is f declared.counted
-
-    pub copied_formed : TablesFormed (bundle_in w c)
-    copied_formed = rw copied_is (declared_checked f formed).formed.tables
-
-    pub copied_ready : length w ≡ words → Ready w c
-    copied_ready long = record {
-      room = record { within = declared_whole.within; long = omega (arith, areas_long.scratch, long) };
-      version = ap (λ (k : Counts). k.version) declared.counted ∙ formed.header.version;
-    }
+  -- B is in the scratch
+  pub copied_formed : {B : Bundle} → B ≡ D → TablesFormed B
+  copied_formed copied = rw (copied, declared.bundle) (declared_checked f formed).formed.tables
 
   module _ (text : List ℕ) where
-    reading_is : reading f text out words sets ≡ leaves (read_text (bundle_of f) text) out words sets
+    reading_is : reading f text out words sets ≡ leaves (read_text D text) out words sets
     unfolding reading answer_after
-    reading_is = go (declarations_fault f out words sets).number declared.none
+    reading_is = rw declared.bundle (go (declarations_fault f out words sets).number declared.none)
       where
         go : (m : ℕ) → m ≡ 0
             → leaves (answer_after m (declarations_fault f out words sets).«record» (read_text (bundle_of f) text)) out words sets
@@ -145,104 +132,94 @@ module _ {f : List ℕ} {out words sets : ℕ} {c : Counts} (declared : Declared
         go zero e = refl
         go (suc m) e = absurd (omega arith)
 
-    pub answer_is : {a : Answer} → read_text (bundle_of f) text ≡ a → reading f text out words sets ≡ leaves a out words sets
+    pub answer_is : {a : Answer} → read_text D text ≡ a → reading f text out words sets ≡ leaves a out words sets
     answer_is e = reading_is ∙ ap (λ (a : Answer). leaves a out words sets) e
 
-    refused_by : {m i : ℕ} → read_text (bundle_of f) text ≡ refused m i → Refused m i ≡ (reading f text out words sets).answer
+    refused_by : {m i : ℕ} → read_text D text ≡ refused m i → Refused m i ≡ (reading f text out words sets).answer
     unfolding leaves
     refused_by e = sym (ap (λ (o : Outcome). o.answer) (answer_is e))
 
     -- r is what the code has found
-    module _ (r : Fault) (found : r ≡ text_fault (bundle_at f c) (resolve (known_in (bundle_at f c)) text)) where
-      found_is : r ≡ text_fault (bundle_of f) (resolve (known_in (bundle_of f)) text)
-      found_is = found ∙ ap (λ (b : Bundle). text_fault b (resolve (known_in b) text)) (bundle_is f declared.counted)
+    pub refused_text : (r : Fault) → r ≡ text_fault D (resolve (known_in D) text) → (r.number ≡ 0 → ⊥)
+        → Refused r.number r.«record» ≡ (reading f text out words sets).answer
+    unfolding read_text
+    refused_text r found ne =
+        refused_by (by_fault D (resolve (known_in D) text) (λ z. ne (ap (λ (x : Fault). x.number) found ∙ z))
+        ∙ sym (ap (λ (x : Fault). refused x.number x.«record») found))
 
-      pub refused_text : (r.number ≡ 0 → ⊥) → Refused r.number r.«record» ≡ (reading f text out words sets).answer
-      unfolding read_text
-      refused_text ne =
-          refused_by (by_fault (bundle_of f) (resolve (known_in (bundle_of f)) text) (λ z. ne (ap (λ (x : Fault). x.number) found_is ∙ z))
-          ∙ sym (ap (λ (x : Fault). refused x.number x.«record») found_is))
+-- ---- the text
 
--- and nothing refuses the text before its records are placed; it is read as φ
-pub record Settled (f : List ℕ) (out words sets : ℕ) (c : Counts) (text : List ℕ) (φ : Formula) : Type 0 where
-  pub declared : Declared f out words sets c
-  pub resolves : resolve (known_in (bundle_of f)) text ≡ resolved φ
-  pub bool : is_bool (bundle_of f) φ ≡ true
+-- beside D nothing refuses the text before its records are placed; it is read as φ
+pub record Settled (D : Bundle) (text : List ℕ) (φ : Formula) : Type 0 where
+  pub resolves : resolve (known_in D) text ≡ resolved φ
+  pub bool : is_bool D φ ≡ true
 
-pub settled : {f : List ℕ} {out words sets : ℕ} {c : Counts} → Declared f out words sets c → (text : List ℕ) (r : Fault)
-    → r ≡ text_fault (bundle_at f c) (resolve (known_in (bundle_at f c)) text) → r.number ≡ 0 → (φ : Formula) × Settled f out words sets c text φ
-settled {f} declared text r found z =
-    let (φ, resolves, bool) = by_none (bundle_of f) (resolve (known_in (bundle_of f)) text) (sym (ap (λ (x : Fault). x.number) (found_is declared text r
-    found)) ∙ z)
-    in (φ, record { declared = declared; resolves = resolves; bool = bool })
+pub settled : (D : Bundle) (text : List ℕ) (r : Fault) → r ≡ text_fault D (resolve (known_in D) text) → r.number ≡ 0 → (φ : Formula) × Settled D text φ
+settled D text r found z =
+    let (φ, resolves, bool) = by_none D (resolve (known_in D) text) (sym (ap (λ (x : Fault). x.number) found) ∙ z)
+    in (φ, record { resolves = resolves; bool = bool })
 
-module _ {f : List ℕ} {out words sets : ℕ} {c : Counts} {text : List ℕ} {φ : Formula} (s : Settled f out words sets c text φ) where
-  pub read_as : ReadAs (bundle_of f) text φ
+module _ {D : Bundle} {text : List ℕ} {φ : Formula} (s : Settled D text φ) where
+  pub read_as : ReadAs D text φ
   read_as =
-      let reads = (resolved_exactly (known_in (bundle_of f)) text φ).0 s.resolves in
+      let reads = (resolved_exactly (known_in D) text φ).0 s.resolves in
       record {
-        named = record { reads = reads.0; names = (names_exactly (bundle_of f) (names φ [])).0 reads.1 };
-        sorted = well_sorted (bundle_of f) φ s.bool;
+        named = record { reads = reads.0; names = (names_exactly D (names φ [])).0 reads.1 };
+        sorted = well_sorted D φ s.bool;
       }
 
-  refused_full : (FitsLimits (bundle_of f) φ → ⊥) → Refused 16 0 ≡ (reading f text out words sets).answer
-  refused_full not = refused_by s.declared text ((answers_exactly (bundle_of f) text (refused 16 0)).1 (full φ read_as not))
+  -- the declarations f, and areas of these lengths
+  module _ {f : List ℕ} {out words sets : ℕ} (declared : Declared f out words sets D) where
+    never_fits : TooLarge (plain D φ) D 0 limits.terms → FitsLimits D φ → ⊥
+    never_fits =
+        subst (λ (b : Bundle). ReadAs b text φ → TooLarge (plain b φ) b 0 limits.terms → FitsLimits b φ → ⊥) (sym declared.bundle)
+        (too_large_never_fits f text φ (formed declared)) read_as
 
-  written : FitsLimits (bundle_of f) φ → reading f text out words sets ≡ writes (job_of (filed_for (bundle_of f) φ)) out words sets
-  unfolding leaves
-  written fit = answer_is s.declared text ((answers_exactly (bundle_of f) text (job (job_of (filed_for (bundle_of f) φ)))).1 (read φ read_as fit))
+    refused_full : TooLarge (plain D φ) D 0 limits.terms → Refused 16 0 ≡ (reading f text out words sets).answer
+    refused_full h = refused_by declared text ((answers_exactly D text (refused 16 0)).1 (full φ read_as (never_fits h)))
+
+    written : FitsLimits D φ → reading f text out words sets ≡ writes (job_of (filed_for D φ)) out words sets
+    unfolding leaves
+    written fit = answer_is declared text ((answers_exactly D text (job (job_of (filed_for D φ)))).1 (read φ read_as fit))
 
 -- ---- the job
 
--- the scratch w with the counts d holds the records of the formula, whose term is t
-pub record Held (f : List ℕ) (φ : Formula) (w : List ℕ) (d : Counts) (t : ℕ) : Type 0 where
-  pub counts : d ≡ counts_in (filed_for (bundle_of f) φ).bundle
-  pub term : t ≡ (filed_for (bundle_of f) φ).term
-  pub holds : StandsFor w (filed_for (bundle_of f) φ).bundle
+-- the bundle B has the records of the formula beside D, whose term is t
+pub record Held (D : Bundle) (φ : Formula) (B : Bundle) (t : ℕ) : Type 0 where
+  pub bundle : B ≡ (filed_for D φ).bundle
+  pub term : t ≡ (filed_for D φ).term
 
--- w is the scratch after the records were read, r their answer
-module _ {f : List ℕ} {out words sets : ℕ} {c : Counts} {text : List ℕ} {φ : Formula} (s : Settled f out words sets c text φ) (w₀ w : List ℕ)
-    (r : ReadTerm) (copied : bundle_in w₀ c ≡ bundle_at f c) (told : ReadsText (bundle_at f c) text (bundle_in w₀ c) w r) where
-  outcome : TextOutcome (bundle_of f) φ (bundle_of f) w r
-  outcome =
-      let e : bundle_at f c ≡ bundle_of f = bundle_is f s.declared.counted in
-      subst (λ (D : Bundle). TextOutcome D φ D w r) e (subst (λ (b : Bundle). TextOutcome (bundle_at f c) φ b w r) copied (told φ (read_as s).named.reads))
+-- B₀ is in the scratch before the records are read, B after that, r is the answer
+module _ {D : Bundle} {text : List ℕ} {φ : Formula} (s : Settled D text φ) {B₀ B : Bundle} {r : Option ReadTerm} (copied : B₀ ≡ D)
+    (told : ReadsText D text B₀ B r) where
+  outcome : TextOutcome D φ D B r
+  outcome = subst (λ (b : Bundle). TextOutcome D φ b B r) copied (told.0 φ (read_as s).named.reads)
 
-  pub refused_records : r ≡ ReadTerm.Full → Refused 16 0 ≡ (reading f text out words sets).answer
-  refused_records k = refused_full s (too_large_never_fits f text φ (formed s.declared) (read_as s) (go outcome))
+  pub refused_records : {f : List ℕ} {out words sets : ℕ} → Declared f out words sets D → r ≡ None
+      → Refused 16 0 ≡ (reading f text out words sets).answer
+  refused_records declared k = refused_full s declared (go outcome)
     where
-      go : TextOutcome (bundle_of f) φ (bundle_of f) w r → TooLarge (plain (bundle_of f) φ) (bundle_of f) 0 limits.terms
-      go (done h e i) = let z : ◌≡◌ {A = ℕ} 0 1 = cc in absurd (omega arith)
-      go (tooLarge h e) = h
+      go : TextOutcome D φ D B r → TooLarge (plain D φ) D 0 limits.terms
+      go (done h b e i) = absurd (cc)
+      go (tooLarge h i) = h
 
-  pub held_done : {d : Counts} {t m e : ℕ} → r ≡ ReadTerm.Done d t m e → Held f φ w d t
-  held_done {d} {t} {m} {e} k = go outcome
+  pub held_done : {x : ReadTerm} → r ≡ Some x → Held D φ B x.term
+  held_done {x} k = go outcome
     where
-      go : TextOutcome (bundle_of f) φ (bundle_of f) w r → Held f φ w d t
-      go (done h n i) = record { counts = cc; term = cc; holds = h }
-      go (tooLarge h i) = let z : ◌≡◌ {A = ℕ} 0 1 = cc in absurd (omega arith)
+      go : TextOutcome D φ D B r → Held D φ B x.term
+      go (done h b e i) = record { bundle = b; term = cc }
+      go (tooLarge h i) = absurd (cc)
 
-module _ {f : List ℕ} {φ : Formula} {w : List ℕ} {d : Counts} {t : ℕ} (h : Held f φ w d t) where
-  pub held_ready : Ready w d
-  held_ready = rw h.counts h.holds.ready
-
-  bundle_held : bundle_in w d ≡ (filed_for (bundle_of f) φ).bundle
-  bundle_held = rw h.counts h.holds.bundle
-
-  pub term_small : {out words sets : ℕ} {c : Counts} {text : List ℕ} → Settled f out words sets c text φ → t ≤ 4294967295
-  term_small {text = text} s =
-      omega (arith, h.term, (job_filed f text φ (formed s.declared) (read_as s)).placed.is_term.1, h.holds.within.terms)
-
-  file_is : file_of (claiming (bundle_in w d) t 0) ≡ file_of (job_of (filed_for (bundle_of f) φ))
-  file_is = λ i. file_of (claiming (bundle_held i) (h.term i) 0)
-
-  -- the file was stored, n bytes long
-  pub stored_read : {text out words sets out' words' sets' : List ℕ} {c : Counts} → Settled f (length out) (length words) (length sets) c text φ
-      → length out' ≡ length out → length words' ≡ length words → length sets' ≡ length sets → (n : ℕ) → n ≡ bytes_of d
-      → take (bytes_of d) out' ≡ file_of (claiming (bundle_in w d) t 0)
-      → Stored (reading f text (length out) (length words) (length sets)) out words sets out' words' sets' (Written n)
-  stored_read {out} s lo lw ls n size stored =
-      let B : Bundle = job_of (filed_for (bundle_of f) φ) in
-      let size_is : n ≡ length (file_of B) = size ∙ ap bytes_of h.counts ∙ sym (file_length B) in
-      let room : n ≤ length out = omega (arith, size, within_words d held_ready.room.within, (areas_long s.declared).output) in
-      stored_written lo lw ls B n (written s h.holds.within) size_is room (rw size stored ∙ file_is)
+-- the scratch is S, and the file was stored, n bytes long
+pub stored_read : {D S B : Bundle} {φ : Formula} {t : ℕ} {text : List ℕ} → Held D φ B t → Settled D text φ → S ≡ B
+    → {f out words sets out' words' sets' : List ℕ} → Declared f (length out) (length words) (length sets) D
+    → length out' ≡ length out → length words' ≡ length words → length sets' ≡ length sets → {n : ℕ} → Within (own_counts S) → n ≡ bytes_of (own_counts S)
+    → take n out' ≡ file_of (claiming S t 0)
+    → Stored (reading f text (length out) (length words) (length sets)) out words sets out' words' sets' (Written n)
+stored_read {D} {S} {B} {φ} h s held {out = out} declared lo lw ls {n} within size stored =
+    let J : Bundle = job_of (filed_for D φ) in
+    let bundle : S ≡ (filed_for D φ).bundle = held ∙ h.bundle in
+    let size_is : n ≡ length (file_of J) = size ∙ ap (λ (b : Bundle). bytes_of (own_counts b)) bundle ∙ sym (file_length J) in
+    let room : n ≤ length out = omega (arith, size, within_words (own_counts S) within, (areas_long declared).output) in
+    let fits : FitsLimits D φ = subst (λ (b : Bundle). Within (own_counts b)) bundle within in
+    stored_written lo lw ls J n (written s declared fits) size_is room (stored ∙ (λ i. file_of (claiming (bundle i) (h.term i) 0)))

@@ -9,7 +9,7 @@ use mathlib.Core.List.{List, [], ◌∷◌, ◌++◌}
 use lib.ListN.{length, length-append}
 use Rattle.bundle.specs.Bundle.{Bundle}
 use Rattle.bundle.specs.Limits.{limits, bytes_of}
-use Rattle.bundle.specs.File.{counts_of, bundle_of}
+use Rattle.bundle.specs.File.{bundle_of}
 use Rattle.bundle.proofs.Limits.{within_words}
 use Rattle.logic.specs.Tests.{Fault}
 use Rattle.logic.specs.Tests.{first_failing, fault, or_else, or_next}
@@ -17,7 +17,7 @@ use Rattle.logic.specs.Checks.{header_fault, links_fault, symbols_fault, variabl
 use Rattle.judgement.specs.Order.{FirstFailing}
 use Rattle.judgement.proofs.Order.{first_fails, failing_number}
 use Rattle.judgement.proofs.Sizes.{last_number, SmallFault, failing_le, none_small, else_small, tables_small}
-use Rattle.expansion.specs.declared.Answer.TheVariants.{Written, Refused}
+use Rattle.expansion.specs.Answer.{Written, Refused}
 use Rattle.expansion.specs.File.{counts_in, file_of}
 use Rattle.expansion.specs.Expansion.{Outcome, long_enough}
 use Rattle.expansion.specs.Demands.{LongEnough}
@@ -118,7 +118,7 @@ job_short f text out words sets n e =
     let (formed, long, (φ, r, fit)) = (read_exactly f text out words sets).0 (n, e) in
     let b : Bundle = bundle_of f in
     let J : Bundle = job_of (filed_for b φ) in
-    let d : Declared f out words sets (counts_of f) = record { none = (declarations_exactly f out words sets).1 (formed, long); counted = refl } in
+    let d : Declared f out words sets b = record { none = (declarations_exactly f out words sets).1 (formed, long); bundle = refl } in
     let is : reading f text out words sets ≡ leaves (job J) out words sets = answer_is d text ((answers_exactly b text (job J)).1 (read φ r fit)) in
     let told : (reading f text out words sets).answer ≡ Written (length (file_of J)) = ap (λ (o : Outcome). o.answer) is in
     let same : n ≡ length (file_of J) = cc in

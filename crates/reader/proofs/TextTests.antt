@@ -1,22 +1,18 @@
 -- What refuses a text, as the code finds it.
---     scan_unread, scan_unknown     19 or 20
---     scan_neither     neither
+--     scan_refuses     19 or 20
 --     scan_passes      neither, and what is said of the sorts
 use Prim.Native.Nat.{ℕ}
 use native.Mathlib.Omega.{arith}
 use mathlib.Core.Path.{◌≡◌, refl, sym, ap, ◌∙◌}
-use mathlib.Core.Bool.{Bool, true, false, cond}
+use mathlib.Core.Bool.{Bool, cond}
 use mathlib.Core.List.{List}
 use lib.ListN.{length}
 use Rattle.bundle.specs.Bundle.{Bundle}
-use Rattle.logic.specs.Tests.{Fault}
-use Rattle.logic.specs.Tests.{fault}
+use Rattle.logic.specs.Tests.{Fault, fault}
 use Rattle.grammar.specs.Names.{Name, Resolved, resolved, unread_at, unknown_at, resolve}
 use Rattle.grammar.proofs.NamesExact.{resolved_exactly}
 use Rattle.reading.specs.Called.{known_in}
-use Rattle.lexing.specs.Counted.{known_among}
 use Rattle.lexing.proofs.NumeralLaws.{counts_suffice}
-use Rattle.spots.specs.declared.Verdict.{Verdict}
 use Rattle.spots.specs.Judgement.{declared_by, verdict_of}
 use Rattle.node_tests.specs.Tests.{Judges}
 use Rattle.reader.specs.Texts.{text_fault}
@@ -31,37 +27,18 @@ module _ (D : Bundle) where
   known_is = λ i x. known_at x i
 
   -- v is the verdict
-  module _ (text : List ℕ) (v : Verdict) (told : v ≡ verdict_of (resolve (declared_by (length D.symbols) (length D.variables)) text)) where
+  module _ (text : List ℕ) (v : Fault) (told : v ≡ verdict_of (resolve (declared_by (length D.symbols) (length D.variables)) text)) where
     told_is : v ≡ verdict_of (resolve (known_in D) text)
     told_is = told ∙ ap (λ (known : Name → Bool). verdict_of (resolve known text)) known_is
 
-    refuses : (r : Resolved) → ((verdict_of r).number ≡ 0 → ⊥) → fault (verdict_of r).number (verdict_of r).byte ≡ text_fault D r
+    refuses : (r : Resolved) → ((verdict_of r).number ≡ 0 → ⊥) → verdict_of r ≡ text_fault D r
     unfolding verdict_of text_fault
     refuses (resolved φ) ne = absurd (ne refl)
     refuses (unread_at n) ne = refl
     refuses (unknown_at n) ne = refl
 
-    scan_refuses : (v.number ≡ 0 → ⊥) → fault v.number v.byte ≡ text_fault D (resolve (known_in D) text)
-    scan_refuses ne =
-        ap (λ (x : Verdict). fault x.number x.byte) told_is
-        ∙ refuses (resolve (known_in D) text) (λ z. ne (ap (λ (x : Verdict). x.number) told_is ∙ z))
-
-    pub scan_unread : v.number ≡ 19 → fault 19 v.byte ≡ text_fault D (resolve (known_in D) text)
-    scan_unread e = ap (λ (n : ℕ). fault n v.byte) (sym e) ∙ scan_refuses (λ z. omega arith)
-
-    pub scan_unknown : v.number ≡ 20 → fault 20 v.byte ≡ text_fault D (resolve (known_in D) text)
-    scan_unknown e = ap (λ (n : ℕ). fault n v.byte) (sym e) ∙ scan_refuses (λ z. omega arith)
-
-    no_others : (r : Resolved) → ((verdict_of r).number ≡ 19 → ⊥) → ((verdict_of r).number ≡ 20 → ⊥) → (verdict_of r).number ≡ 0
-    unfolding verdict_of
-    no_others (resolved φ) a b = refl
-    no_others (unread_at n) a b = absurd (a refl)
-    no_others (unknown_at n) a b = absurd (b refl)
-
-    pub scan_neither : (v.number ≡ 19 → ⊥) → (v.number ≡ 20 → ⊥) → v.number ≡ 0
-    scan_neither a b =
-        let is : v.number ≡ (verdict_of (resolve (known_in D) text)).number = ap (λ (x : Verdict). x.number) told_is in
-        is ∙ no_others (resolve (known_in D) text) (λ z. a (is ∙ z)) (λ z. b (is ∙ z))
+    pub scan_refuses : (v.number ≡ 0 → ⊥) → v ≡ text_fault D (resolve (known_in D) text)
+    scan_refuses ne = told_is ∙ refuses (resolve (known_in D) text) (λ z. ne (ap (λ (x : Fault). x.number) told_is ∙ z))
 
     -- p is what is said of the sorts
     module _ (p : Bool) (judged : Judges D text p) where
@@ -74,4 +51,4 @@ module _ (D : Bundle) where
       passes (unknown_at n) e z = absurd (omega arith)
 
       pub scan_passes : v.number ≡ 0 → cond p (fault 0 0) (fault 8 0) ≡ text_fault D (resolve (known_in D) text)
-      scan_passes z = passes (resolve (known_in D) text) refl (sym (ap (λ (x : Verdict). x.number) told_is) ∙ z)
+      scan_passes z = passes (resolve (known_in D) text) refl (sym (ap (λ (x : Fault). x.number) told_is) ∙ z)

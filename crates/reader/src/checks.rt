@@ -31,17 +31,13 @@ pub fn declarations_fault(
     ensures bundle { IfOk result (λ b. b ≡ bundle_of file.now) }
 {
     let enough = areas::long_enough(out, words, sets);
-    match opened(file, enough, 3) {
-        Err(check) => Err(Failure { check, record: 0 }),
-        Ok(bundle) => {
-            declarations::sections_fault(&bundle)?;
-            if !is_declarations(&bundle) {
-                return Err(Failure {
-                    check: Check::Job,
-                    record: 0,
-                });
-            }
-            Ok(bundle)
-        }
+    let bundle = opened(file, enough, 3)?;
+    declarations::sections_fault(&bundle)?;
+    if !is_declarations(&bundle) {
+        return Err(Failure {
+            check: Check::Job,
+            record: 0,
+        });
     }
+    Ok(bundle)
 }

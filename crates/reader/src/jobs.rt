@@ -1,73 +1,44 @@
 // The job of a text beside declarations of which no check fails, stored at the start of the output.
-ghost use Rattle.std.specs.Prelude.{◌≡◌, length};
-ghost use Rattle.expansion.specs.declared.Answer.TheVariants.{Written};
+ghost use Rattle.std.specs.Prelude.{IfSome, ◌≡◌, length};
+ghost use Rattle.expansion.specs.Answer.{Written, answer_in};
 ghost use Rattle.reader.specs.Storing.{Cleared, TextStored};
 
-use bundle::{Bundle, Counts};
-use endings::ReadTerm;
-use expansion::Answer;
-use logic::checks::Check;
+use bundle::Bundle;
+use files::copies::copy_job;
+use files::stores::store_file;
+use filing::Filed;
+use formulas::texts::read_records;
+use logic::checks::{Check, Failure};
+use pass_formulas::texts::pass_text;
 
-// By one pass over the text: the length of the job; or 0 where the pass is given up.
+// By one pass over the text: the length of the job; or `None` where the pass is given up.
 pub fn store_passed(
-    declarations: &[u8],
-    b: Counts,
+    bundle: &Bundle,
     text: &[u8],
     out: &mut [u8],
     words: &mut [u32],
-) -> usize
-    requires { Cleared declarations.now (length out.old) (length words.old) b }
+) -> Option<usize>
+    requires { Cleared bundle.now (length out.old) (length words.old) }
     ensures { (length out.new ≡ length out.old) × (length words.new ≡ length words.old)
-        × ((result ≡ 0 → ⊥) → TextStored declarations.now b text.now out.old words.old out.new
-        words.new (Written result)) }
+        × IfSome result (λ n. TextStored bundle.now text.now out.old words.old out.new words.new (Written n)) }
 {
-    files::copies::copy_job(declarations, b, words);
-    let mut counts = [b.terms, b.links];
-    let term = pass_formulas::texts::pass_text(declarations, b, text, words, &mut counts);
-    if term == 0 {
-        return 0;
-    }
-    let c = pass_terms::declared::counts_by(declarations, &counts);
-    files::stores::store_file(words, c, term, 0, out);
-    c.bytes()
+    let mut filed = Filed::of(copy_job(bundle, words));
+    let term = pass_text(bundle, text, &mut filed)?;
+    Some(store_file(filed.scratch(), term, 0, out))
 }
 
 // By every check in its order: what refuses the text; or its records are placed.
 pub fn store_checked(
-    declarations: &[u8],
-    b: Counts,
+    bundle: &Bundle,
     text: &[u8],
     out: &mut [u8],
     words: &mut [u32],
-) -> Answer
-    requires { Cleared declarations.now (length out.old) (length words.old) b }
-    ensures { TextStored declarations.now b text.now out.old words.old out.new
-        words.new result }
+) -> Result<usize, Failure>
+    requires { Cleared bundle.now (length out.old) (length words.old) }
+    ensures { TextStored bundle.now text.now out.old words.old out.new words.new (answer_in result) }
 {
-    let bundle = Bundle::of(declarations, b);
-    if let Err(found) = super::texts::text_fault(&bundle, text, out) {
-        return Answer::Refused {
-            number: found.check.number(),
-            record: found.record,
-        };
-    }
-    files::copies::copy_job(declarations, b, words);
-    let records = formulas::texts::read_records(&bundle, text, words, b);
-    match records {
-        ReadTerm::Full => Answer::Refused {
-            number: Check::Room.number(),
-            record: 0,
-        },
-        ReadTerm::Done {
-            counts,
-            term,
-            sort: _,
-            end: _,
-        } => {
-            files::stores::store_file(words, counts, term, 0, out);
-            Answer::Written {
-                length: counts.bytes(),
-            }
-        }
-    }
+    super::texts::text_fault(bundle, text, out)?;
+    let mut filed = Filed::of(copy_job(bundle, words));
+    let read = read_records(bundle, text, &mut filed).ok_or(Check::Room)?;
+    Ok(store_file(filed.scratch(), read.term, 0, out))
 }

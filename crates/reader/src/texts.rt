@@ -15,19 +15,7 @@ pub fn text_fault(bundle: &Bundle, text: &[u8], area: &mut [u8]) -> Result<(), F
 {
     let symbols = bundle.symbols();
     let variables = bundle.variables();
-    let verdict = scanning::scan::scan(text, symbols, variables, area);
-    if verdict.number == 19 {
-        return Err(Failure {
-            check: Check::Text,
-            record: verdict.byte,
-        });
-    }
-    if verdict.number == 20 {
-        return Err(Failure {
-            check: Check::Name,
-            record: verdict.byte,
-        });
-    }
+    scanning::scan::scan(text, symbols, variables, area)?;
     if !node_tests::nodes::text_fine(bundle, text) {
         return Err(Failure {
             check: Check::Sorted,

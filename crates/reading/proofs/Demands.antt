@@ -24,7 +24,7 @@ use Rattle.logic.specs.Free.{Closed}
 use Rattle.logic.proofs.Kept.{tree_kept}
 use Rattle.judgement.specs.Order.{FirstFailing}
 use Rattle.judgement.proofs.Order.{first_fails, fails_first, failing_number}
-use Rattle.expansion.specs.declared.Answer.TheVariants.{Written, Refused}
+use Rattle.expansion.specs.Answer.{Written, Refused}
 use Rattle.expansion.specs.File.{file_of}
 use Rattle.expansion.specs.Expansion.{expansion}
 use Rattle.expansion.specs.Demands.{Bytes, LongEnough, ZerosLeft}

@@ -10,10 +10,10 @@ use Rattle.logic.specs.Lets.{holds_let}
 use Rattle.logic.specs.Values.{EqualValues}
 use Rattle.logic.specs.WellFormed.{HeaderFormed, LinkFormed, SymbolFormed, VariableFormed}
 use Rattle.logic.specs.Longer.{Longer}
-use Rattle.judgement.specs.declared.Answer.TheVariants.{Accepted}
+use Rattle.judgement.specs.Answer.{Accepted}
 use Rattle.judgement.specs.Judge.{acceptance, judge}
 use Rattle.judgement.specs.Order.{FirstFailing}
-use Rattle.expansion.specs.declared.Answer.TheVariants.{Written, Refused}
+use Rattle.expansion.specs.Answer.{Written, Refused}
 use Rattle.expansion.specs.Expansion.{expansion}
 use Rattle.expansion.specs.Demands.{Bytes, JobFormed, Fits, LongEnough, ZerosLeft}
 use Rattle.grammar.specs.Grammar.{Formula}

@@ -4,7 +4,7 @@ use Rattle.std.specs.Prelude.{ℕ, ◌≡◌, List, [], ◌∷◌, ◌++◌, rep
 use Rattle.bundle.specs.Bundle.{Bundle, Symbol, TermRecord, Link}
 use Rattle.bundle.specs.Words.{encode}
 use Rattle.logic.specs.Lists.{All}
-use Rattle.expansion.specs.declared.Answer.TheVariants.{Written, Refused}
+use Rattle.expansion.specs.Answer.{Written, Refused}
 use Rattle.expansion.specs.File.{file_of}
 use Rattle.grammar.specs.Bytes.{bytes}
 use Rattle.reading.specs.Reader.{Answer, job, refused, read_text}

@@ -12,32 +12,30 @@ use Rattle.logic.specs.Rules.{walk_by, head_tests, arguments_walk, cong_walk_by,
 use Rattle.rules.specs.declared.Lists.{Lists}
 use Rattle.rules.specs.WalkLists.{CongLists, LetLists}
 
-module _ (step : ℕ → Step) (b : Bundle) (s : Step) (l : Lists) where
+module _ (step : ℕ → Step) (b : Bundle) (s : Step) where
   -- what the code's walk finds
-  abbrev Walked : Walk → Type 0
-  Walked w = w ≡ walk_by step l.body l.context (items b l.lefts) (items b l.rights) (items b s.premises)
+  abbrev Walked : Lists → Walk → Type 0
+  Walked l w = w ≡ walk_by step l.body l.context (items b l.lefts) (items b l.rights) (items b s.premises)
 
-  pub cong_bad : CongLists b s l → l.good ≡ false → record { passes = false; links = 0 } ≡ cong_walk_by step b s
+  pub cong_bad : passed (head_tests b s) ≡ false → record { passes = false; links = 0 } ≡ cong_walk_by step b s
   unfolding cong_walk_by
-  cong_bad h e =
-      let d : passed (head_tests b s) ≡ false = sym h.good ∙ e in
+  cong_bad d =
       sym (λ i. record { passes = d i && (arguments_walk step b s).passes; links = cond (d i) (arguments_walk step b s).links 0 })
 
-  pub cong_good : (w : Walk) → CongLists b s l → l.good ≡ true → Walked w → w ≡ cong_walk_by step b s
+  pub cong_good : (w : Walk) (l : Lists) → CongLists b s l → Walked l w → w ≡ cong_walk_by step b s
   unfolding cong_walk_by
-  cong_good w h e found =
-      let d : passed (head_tests b s) ≡ true = sym h.good ∙ e in
+  cong_good w l h found =
+      let d = h.good in
       (rw (h.body, h.context, h.lefts, h.rights) at found)
       ∙ sym (λ i. record { passes = d i && (arguments_walk step b s).passes; links = cond (d i) (arguments_walk step b s).links 0 })
 
-  pub let_bad : LetLists step b s l → l.good ≡ false → false ≡ passed (let_tests_by step b s)
+  pub let_bad : passed (body_tests step b s) ≡ false → false ≡ passed (let_tests_by step b s)
   unfolding let_tests_by passed
-  let_bad h e =
-      let d : passed (body_tests step b s) ≡ false = sym h.good ∙ e in
+  let_bad d =
       sym (λ i. d i && (bound_walk step b s).passes)
 
-  pub let_good : (w : Walk) → LetLists step b s l → l.good ≡ true → Walked w → w.passes ≡ passed (let_tests_by step b s)
+  pub let_good : (w : Walk) (l : Lists) → LetLists step b s l → Walked l w → w.passes ≡ passed (let_tests_by step b s)
   unfolding let_tests_by passed
-  let_good w h e found =
-      let d : passed (body_tests step b s) ≡ true = sym h.good ∙ e in
+  let_good w l h found =
+      let d = h.good in
       ap (λ (x : Walk). x.passes) (rw (h.body, h.context, h.lefts, h.rights) at found) ∙ sym (λ i. d i && (bound_walk step b s).passes)

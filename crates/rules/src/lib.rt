@@ -4,10 +4,9 @@
 pub mod rules; // rules.rt: REFL, CONG, TRANS, BIND, LET
 
 // What a step's walk takes beside its premises: the context in which they carry the terms of one list to those of another, and whether one more is left
-// over for a let's body. `good` says whether the rest of what the rule asks for is there.
+// over for a let's body.
 #[derive(Clone, Copy)]
 pub struct Lists {
-    pub good: bool,
     pub body: bool,
     pub context: usize,
     pub lefts: usize,

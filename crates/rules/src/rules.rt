@@ -1,8 +1,8 @@
 // The five rules, one function each; CONG and LET share their walk.
-ghost use Rattle.std.specs.Prelude.{◌≡◌, true, false, ◌+◌, ◌*◌, ◌≤◌, length};
+ghost use Rattle.std.specs.Prelude.{MatchOption, ◌≡◌, true, false, ◌+◌, ◌*◌, ◌≤◌, length};
 ghost use Rattle.bundle.specs.Limits.{limits};
 ghost use Rattle.logic.specs.Tests.{passed};
-ghost use Rattle.logic.specs.Rules.{is_image, refl_holds_by, cong_walk_by, trans_tests_by, trans_side_by, bind_terms_by, bind_contexts_by, free_in_image_by};
+ghost use Rattle.logic.specs.Rules.{is_image, refl_holds_by, cong_walk_by, trans_tests_by, trans_side_by, bind_terms_by, bind_contexts_by, free_in_image_by, head_tests, body_tests};
 ghost use Rattle.logic.specs.Rules.{bind_sides_by, let_tests_by};
 ghost use Rattle.bundle.specs.RecordWords.{as_step};
 ghost use Rattle.rules.specs.WalkLists.{CongLists, LetLists};
@@ -228,8 +228,8 @@ pub fn bind_sides(bundle: &Bundle, area: &[u64], n: usize, images: &[u16], s: St
 // ---- CONG and LET
 
 // CONG: the arguments. The rest: both sides are applications, of one symbol.
-fn cong_lists(bundle: &Bundle, s: StepWords) -> Lists
-    ensures { CongLists bundle.now (as_step s) result }
+fn cong_lists(bundle: &Bundle, s: StepWords) -> Option<Lists>
+    ensures { MatchOption result (passed (head_tests bundle.now (as_step s)) ≡ false) (CongLists bundle.now (as_step s)) }
 {
     let left = s.left;
     let right = s.right;
@@ -242,18 +242,21 @@ fn cong_lists(bundle: &Bundle, s: StepWords) -> Lists
     let good = (left_kind == APPLICATION)
         & (right_kind == APPLICATION)
         & (left_symbol == right_symbol);
-    Lists {
-        good,
+    if !good {
+        return None;
+    }
+    Some(Lists {
         body: false,
         context: s.context,
         lefts,
         rights,
-    }
+    })
 }
 
 // LET: the bound terms, and those that the last premise's context puts in. The rest is of the body, and of that context.
-fn let_lists(bundle: &Bundle, bed: &[u32], s: StepWords) -> Lists
-    ensures { LetLists (step_in bundle.now bed.now) bundle.now (as_step s) result }
+fn let_lists(bundle: &Bundle, bed: &[u32], s: StepWords) -> Option<Lists>
+    ensures { MatchOption result (passed (body_tests (step_in bundle.now bed.now) bundle.now (as_step s)) ≡ false)
+        (LetLists (step_in bundle.now bed.now) bundle.now (as_step s)) }
 {
     let home = s.context;
     let left = s.left;
@@ -278,19 +281,22 @@ fn let_lists(bundle: &Bundle, bed: &[u32], s: StepWords) -> Lists
         & (inner_kind == REPLACES)
         & (parent == home)
         & same;
-    Lists {
-        good,
+    if !good {
+        return None;
+    }
+    Some(Lists {
         body: true,
         context: home,
         lefts: bound,
         rights: terms,
-    }
+    })
 }
 
 // The lists of a CONG, or else of a LET.
-fn step_lists(bundle: &Bundle, bed: &[u32], s: StepWords) -> Lists
-    ensures cong_lists { s.rule ≡ 2 → CongLists bundle.now (as_step s) result }
-    ensures let_lists { (s.rule ≡ 2 → ⊥) → LetLists (step_in bundle.now bed.now) bundle.now (as_step s) result }
+fn step_lists(bundle: &Bundle, bed: &[u32], s: StepWords) -> Option<Lists>
+    ensures cong_lists { s.rule ≡ 2 → MatchOption result (passed (head_tests bundle.now (as_step s)) ≡ false) (CongLists bundle.now (as_step s)) }
+    ensures let_lists { (s.rule ≡ 2 → ⊥) → MatchOption result (passed (body_tests (step_in bundle.now bed.now) bundle.now (as_step s)) ≡ false)
+        (LetLists (step_in bundle.now bed.now) bundle.now (as_step s)) }
 {
     let rule = s.rule;
     if rule == CONG {
@@ -305,21 +311,19 @@ pub fn step_walk(bundle: &Bundle, bed: &[u32], s: StepWords) -> Walk
     ensures value { s.rule ≡ 2 → result ≡ cong_walk_by (step_in bundle.now bed.now) bundle.now (as_step s) }
     ensures passes_value { (s.rule ≡ 2 → ⊥) → result.passes ≡ passed (let_tests_by (step_in bundle.now bed.now) bundle.now (as_step s)) }
 {
-    let premises = s.premises;
-    let lists = step_lists(bundle, bed, s);
-    if !lists.good {
-        return Walk {
+    match step_lists(bundle, bed, s) {
+        None => Walk {
             passes: false,
             links: 0,
-        };
+        },
+        Some(lists) => walk(
+            bundle,
+            bed,
+            lists.body,
+            lists.context,
+            lists.lefts,
+            lists.rights,
+            s.premises,
+        ),
     }
-    walk(
-        bundle,
-        bed,
-        lists.body,
-        lists.context,
-        lists.lefts,
-        lists.rights,
-        premises,
-    )
 }

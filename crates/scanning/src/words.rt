@@ -7,7 +7,7 @@ use crate::runs::sort_start;
 use crate::tables::cell;
 use lexing::names::known_as;
 use lexing::runs::word_code;
-use spots::Met;
+use logic::checks::{Check, Failure};
 
 // How many bytes of a run could still become a word that is due at a spot.
 fn viable_bytes(text: &[u8], spot: usize, start: usize, end: usize) -> usize
@@ -32,39 +32,29 @@ pub fn word(
     spot: usize,
     start: usize,
     end: usize,
-) -> Met
+) -> Result<usize, Failure>
     requires { (spot < 20) × (start ≤ end) × (end ≤ length text.now) × (symbols ≤ 4294967295) × (variables ≤ 4294967295) }
     ensures { result ≡ word_met (declared_by symbols variables) spot start (part text.now start end) }
 {
     let row = spot * 14;
     let code = word_code(&text[start..end]);
     let next = usize::from(cell(row + code));
-    if next < 20 {
-        if code == 9 {
-            let kind = usize::from(cell(row + 12));
-            if known_as(symbols, variables, kind, &text[start..end]) {
-                return Met {
-                    number: 0,
-                    byte: 0,
-                    spot: next,
-                };
-            }
-            return Met {
-                number: 20,
-                byte: start,
-                spot,
-            };
+    if next >= 20 {
+        let viable = viable_bytes(text, spot, start, end);
+        return Err(Failure {
+            check: Check::Text,
+            record: start + viable,
+        });
+    }
+    if code == 9 {
+        let kind = usize::from(cell(row + 12));
+        let known = known_as(symbols, variables, kind, &text[start..end]);
+        if !known {
+            return Err(Failure {
+                check: Check::Name,
+                record: start,
+            });
         }
-        return Met {
-            number: 0,
-            byte: 0,
-            spot: next,
-        };
     }
-    let viable = viable_bytes(text, spot, start, end);
-    Met {
-        number: 19,
-        byte: start + viable,
-        spot,
-    }
+    Ok(next)
 }

@@ -1,10 +1,10 @@
 -- Words stored at the end of a section are a record appended, and every other section stays as it is.
 --     Written                        words vs stand from place p on, and every other word is as it was
 --     written_none, written_more     no store, and one store more
---     written_2, written_4, written_5   stores one after another
+--     written_1, written_2, written_4, written_5   stores one after another
 --     rows_kept, rows_more           a section whose words are as they were, and one with a record more: one law over start, size and kind
 --     variable_appended, ..          what the stores of each append leave
-use mathlib.Core.Path.{◌≡◌, refl, sym, ◌∙◌}
+use mathlib.Core.Path.{◌≡◌, refl, sym, subst, ◌∙◌}
 use mathlib.Core.List.{List, [], ◌∷◌, ◌++◌}
 use Prim.Native.Nat.{ℕ, ◌+◌, ◌*◌, ◌≤◌, ◌<◌}
 use native.Mathlib.Omega.{arith}
@@ -13,11 +13,11 @@ use lib.ListN.{length, get_or, set, length-append, length-set, get_or-append}
 use lib.Seq.{get_or-set_same, get_or-set_other, get_or-append_seam}
 use Rattle.bundle.specs.declared.Counts.{Counts}
 use Rattle.bundle.specs.Bundle.{Bundle, Symbol, Link, TermRecord, Context, Step}
-use Rattle.bundle.specs.Limits.{limits, symbols_at, variables_at, terms_at, links_at, contexts_at, steps_at}
+use Rattle.bundle.specs.Limits.{limits, Within, symbols_at, variables_at, terms_at, links_at, contexts_at, steps_at}
 use Rattle.bundle.specs.File.{tab, record_by, symbol_from, link_from, term_from, context_from, step_from, bundle_by}
 use Rattle.bundle.proofs.Fields.{symbol_same, variable_same, term_same, link_same, context_same, step_same, section_same, section_more}
 use Rattle.logic.specs.Longer.{with_variables, with_terms, with_links, with_contexts, with_steps}
-use Rattle.scratch.specs.Scratch.{word_in, bundle_in, Roomy}
+use Rattle.scratch.specs.Scratch.{word_in, bundle_in, Ready}
 
 -- v is w with the words vs from place p on
 pub record Written (w v : List ℕ) (p : ℕ) (vs : List ℕ) : Type 0 where
@@ -26,7 +26,7 @@ pub record Written (w v : List ℕ) (p : ℕ) (vs : List ℕ) : Type 0 where
   pub below : (j : ℕ) → j < p → get_or v j 0 ≡ get_or w j 0
   pub above : (j : ℕ) → p + length vs ≤ j → get_or v j 0 ≡ get_or w j 0
 
-pub written_none : (w : List ℕ) (p : ℕ) → Written w w p []
+written_none : (w : List ℕ) (p : ℕ) → Written w w p []
 written_none w p = record { long = refl; new = λ k h. absurd (omega arith); below = λ j h. refl; above = λ j h. refl }
 
 module _ {w v : List ℕ} {p : ℕ} {vs : List ℕ} (o : Written w v p vs) (q x : ℕ) (here : q ≡ p + length vs) (fits : q < length w) where
@@ -48,10 +48,13 @@ module _ {w v : List ℕ} {p : ℕ} {vs : List ℕ} (o : Written w v p vs) (q x 
           let g : q < length v = omega (arith, o.long) in
           rw (e, f) (get_or-set_same v q x 0 g ∙ sym (get_or-append_seam vs x [] 0))
 
--- two, four and five words stored one after another
+-- one word, and two, four and five stored one after another
+pub written_1 : (w : List ℕ) (p a : ℕ) → p + 1 ≤ length w → Written w (set w p a) p (a ∷ [])
+written_1 w p a h = written_more (written_none w p) p a (omega arith) (omega arith)
+
 module _ (w : List ℕ) (p a b : ℕ) where
   pub written_2 : p + 2 ≤ length w → Written w (set (set w p a) (p + 1) b) p (a ∷ b ∷ [])
-  written_2 h = written_more (written_more (written_none w p) p a (omega arith) (omega arith)) (p + 1) b (omega arith) (omega arith)
+  written_2 h = written_more (written_1 w p a (omega arith)) (p + 1) b (omega arith) (omega arith)
 
   module _ (d e : ℕ) where
     pub written_4 : p + 4 ≤ length w → Written w (set (set (set (set w p a) (p + 1) b) (p + 2) d) (p + 3) e) p (a ∷ b ∷ d ∷ e ∷ [])
@@ -123,154 +126,127 @@ counted c v t l x s = record {
   steps = s;
 }
 
--- what an append leaves: room, as many words, and the bundle b
-abbrev pub Grows : List ℕ → List ℕ → Counts → Counts → Bundle → Type 0
-Grows w v c r b = Roomy v r × (length v ≡ length w) × (bundle_in v r ≡ b) × (r.version ≡ c.version)
+-- what an append leaves: words and counts, ready, of the bundle b
+abbrev pub Grows : List ℕ → Counts → Bundle → Type 0
+Grows v r b = Ready v r × (bundle_in v r ≡ b)
 
 -- the words of a new record at the end of its section, and all else as it was
-module _ (w v : List ℕ) (c : Counts) (g : Roomy w c) where
-  pub variable_appended : {x : ℕ} → c.variables < limits.variables → Written w v (variables_at limits + 1 * c.variables) (x ∷ [])
-      → Grows w v c (counted c (c.variables + 1) c.terms c.links c.contexts c.steps) (with_variables (bundle_in w c) (x ∷ []))
+module _ {w v : List ℕ} {c : Counts} (g : Ready w c) where
+  ready_more : {r : Counts} → Within r → r.version ≡ c.version → length v ≡ length w → Ready v r
+  ready_more h e l = record { room = record { within = h; long = omega (arith, g.room.long) }; version = e ∙ g.version }
+
+  pub variable_appended : {x : ℕ} → c.variables < limits.variables → Written w v (variables_at limits + c.variables) (x ∷ [])
+      → Grows v (counted c (c.variables + 1) c.terms c.links c.contexts c.steps) (with_variables (bundle_in w c) (x ∷ []))
   unfolding bundle_by
-  variable_appended {x} l o = (
-    record {
-      within = record {
-        symbols = g.within.symbols;
-        variables = omega arith;
-        terms = g.within.terms;
-        links = g.within.links;
-        contexts = g.within.contexts;
-        steps = g.within.steps;
-      };
-      long = omega (arith, o.long, g.long);
-    },
-    o.long,
-    bundle_path
-        (symbols_kept w v c (λ j a b. o.below j (omega (arith, g.within))))
-        (rows_more (λ u. u 0) 1 variable_same w v (variables_at limits) c.variables (λ j a b. o.below j (omega arith)) (x ∷ []) o.new)
-        (terms_kept w v c (λ j a b. o.above j (omega (arith, g.within))))
-        (links_kept w v c (λ j a b. o.above j (omega (arith, g.within))))
-        (contexts_kept w v c (λ j a b. o.above j (omega (arith, g.within))))
-        (steps_kept w v c (λ j a b. o.above j (omega (arith, g.within))))
-        (o.below 7 (omega arith))
-        (o.below 8 (omega arith)),
-    refl,
-  )
+  variable_appended {x} l u =
+      let o : Written w v (variables_at limits + 1 * c.variables) (x ∷ []) = subst (λ n. Written w v (variables_at limits + n) (x ∷ [])) (omega arith) u in (
+        ready_more (record {
+          symbols = g.room.within.symbols;
+          variables = omega arith;
+          terms = g.room.within.terms;
+          links = g.room.within.links;
+          contexts = g.room.within.contexts;
+          steps = g.room.within.steps;
+        }) refl o.long,
+        bundle_path
+            (symbols_kept w v c (λ j f t. o.below j (omega (arith, g.room.within))))
+            (rows_more (λ u. u 0) 1 variable_same w v (variables_at limits) c.variables (λ j f t. o.below j (omega arith)) (x ∷ []) o.new)
+            (terms_kept w v c (λ j f t. o.above j (omega (arith, g.room.within))))
+            (links_kept w v c (λ j f t. o.above j (omega (arith, g.room.within))))
+            (contexts_kept w v c (λ j f t. o.above j (omega (arith, g.room.within))))
+            (steps_kept w v c (λ j f t. o.above j (omega (arith, g.room.within))))
+            (o.below 7 (omega arith))
+            (o.below 8 (omega arith)),
+      )
 
   pub term_appended : {kind a b d : ℕ} → c.terms < limits.terms → Written w v (terms_at limits + 4 * c.terms) (kind ∷ a ∷ b ∷ d ∷ [])
-      → Grows w v c (counted c c.variables (c.terms + 1) c.links c.contexts c.steps)
-      (with_terms (bundle_in w c) (record { kind = kind; a = a; b = b; c = d } ∷ []))
+      → Grows v (counted c c.variables (c.terms + 1) c.links c.contexts c.steps) (with_terms (bundle_in w c) ((record { kind = kind; a = a; b = b; c = d }) ∷ []))
   unfolding bundle_by
   term_appended {kind} {a} {b} {d} l o = (
-    record {
-      within = record {
-        symbols = g.within.symbols;
-        variables = g.within.variables;
-        terms = omega arith;
-        links = g.within.links;
-        contexts = g.within.contexts;
-        steps = g.within.steps;
-      };
-      long = omega (arith, o.long, g.long);
-    },
-    o.long,
+    ready_more (record {
+      symbols = g.room.within.symbols;
+      variables = g.room.within.variables;
+      terms = omega arith;
+      links = g.room.within.links;
+      contexts = g.room.within.contexts;
+      steps = g.room.within.steps;
+    }) refl o.long,
     bundle_path
-        (symbols_kept w v c (λ j a b. o.below j (omega (arith, g.within))))
-        (variables_kept w v c (λ j a b. o.below j (omega (arith, g.within))))
-        (rows_more term_from 4 term_same w v (terms_at limits) c.terms (λ j a b. o.below j (omega arith)) (kind ∷ a ∷ b ∷ d ∷ []) o.new)
-        (links_kept w v c (λ j a b. o.above j (omega (arith, g.within))))
-        (contexts_kept w v c (λ j a b. o.above j (omega (arith, g.within))))
-        (steps_kept w v c (λ j a b. o.above j (omega (arith, g.within))))
+        (symbols_kept w v c (λ j f t. o.below j (omega (arith, g.room.within))))
+        (variables_kept w v c (λ j f t. o.below j (omega (arith, g.room.within))))
+        (rows_more term_from 4 term_same w v (terms_at limits) c.terms (λ j f t. o.below j (omega arith)) (kind ∷ a ∷ b ∷ d ∷ []) o.new)
+        (links_kept w v c (λ j f t. o.above j (omega (arith, g.room.within))))
+        (contexts_kept w v c (λ j f t. o.above j (omega (arith, g.room.within))))
+        (steps_kept w v c (λ j f t. o.above j (omega (arith, g.room.within))))
         (o.below 7 (omega arith))
         (o.below 8 (omega arith)),
-    refl,
   )
 
   pub link_appended : {value next : ℕ} → c.links < limits.links → Written w v (links_at limits + 2 * c.links) (value ∷ next ∷ [])
-      → Grows w v c (counted c c.variables c.terms (c.links + 1) c.contexts c.steps)
-      (with_links (bundle_in w c) (record { value = value; next = next } ∷ []))
+      → Grows v (counted c c.variables c.terms (c.links + 1) c.contexts c.steps) (with_links (bundle_in w c) ((record { value = value; next = next }) ∷ []))
   unfolding bundle_by
   link_appended {value} {next} l o = (
-    record {
-      within = record {
-        symbols = g.within.symbols;
-        variables = g.within.variables;
-        terms = g.within.terms;
-        links = omega arith;
-        contexts = g.within.contexts;
-        steps = g.within.steps;
-      };
-      long = omega (arith, o.long, g.long);
-    },
-    o.long,
+    ready_more (record {
+      symbols = g.room.within.symbols;
+      variables = g.room.within.variables;
+      terms = g.room.within.terms;
+      links = omega arith;
+      contexts = g.room.within.contexts;
+      steps = g.room.within.steps;
+    }) refl o.long,
     bundle_path
-        (symbols_kept w v c (λ j a b. o.below j (omega (arith, g.within))))
-        (variables_kept w v c (λ j a b. o.below j (omega (arith, g.within))))
-        (terms_kept w v c (λ j a b. o.below j (omega (arith, g.within))))
-        (rows_more link_from 2 link_same w v (links_at limits) c.links (λ j a b. o.below j (omega arith)) (value ∷ next ∷ []) o.new)
-        (contexts_kept w v c (λ j a b. o.above j (omega (arith, g.within))))
-        (steps_kept w v c (λ j a b. o.above j (omega (arith, g.within))))
+        (symbols_kept w v c (λ j f t. o.below j (omega (arith, g.room.within))))
+        (variables_kept w v c (λ j f t. o.below j (omega (arith, g.room.within))))
+        (terms_kept w v c (λ j f t. o.below j (omega (arith, g.room.within))))
+        (rows_more link_from 2 link_same w v (links_at limits) c.links (λ j f t. o.below j (omega arith)) (value ∷ next ∷ []) o.new)
+        (contexts_kept w v c (λ j f t. o.above j (omega (arith, g.room.within))))
+        (steps_kept w v c (λ j f t. o.above j (omega (arith, g.room.within))))
         (o.below 7 (omega arith))
         (o.below 8 (omega arith)),
-    refl,
   )
 
   pub context_appended : {kind a b parent : ℕ} → c.contexts < limits.contexts → Written w v (contexts_at limits + 4 * c.contexts) (kind ∷ a ∷ b ∷ parent ∷ [])
-      → Grows w v c (counted c c.variables c.terms c.links (c.contexts + 1) c.steps)
-      (with_contexts (bundle_in w c) (record { kind = kind; a = a; b = b; parent = parent } ∷ []))
+      → Grows v (counted c c.variables c.terms c.links (c.contexts + 1) c.steps) (with_contexts (bundle_in w c) ((record { kind = kind; a = a; b = b; parent = parent }) ∷ []))
   unfolding bundle_by
   context_appended {kind} {a} {b} {parent} l o = (
-    record {
-      within = record {
-        symbols = g.within.symbols;
-        variables = g.within.variables;
-        terms = g.within.terms;
-        links = g.within.links;
-        contexts = omega arith;
-        steps = g.within.steps;
-      };
-      long = omega (arith, o.long, g.long);
-    },
-    o.long,
+    ready_more (record {
+      symbols = g.room.within.symbols;
+      variables = g.room.within.variables;
+      terms = g.room.within.terms;
+      links = g.room.within.links;
+      contexts = omega arith;
+      steps = g.room.within.steps;
+    }) refl o.long,
     bundle_path
-        (symbols_kept w v c (λ j a b. o.below j (omega (arith, g.within))))
-        (variables_kept w v c (λ j a b. o.below j (omega (arith, g.within))))
-        (terms_kept w v c (λ j a b. o.below j (omega (arith, g.within))))
-        (links_kept w v c (λ j a b. o.below j (omega (arith, g.within))))
-        (rows_more context_from 4 context_same w v (contexts_at limits) c.contexts (λ j a b. o.below j (omega arith)) (kind ∷ a ∷ b ∷ parent ∷ []) o.new)
-        (steps_kept w v c (λ j a b. o.above j (omega (arith, g.within))))
+        (symbols_kept w v c (λ j f t. o.below j (omega (arith, g.room.within))))
+        (variables_kept w v c (λ j f t. o.below j (omega (arith, g.room.within))))
+        (terms_kept w v c (λ j f t. o.below j (omega (arith, g.room.within))))
+        (links_kept w v c (λ j f t. o.below j (omega (arith, g.room.within))))
+        (rows_more context_from 4 context_same w v (contexts_at limits) c.contexts (λ j f t. o.below j (omega arith)) (kind ∷ a ∷ b ∷ parent ∷ []) o.new)
+        (steps_kept w v c (λ j f t. o.above j (omega (arith, g.room.within))))
         (o.below 7 (omega arith))
         (o.below 8 (omega arith)),
-    refl,
   )
 
-  pub step_appended : {rule context left right premises : ℕ} → c.steps < limits.steps
-      → Written w v (steps_at limits + 5 * c.steps) (rule ∷ context ∷ left ∷ right ∷ premises ∷ [])
-      → Grows w v c (counted c c.variables c.terms c.links c.contexts (c.steps + 1))
-      (with_steps (bundle_in w c) (record { rule = rule; context = context; left = left; right = right; premises = premises } ∷ []))
+  pub step_appended : {rule context left right premises : ℕ} → c.steps < limits.steps → Written w v (steps_at limits + 5 * c.steps) (rule ∷ context ∷ left ∷ right ∷ premises ∷ [])
+      → Grows v (counted c c.variables c.terms c.links c.contexts (c.steps + 1)) (with_steps (bundle_in w c) ((record { rule = rule; context = context; left = left; right = right; premises = premises }) ∷ []))
   unfolding bundle_by
   step_appended {rule} {context} {left} {right} {premises} l o = (
-    record {
-      within = record {
-        symbols = g.within.symbols;
-        variables = g.within.variables;
-        terms = g.within.terms;
-        links = g.within.links;
-        contexts = g.within.contexts;
-        steps = omega arith;
-      };
-      long = omega (arith, o.long, g.long);
-    },
-    o.long,
+    ready_more (record {
+      symbols = g.room.within.symbols;
+      variables = g.room.within.variables;
+      terms = g.room.within.terms;
+      links = g.room.within.links;
+      contexts = g.room.within.contexts;
+      steps = omega arith;
+    }) refl o.long,
     bundle_path
-        (symbols_kept w v c (λ j a b. o.below j (omega (arith, g.within))))
-        (variables_kept w v c (λ j a b. o.below j (omega (arith, g.within))))
-        (terms_kept w v c (λ j a b. o.below j (omega (arith, g.within))))
-        (links_kept w v c (λ j a b. o.below j (omega (arith, g.within))))
-        (contexts_kept w v c (λ j a b. o.below j (omega (arith, g.within))))
-        (rows_more step_from 5 step_same w v (steps_at limits) c.steps (λ j a b. o.below j (omega arith)) (rule ∷ context ∷ left ∷ right ∷ premises ∷ [])
-        o.new)
+        (symbols_kept w v c (λ j f t. o.below j (omega (arith, g.room.within))))
+        (variables_kept w v c (λ j f t. o.below j (omega (arith, g.room.within))))
+        (terms_kept w v c (λ j f t. o.below j (omega (arith, g.room.within))))
+        (links_kept w v c (λ j f t. o.below j (omega (arith, g.room.within))))
+        (contexts_kept w v c (λ j f t. o.below j (omega (arith, g.room.within))))
+        (rows_more step_from 5 step_same w v (steps_at limits) c.steps (λ j f t. o.below j (omega arith)) (rule ∷ context ∷ left ∷ right ∷ premises ∷ []) o.new)
         (o.below 7 (omega arith))
         (o.below 8 (omega arith)),
-    refl,
   )

@@ -1,5 +1,6 @@
 -- The results, or the steps, of a part of the stack.
 --     halves_none, halves_more, halves_last     of no pair; the first pair, and then the others; the others, and then the last pair
+--     rest_none, rest_more                      of the pairs from a place on: none are left; the first of them, and then the others
 --     halves_length                             as many as there are pairs
 --     halves_same                               of two stacks that agree there
 --     halves_push                               with a pair stored on top of the stack
@@ -9,12 +10,19 @@ use mathlib.Core.List.{List, [], ◌∷◌, ◌++◌, map, map-append}
 use Prim.Native.Nat.{ℕ, suc, ◌+◌, ◌-◌, ◌≤◌, ◌<◌}
 use native.Mathlib.Numerals.{add-one}
 use native.Mathlib.Omega.{arith}
-use lib.ListN.{length, get_or, take, drop, set, length-map, length-drop, length-set}
+use lib.ListN.{length, get_or, take, drop, set, length-map, length-drop, length-set, drop_of_length-le}
 use lib.Seq.{drop-cons, take-suc, get_or-take, get_or-drop, get_or-set_same, get_or-set_other, length-take-le, ext_get_or}
-use Rattle.scratch.specs.Stack.{half_of, halves}
+use Rattle.scratch.specs.Stack.{half_of, halves_of, halves}
 
 pub halves_none : (u : Bool) (s : List ℕ) (from to : ℕ) → to ≤ from → halves u s from to ≡ []
 halves_none u s from to h = let e : to - from ≡ 0 = omega arith in rw e
+
+-- the pairs from place i on
+pub rest_none : (u : Bool) (s : List ℕ) (i : ℕ) → length s ≤ i → halves_of u (drop i s) ≡ []
+rest_none u s i h = rw (drop_of_length-le s h)
+
+pub rest_more : (u : Bool) (s : List ℕ) (i : ℕ) → i < length s → halves_of u (drop i s) ≡ half_of u (get_or s i 0) ∷ halves_of u (drop (i + 1) s)
+rest_more u s i h = rw (drop-cons s i 0 h, add-one i)
 
 module _ (u : Bool) (s : List ℕ) (from to : ℕ) where
   pub halves_more : from < to → to ≤ length s → halves u s from to ≡ half_of u (get_or s from 0) ∷ halves u s (from + 1) to

@@ -1,113 +1,74 @@
 // One record appended to a section that has room.
 ghost use Rattle.std.specs.Prelude.{◌≡◌, [], ◌∷◌, ◌≤◌, ◌<◌, length};
+ghost use Rattle.bundle.specs.Words.{largest_word};
 ghost use Rattle.bundle.specs.Limits.{limits};
+ghost use Rattle.bundle.specs.RecordWords.{as_term, as_context, as_step, TermFits, ContextFits, StepFits};
 ghost use Rattle.logic.specs.Longer.{with_variables, with_terms, with_links, with_contexts, with_steps};
-ghost use Rattle.scratch.specs.Scratch.{bundle_in, Roomy};
 
+use super::Scratch;
 use bundle::Counts;
+use bundle::records::{ContextWords, StepWords, TermWords};
 use bundle::words::as_word;
 
-pub fn append_variable(words: &mut [u32], c: Counts, sort: usize) -> Counts
-    requires { Roomy words.old c × (c.variables < limits.variables) × (sort ≤ 4294967295) }
-    ensures { Roomy words.new result × (length words.new ≡ length words.old)
-        × (bundle_in words.new result ≡ with_variables (bundle_in words.old c) (sort ∷ [])) × (result.version ≡ c.version) }
-{
-    let mut after = c;
-    let count = c.variables;
-    let at = Counts::largest().variables_at() + count;
-    words[at] = as_word(sort);
-    after.variables = count + 1;
-    after
-}
+impl<'a> Scratch<'a> {
+    pub fn append_variable(&mut self, sort: usize)
+        requires { (length self.old.variables < limits.variables) × (sort ≤ largest_word) }
+        ensures { self.new ≡ with_variables self.old (sort ∷ []) }
+    {
+        let count = self.counts.variables;
+        let at = Counts::largest().variables_at() + count;
+        self.words[at] = as_word(sort);
+        self.counts.variables = count + 1;
+    }
 
-pub fn append_term(
-    words: &mut [u32],
-    c: Counts,
-    kind: usize,
-    first: usize,
-    second: usize,
-    third: usize,
-) -> Counts
-    requires { Roomy words.old c × (c.terms < limits.terms) × (kind ≤ 4294967295) × (first ≤ 4294967295) × (second ≤ 4294967295)
-        × (third ≤ 4294967295) }
-    ensures { Roomy words.new result × (length words.new ≡ length words.old)
-        × (bundle_in words.new result ≡ with_terms (bundle_in words.old c) (record { kind = kind; a = first; b = second; c = third } ∷ []))
-        × (result.version ≡ c.version) }
-{
-    let mut after = c;
-    let count = c.terms;
-    let at = Counts::largest().terms_at() + 4 * count;
-    words[at] = as_word(kind);
-    words[at + 1] = as_word(first);
-    words[at + 2] = as_word(second);
-    words[at + 3] = as_word(third);
-    after.terms = count + 1;
-    after
-}
+    pub fn append_term(&mut self, term: TermWords)
+        requires { (length self.old.terms < limits.terms) × TermFits term }
+        ensures { self.new ≡ with_terms self.old (as_term term ∷ []) }
+    {
+        let count = self.counts.terms;
+        let at = Counts::largest().terms_at() + 4 * count;
+        self.words[at] = as_word(term.kind);
+        self.words[at + 1] = as_word(term.first);
+        self.words[at + 2] = as_word(term.second);
+        self.words[at + 3] = as_word(term.third);
+        self.counts.terms = count + 1;
+    }
 
-pub fn append_link(words: &mut [u32], c: Counts, value: usize, next: usize) -> Counts
-    requires { Roomy words.old c × (c.links < limits.links) × (value ≤ 4294967295) × (next ≤ 4294967295) }
-    ensures { Roomy words.new result × (length words.new ≡ length words.old)
-        × (bundle_in words.new result ≡ with_links (bundle_in words.old c) (record { value = value; next = next } ∷ []))
-        × (result.version ≡ c.version) }
-{
-    let mut after = c;
-    let count = c.links;
-    let at = Counts::largest().links_at() + 2 * count;
-    words[at] = as_word(value);
-    words[at + 1] = as_word(next);
-    after.links = count + 1;
-    after
-}
+    pub fn append_link(&mut self, value: usize, next: usize)
+        requires { (length self.old.links < limits.links) × (value ≤ largest_word) × (next ≤ largest_word) }
+        ensures { self.new ≡ with_links self.old (record { value = value; next = next } ∷ []) }
+    {
+        let count = self.counts.links;
+        let at = Counts::largest().links_at() + 2 * count;
+        self.words[at] = as_word(value);
+        self.words[at + 1] = as_word(next);
+        self.counts.links = count + 1;
+    }
 
-pub fn append_context(
-    words: &mut [u32],
-    c: Counts,
-    kind: usize,
-    first: usize,
-    second: usize,
-    parent: usize,
-) -> Counts
-    requires { Roomy words.old c × (c.contexts < limits.contexts) × (kind ≤ 4294967295) × (first ≤ 4294967295) × (second ≤ 4294967295)
-        × (parent ≤ 4294967295) }
-    ensures { Roomy words.new result × (length words.new ≡ length words.old)
-        × (bundle_in words.new result ≡ with_contexts (bundle_in words.old c)
-        (record { kind = kind; a = first; b = second; parent = parent } ∷ [])) × (result.version ≡ c.version) }
-{
-    let mut after = c;
-    let count = c.contexts;
-    let at = Counts::largest().contexts_at() + 4 * count;
-    words[at] = as_word(kind);
-    words[at + 1] = as_word(first);
-    words[at + 2] = as_word(second);
-    words[at + 3] = as_word(parent);
-    after.contexts = count + 1;
-    after
-}
+    pub fn append_context(&mut self, context: ContextWords)
+        requires { (length self.old.contexts < limits.contexts) × ContextFits context }
+        ensures { self.new ≡ with_contexts self.old (as_context context ∷ []) }
+    {
+        let count = self.counts.contexts;
+        let at = Counts::largest().contexts_at() + 4 * count;
+        self.words[at] = as_word(context.kind);
+        self.words[at + 1] = as_word(context.first);
+        self.words[at + 2] = as_word(context.second);
+        self.words[at + 3] = as_word(context.parent);
+        self.counts.contexts = count + 1;
+    }
 
-pub fn append_step(
-    words: &mut [u32],
-    c: Counts,
-    rule: usize,
-    context: usize,
-    left: usize,
-    right: usize,
-    premises: usize,
-) -> Counts
-    requires { Roomy words.old c × (c.steps < limits.steps) × (rule ≤ 4294967295) × (context ≤ 4294967295) × (left ≤ 4294967295) × (right ≤ 4294967295)
-        × (premises ≤ 4294967295) }
-    ensures { Roomy words.new result × (length words.new ≡ length words.old)
-        × (bundle_in words.new result ≡ with_steps (bundle_in words.old c)
-        (record { rule = rule; context = context; left = left; right = right; premises = premises } ∷ [])) × (result.version ≡ c.version) }
-{
-    let mut after = c;
-    let count = c.steps;
-    let at = Counts::largest().steps_at() + 5 * count;
-    words[at] = as_word(rule);
-    words[at + 1] = as_word(context);
-    words[at + 2] = as_word(left);
-    words[at + 3] = as_word(right);
-    words[at + 4] = as_word(premises);
-    after.steps = count + 1;
-    after
+    pub fn append_step(&mut self, step: StepWords)
+        requires { (length self.old.steps < limits.steps) × StepFits step }
+        ensures { self.new ≡ with_steps self.old (as_step step ∷ []) }
+    {
+        let count = self.counts.steps;
+        let at = Counts::largest().steps_at() + 5 * count;
+        self.words[at] = as_word(step.rule);
+        self.words[at + 1] = as_word(step.context);
+        self.words[at + 2] = as_word(step.left);
+        self.words[at + 3] = as_word(step.right);
+        self.words[at + 4] = as_word(step.premises);
+        self.counts.steps = count + 1;
+    }
 }

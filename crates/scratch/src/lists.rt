@@ -1,119 +1,89 @@
 // Lists of links in the scratch: walks, and lists appended.
-ghost use Rattle.std.specs.Prelude.{◌≡◌, true, false, [], ◌∷◌, suc, ◌+◌, ◌-◌, ◌≤◌, ◌<◌, length};
+ghost use Rattle.std.specs.Prelude.{◌≡◌, [], ◌∷◌, ◌+◌, ◌≤◌, ◌<◌, length};
+ghost use Rattle.bundle.specs.Words.{largest_word};
 ghost use Rattle.bundle.specs.Limits.{limits};
-ghost use Rattle.bundle.specs.Links.{next_of, items};
+ghost use Rattle.bundle.specs.Links.{next_of, starts_at, items};
 ghost use Rattle.bundle.specs.Lists.{same_list};
-ghost use Rattle.logic.specs.Longer.{add_list};
-ghost use Rattle.scratch.specs.Scratch.{bundle_in, Roomy};
-ghost use Rattle.scratch.specs.Stack.{half_of, halves};
+ghost use Rattle.logic.specs.Longer.{add_list, list_start};
+ghost use Rattle.scratch.specs.Stack.{halves_of};
 
-use super::appends::append_link;
-use super::records::link_field;
-use bundle::Counts;
-use bundle::items::starting;
+use super::Scratch;
+use super::pairs::half;
+use bundle::items::{Items, Links, followed, starting};
 
-// The link that follows link i, 0 where the list ends.
-pub fn next_link(words: &[u32], c: Counts, i: usize) -> usize
-    requires { Roomy words.now c }
-    ensures { result ≡ next_of (bundle_in words.now c).links i }
-{
-    let next = link_field(words, c, i, 1);
-    if (i < next) & (next <= c.links) {
-        next
-    } else {
-        0
+impl<'a> Links for Scratch<'a> {
+    ghost use Rattle.bundle.specs.Bundle.{Bundle};
+
+    ghost bundle = { λ (b : Bundle). b };
+
+    fn count(&self) -> usize {
+        self.links()
+    }
+
+    fn field(&self, i: usize, k: usize) -> usize {
+        self.link_field(i, k)
     }
 }
 
-// Of a pair on the stack, the result or the step.
-pub fn half(pair: u64, upper: bool) -> usize
-    ensures { (result ≡ half_of upper pair) × (result ≤ 4294967295) }
-{
-    if upper {
-        (pair / 4294967296) as usize
-    } else {
-        (pair % 4294967296) as usize
+impl<'a> Scratch<'a> {
+    // The first link of a list: 0, which starts the empty list, for a number that is no link's.
+    pub fn first_link(&self, start: usize) -> usize
+        ensures { result ≡ starts_at (length self.now.links) start }
+    {
+        starting(self.links(), start)
     }
-}
 
-// A pair: the result in the upper half, the step in the lower.
-pub fn pack(res: usize, step: usize) -> u64
-    requires { (res ≤ 4294967295) × (step ≤ 4294967295) }
-    ensures { (half_of true result ≡ res) × (half_of false result ≡ step) }
-{
-    (res as u64) * 4294967296 + (step as u64)
-}
+    // The link that follows link i, 0 where the list ends.
+    pub fn next_link(&self, i: usize) -> usize
+        ensures { result ≡ next_of self.now.links i }
+    {
+        followed(self.links(), i, self.link_field(i, 1))
+    }
 
-// Whether a list has just the results, or the steps, of the pairs from `from` to before `to`.
-pub fn same_halves(
-    words: &[u32],
-    c: Counts,
-    list: usize,
-    stack: &[u64],
-    upper: bool,
-    from: usize,
-    to: usize,
-) -> bool
-    requires { Roomy words.now c × (from ≤ to) × (to ≤ length stack.now) }
-    ensures { result ≡ same_list (items (bundle_in words.now c) list) (halves upper stack.now from to) }
-{
-    let mut i = starting(c.links, list);
-    let mut at = from;
-    while at < to {
-        if i == 0 {
-            return false;
+    // The items of the list that starts at a link.
+    pub fn items<'b>(&'b self, start: usize) -> Items<'b, Scratch<'a>>
+        ensures { result ≡ items self.now start }
+    {
+        Items::of(self, start)
+    }
+
+    // Whether a list has just the upper halves of pairs, or just the lower.
+    pub fn same_halves(&self, list: usize, pairs: &[u64], upper: bool) -> bool
+        ensures { result ≡ same_list (items self.now list) (halves_of upper pairs.now) }
+    {
+        let mut values = self.items(list);
+        for pair in pairs {
+            let Some(value) = values.next() else {
+                return false;
+            };
+            if value != half(*pair, upper) {
+                return false;
+            }
         }
-        let value = link_field(words, c, i, 0);
-        let pair = stack[at];
-        if value != half(pair, upper) {
-            return false;
+        values.next().is_none()
+    }
+
+    // Appends the upper halves of pairs, or the lower, as a list. Its first link, 0 for the empty list.
+    pub fn push_halves(&mut self, pairs: &[u64], upper: bool) -> usize
+        requires { length self.old.links + length pairs.now ≤ limits.links }
+        ensures { (self.new ≡ add_list self.old (halves_of upper pairs.now)) × (result ≡ list_start self.old (halves_of upper pairs.now)) }
+    {
+        let n = pairs.len();
+        let start = if n == 0 { 0 } else { self.links() + 1 };
+        for at in 0..n {
+            let value = half(pairs[at], upper);
+            let next = if at + 1 < n { self.links() + 2 } else { 0 };
+            self.append_link(value, next);
         }
-        i = next_link(words, c, i);
-        at += 1;
+        start
     }
-    i == 0
-}
 
-// The first link of a list of n values that is appended next: 0 for the empty list.
-pub fn list_start(c: Counts, n: usize) -> usize
-    requires { c.links ≤ limits.links }
-    ensures { (n ≡ 0 → result ≡ 0) × ((n ≡ 0 → ⊥) → result ≡ suc c.links) }
-{
-    if n == 0 { 0 } else { c.links + 1 }
-}
-
-// Appends the results, or the steps, of the pairs from `from` to before `to` as a list.
-pub fn push_halves(
-    words: &mut [u32],
-    c: Counts,
-    stack: &[u64],
-    upper: bool,
-    from: usize,
-    to: usize,
-) -> Counts
-    requires { Roomy words.old c × (from ≤ to) × (to ≤ length stack.now) × (c.links + (to - from) ≤ limits.links) }
-    ensures { Roomy words.new result × (length words.new ≡ length words.old)
-        × (bundle_in words.new result ≡ add_list (bundle_in words.old c) (halves upper stack.now from to))
-        × (result.version ≡ c.version) }
-{
-    let mut after = c;
-    let mut at = from;
-    while at < to {
-        let pair = stack[at];
-        let value = half(pair, upper);
-        at += 1;
-        let links = after.links;
-        let next = if at < to { links + 2 } else { 0 };
-        after = append_link(words, after, value, next);
+    // Appends a list of one value. Its link.
+    pub fn push_one(&mut self, value: usize) -> usize
+        requires { (length self.old.links < limits.links) × (value ≤ largest_word) }
+        ensures { (self.new ≡ add_list self.old (value ∷ [])) × (result ≡ list_start self.old (value ∷ [])) }
+    {
+        self.append_link(value, 0);
+        self.links()
     }
-    after
-}
-
-// Appends a list of one value.
-pub fn push_one(words: &mut [u32], c: Counts, value: usize) -> Counts
-    requires { Roomy words.old c × (c.links < limits.links) × (value ≤ 4294967295) }
-    ensures { Roomy words.new result × (length words.new ≡ length words.old)
-        × (bundle_in words.new result ≡ add_list (bundle_in words.old c) (value ∷ [])) × (result.version ≡ c.version) }
-{
-    append_link(words, c, value, 0)
 }

@@ -4,9 +4,13 @@
 
 use bundle::words::{claim_left, claim_right, counts};
 use bundle::{Bundle, Counts};
-use judgement::Answer;
+use judgement::Acceptance;
+use logic::checks::{Check, Failure};
 use show_text::out;
 use std::rt::Env;
+
+// What the checker answers.
+type Answer = Result<Acceptance, Failure>;
 
 // A line of the graph's text that is not the graph's is a comment.
 fn line_start(is_dot: bool) {
@@ -38,18 +42,18 @@ fn answer_line(word: &[u8], first: usize, second: usize, is_dot: bool) {
 }
 
 // A refusal, and the start of the line that says why.
-fn begin_refusal(number: usize, record: usize, is_dot: bool) {
-    answer_line(b"refused ", number, record, is_dot);
+fn begin_refusal(failure: Failure, is_dot: bool) {
+    answer_line(b"refused ", failure.check.number(), failure.record, is_dot);
     line_start(is_dot);
-    show_tables::tables::word(number);
+    show_tables::tables::word(failure.check);
     out::text(b": ");
 }
 
 // The checker's answer to a file with a bad header, and the start of the line that says why.
 fn begin_why(answer: Answer, is_dot: bool) {
     match answer {
-        Answer::Accepted(a) => answer_line(b"accepted ", a.left, a.right, is_dot),
-        Answer::Refused { number, record } => begin_refusal(number, record, is_dot),
+        Ok(a) => answer_line(b"accepted ", a.left, a.right, is_dot),
+        Err(failure) => begin_refusal(failure, is_dot),
     }
 }
 
@@ -61,10 +65,10 @@ fn show_bundle(bundle: &Bundle, left: usize, right: usize, answer: Answer, is_do
         show_records::records::all_lines(bundle, left, right);
     }
     match answer {
-        Answer::Accepted(a) => answer_line(b"accepted ", a.left, a.right, is_dot),
-        Answer::Refused { number, record } => {
-            begin_refusal(number, record, is_dot);
-            show_steps::steps::sentence(bundle, left, right, number, record);
+        Ok(a) => answer_line(b"accepted ", a.left, a.right, is_dot),
+        Err(failure) => {
+            begin_refusal(failure, is_dot);
+            show_steps::steps::sentence(bundle, left, right, failure);
             out::line_end();
         }
     }
@@ -123,11 +127,11 @@ fn show_file(file: &[u8], answer: Answer, is_dot: bool) {
 // The most parts of a formula that --rule prints: the longest text that the program read takes has fewer.
 const PARTS: usize = 524288;
 
-// The number of a refusal; 0 where the file is accepted.
-fn refusal_of(answer: Answer) -> usize {
+// Whether the checks 1 to 9, of which 9 is that terms are new, find nothing.
+fn is_formed(answer: Answer) -> bool {
     match answer {
-        Answer::Accepted(_) => 0,
-        Answer::Refused { number, record: _ } => number,
+        Ok(_) => true,
+        Err(failure) => failure.check.number() > Check::New.number(),
     }
 }
 
@@ -148,7 +152,7 @@ fn no_formula() {
 }
 
 // The formula of the left, where the checks 1 to 9 find nothing and the left is a term.
-fn show_rule(file: &[u8], refusal: usize) {
+fn show_rule(file: &[u8], answer: Answer) {
     if file.len() < Bundle::LEAST {
         no_formula();
         return;
@@ -164,7 +168,7 @@ fn show_rule(file: &[u8], refusal: usize) {
         no_formula();
         return;
     }
-    if (left == 0) | (b.terms < left) | ((0 < refusal) & (refusal < 10)) {
+    if (left == 0) | (b.terms < left) | !is_formed(answer) {
         no_formula();
         return;
     }
@@ -198,7 +202,7 @@ fn main(rt: HostRuntime) {
     let mut free = [0u64; Bundle::SET_WORDS * Bundle::TERMS];
     let answer = checker::check(&input[..n], &mut free);
     if has_argument(&rt, b"--rule") {
-        show_rule(&input[..n], refusal_of(answer));
+        show_rule(&input[..n], answer);
         return;
     }
     let is_dot = has_argument(&rt, b"--dot");

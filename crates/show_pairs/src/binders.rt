@@ -3,8 +3,7 @@ ghost use Rattle.std.specs.Prelude.{◌*◌, ◌≤◌, length};
 ghost use Rattle.bundle.specs.Limits.{set_words};
 
 use super::contexts::beside;
-use super::path;
-use super::path::ROOM;
+use super::path::{Level, Side};
 use bundle::Bundle;
 use images::images::is_free;
 use logic::kinds::{LET, is_binder};
@@ -22,90 +21,72 @@ fn binds(bundle: &Bundle, t: usize, x: usize) -> bool {
     false
 }
 
-// Whether the binder of a level is crossed and binds x, on the left or on the right.
-fn crossed(bundle: &Bundle, path: &[usize; ROOM], level: usize, side: usize, x: usize) -> bool {
-    if path::get(path, level, path::IN_BODY) == 0 {
-        return false;
-    }
-    binds(bundle, path::get(path, level, side), x)
-}
-
-// The nearest level, from `levels` down to the one after `outer`, whose binder binds x on that side; 0 where none does.
-pub fn nearest(
+// The nearest of some levels, the last, whose binder is crossed and binds x on a side; and those after it.
+pub fn nearest<'a>(
     bundle: &Bundle,
-    path: &[usize; ROOM],
-    outer: usize,
-    levels: usize,
-    side: usize,
+    levels: &'a [Level],
+    side: Side,
     x: usize,
-) -> usize {
-    for below in (outer..levels).rev() {
-        if crossed(bundle, path, below + 1, side, x) {
-            return below + 1;
+) -> Option<(Level, &'a [Level])> {
+    for k in (0..levels.len()).rev() {
+        let level = levels[k];
+        if level.in_body && binds(bundle, level.term(side), x) {
+            return Some((level, &levels[k + 1..]));
         }
     }
-    0
+    None
 }
 
-// The variable on the right of a level that matches x, bound there on the left.
-pub fn partner(bundle: &Bundle, path: &[usize; ROOM], level: usize, x: usize) -> usize {
-    let l = path::get(path, level, path::LEFT);
-    let r = path::get(path, level, path::RIGHT);
-    let first = bundle.term_field(l, 1);
-    let second = bundle.term_field(r, 1);
-    if bundle.term_field(l, 0) == LET {
-        return beside(bundle, first, second, x);
+// The variable on the right of a level that matches x, bound there on the left; 0 where a let lists none beside it.
+pub fn partner(bundle: &Bundle, level: Level, x: usize) -> usize {
+    let first = bundle.term_field(level.left, 1);
+    let second = bundle.term_field(level.right, 1);
+    if bundle.term_field(level.left, 0) == LET {
+        return beside(bundle, first, second, x).unwrap_or(0);
     }
     second
 }
 
 // ---- capture
 
-// The first variable of a list that is free in term t; 0 where none is.
-fn free_item(bundle: &Bundle, area: &[u64], list: usize, t: usize) -> usize
+// The first variable of a list that is free in term t.
+fn free_item(bundle: &Bundle, area: &[u64], list: usize, t: usize) -> Option<usize>
     requires { (set_words * length bundle.now.terms ≤ length area.now) }
 {
     for y in bundle.items(list) {
         if is_free(bundle, area, Bundle::SET_WORDS, t, y) {
-            return y;
+            return Some(y);
         }
     }
-    0
+    None
 }
 
-// A variable of the right binder of a level that is free in term t; 0 where there is none or the binder is not crossed.
-fn captured_at(bundle: &Bundle, area: &[u64], path: &[usize; ROOM], level: usize, t: usize) -> usize
+// A variable of the right binder of a level that is free in term t, where the binder is crossed.
+fn captured_at(bundle: &Bundle, area: &[u64], level: Level, t: usize) -> Option<usize>
     requires { (set_words * length bundle.now.terms ≤ length area.now) }
 {
-    if path::get(path, level, path::IN_BODY) == 0 {
-        return 0;
+    if !level.in_body {
+        return None;
     }
-    let r = path::get(path, level, path::RIGHT);
-    let first = bundle.term_field(r, 1);
-    if bundle.term_field(r, 0) == LET {
+    let first = bundle.term_field(level.right, 1);
+    if bundle.term_field(level.right, 0) == LET {
         return free_item(bundle, area, first, t);
     }
     if is_free(bundle, area, Bundle::SET_WORDS, t, first) {
-        return first;
+        return Some(first);
     }
-    0
+    None
 }
 
-// The variable free in term t that the nearest binder crossed on the right captures; 0 where none does.
-pub fn captured(
-    bundle: &Bundle,
-    area: &[u64],
-    path: &[usize; ROOM],
-    levels: usize,
-    t: usize,
-) -> usize
+// The variable free in term t that the nearest binder crossed on the right captures.
+pub fn captured(bundle: &Bundle, area: &[u64], levels: &[Level], t: usize) -> Option<usize>
     requires { (set_words * length bundle.now.terms ≤ length area.now) }
 {
-    for below in (0..levels).rev() {
-        let y = captured_at(bundle, area, path, below + 1, t);
-        if y != 0 {
+    for level in levels.iter().rev() {
+        let y = captured_at(bundle, area, *level, t);
+        if y.is_some() {
             return y;
         }
     }
-    0
+    None
 }

@@ -4,112 +4,76 @@ ghost use Rattle.bundle.specs.Limits.{set_words};
 
 use super::binders::{captured, nearest, partner};
 use super::contexts::image;
-use super::path;
-use super::path::ROOM;
+use super::path::{Level, Side};
 use bundle::Bundle;
 use images::images::is_variable;
+use logic::Image;
 use logic::kinds::{APPLICATION, LET, VARIABLE, is_binder};
 
-// No difference.
-pub const SAME: usize = 0;
-
-// Terms of different kinds, for-all and exists too.
-pub const KIND: usize = 1;
-
-pub const SYMBOL: usize = 2;
-
-// Different numbers of arguments.
-pub const COUNT: usize = 3;
-
-// Binders whose variables are not as many, or not of the same sorts.
-pub const SORTS: usize = 4;
-
-// Left is bound, and right is not the variable `about`, which matches it.
-pub const UNMATCHED: usize = 5;
-
-// Right is the variable `about` that matches left, and a nearer binder hides it.
-pub const HIDDEN: usize = 6;
-
-// Right is not the term `about`, which replaces left; 0: not the variable that left is.
-pub const IMAGE: usize = 7;
-
-// Right is the image's term, and a binder crossed captures its variable `about`.
-pub const CAPTURE: usize = 8;
-
-// More pairs than a walk may visit.
-pub const SPENT: usize = 9;
-
-// Why two terms differ, and the variable or term that the reason is about, else 0.
+// Why two terms differ.
 #[derive(Clone, Copy)]
-pub struct Reason {
-    pub number: usize,
-    pub about: usize,
+pub enum Reason {
+    // Terms of different kinds, for-all and exists too.
+    Kind,
+    Symbol,
+    // Different numbers of arguments.
+    Count,
+    // Binders whose variables are not as many, or not of the same sorts.
+    Sorts,
+    // Left is bound, and right is not this variable, which matches it.
+    Unmatched(usize),
+    // Right is this variable, which matches left, and a nearer binder hides it.
+    Hidden(usize),
+    // Right is not the image of left.
+    Image(Image),
+    // Right is the image's term, and a binder crossed captures this variable of it.
+    Capture(usize),
+    // More pairs than a walk may visit.
+    Spent,
 }
 
+// The left variable x is bound at a level; `inner` are those after it.
 fn bound_reason(
     bundle: &Bundle,
-    path: &[usize; ROOM],
-    level: usize,
-    levels: usize,
+    level: Level,
+    inner: &[Level],
     x: usize,
     r: usize,
-) -> Reason {
-    let y = partner(bundle, path, level, x);
+) -> Option<Reason> {
+    let y = partner(bundle, level, x);
     if !is_variable(bundle, r, y) {
-        return Reason {
-            number: UNMATCHED,
-            about: y,
-        };
+        return Some(Reason::Unmatched(y));
     }
-    if nearest(bundle, path, level, levels, path::RIGHT, y) != 0 {
-        return Reason {
-            number: HIDDEN,
-            about: y,
-        };
+    if nearest(bundle, inner, Side::Right, y).is_some() {
+        return Some(Reason::Hidden(y));
     }
-    Reason {
-        number: SAME,
-        about: 0,
-    }
+    None
 }
 
-// Whether term r is the image of x: the term t, or the variable itself where t is 0.
-fn is_image(bundle: &Bundle, t: usize, x: usize, r: usize) -> bool {
-    if t == 0 {
-        return is_variable(bundle, r, x);
+// Whether term r is the image of x.
+fn is_image(bundle: &Bundle, image: Image, x: usize, r: usize) -> bool {
+    match image {
+        Image::Own => is_variable(bundle, r, x),
+        Image::Gives(t) => t == r,
     }
-    t == r
 }
 
 fn free_reason(
     bundle: &Bundle,
     area: &[u64],
-    path: &[usize; ROOM],
-    levels: usize,
+    levels: &[Level],
     context: usize,
     x: usize,
     r: usize,
-) -> Reason
+) -> Option<Reason>
     requires { (set_words * length bundle.now.terms ≤ length area.now) }
 {
-    let t = image(bundle, context, x);
-    if !is_image(bundle, t, x, r) {
-        return Reason {
-            number: IMAGE,
-            about: t,
-        };
+    let image = image(bundle, context, x);
+    if !is_image(bundle, image, x, r) {
+        return Some(Reason::Image(image));
     }
-    let y = captured(bundle, area, path, levels, r);
-    if y != 0 {
-        return Reason {
-            number: CAPTURE,
-            about: y,
-        };
-    }
-    Reason {
-        number: SAME,
-        about: 0,
-    }
+    let y = captured(bundle, area, levels, r)?;
+    Some(Reason::Capture(y))
 }
 
 // Whether two variables have one sort.
@@ -132,55 +96,47 @@ fn same_sorts(bundle: &Bundle, first: usize, second: usize) -> bool {
 }
 
 // What differs at two records, where left is no variable.
-fn head_reason(bundle: &Bundle, l: usize, r: usize) -> usize {
+fn head_reason(bundle: &Bundle, l: usize, r: usize) -> Option<Reason> {
     let kind = bundle.term_field(l, 0);
     let first = bundle.term_field(l, 1);
     let second = bundle.term_field(r, 1);
     if kind != bundle.term_field(r, 0) {
-        return KIND;
+        return Some(Reason::Kind);
     }
     if kind == APPLICATION {
-        return if first == second { SAME } else { SYMBOL };
-    }
-    if kind == LET {
-        return if same_sorts(bundle, first, second) {
-            SAME
+        return if first == second {
+            None
         } else {
-            SORTS
+            Some(Reason::Symbol)
         };
     }
-    if is_binder(kind) {
-        return if one_sort(bundle, first, second) {
-            SAME
-        } else {
-            SORTS
-        };
-    }
-    KIND
+    let same = if kind == LET {
+        same_sorts(bundle, first, second)
+    } else if is_binder(kind) {
+        one_sort(bundle, first, second)
+    } else {
+        return Some(Reason::Kind);
+    };
+    if same { None } else { Some(Reason::Sorts) }
 }
 
-// What differs at the pair of l and r, below the path.
+// What differs at the pair of l and r, below some levels.
 pub fn pair_reason(
     bundle: &Bundle,
     area: &[u64],
-    path: &[usize; ROOM],
-    levels: usize,
+    levels: &[Level],
     context: usize,
     l: usize,
     r: usize,
-) -> Reason
+) -> Option<Reason>
     requires { (set_words * length bundle.now.terms ≤ length area.now) }
 {
     if bundle.term_field(l, 0) != VARIABLE {
-        return Reason {
-            number: head_reason(bundle, l, r),
-            about: 0,
-        };
+        return head_reason(bundle, l, r);
     }
     let x = bundle.term_field(l, 1);
-    let level = nearest(bundle, path, 0, levels, path::LEFT, x);
-    if level != 0 {
-        return bound_reason(bundle, path, level, levels, x, r);
+    match nearest(bundle, levels, Side::Left, x) {
+        Some((level, inner)) => bound_reason(bundle, level, inner, x, r),
+        None => free_reason(bundle, area, levels, context, x, r),
     }
-    free_reason(bundle, area, path, levels, context, x, r)
 }

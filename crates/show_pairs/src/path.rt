@@ -1,44 +1,73 @@
-// The path: the pairs above the one that is visited, level 1 the outermost. Each level has five words: its left and right term, the links of the parts that
-// come next on both sides, and 1 where the walk is in the body, so that the variables of both are crossed.
-// A left part is lower than its term, so a path has no more levels than there are terms; a level that is not there is read and written as level 0.
-ghost use Rattle.std.specs.Prelude.{◌+◌, ◌*◌, ◌<◌};
-ghost use Rattle.bundle.specs.Limits.{limits};
+// The path: the pairs above the one that is visited, the outermost first. A left part is lower than its term, so a path has no more of them than there
+// are terms.
 
 use bundle::Bundle;
 
-pub const LEVELS: usize = Bundle::TERMS;
-
-pub const ROOM: usize = 5 * (LEVELS + 1);
-
-pub const LEFT: usize = 0;
-
-pub const RIGHT: usize = 1;
-
-pub const LEFT_LINK: usize = 2;
-
-pub const RIGHT_LINK: usize = 3;
-
-pub const IN_BODY: usize = 4;
-
-// The place of a word of a level.
-fn place(level: usize, word: usize) -> usize
-    ensures { result < 5 * (limits.terms + 1) }
-{
-    if level > LEVELS {
-        return 0;
-    }
-    if word > IN_BODY {
-        return 0;
-    }
-    5 * level + word
+// A pair whose parts are visited: its terms, the links of the parts that come next on both sides, and whether the walk is in the bodies, so that the
+// variables of both are crossed.
+#[derive(Clone, Copy)]
+pub struct Level {
+    pub left: usize,
+    pub right: usize,
+    pub left_link: usize,
+    pub right_link: usize,
+    pub in_body: bool,
 }
 
-pub fn get(path: &[usize; ROOM], level: usize, word: usize) -> usize {
-    let at = place(level, word);
-    path[at]
+// Both sides of a pair.
+#[derive(Clone, Copy, PartialEq, Eq)]
+pub enum Side {
+    Left,
+    Right,
 }
 
-pub fn set(path: &mut [usize; ROOM], level: usize, word: usize, value: usize) {
-    let at = place(level, word);
-    path[at] = value;
+impl Level {
+    pub fn term(&self, side: Side) -> usize {
+        match side {
+            Side::Left => self.left,
+            Side::Right => self.right,
+        }
+    }
+}
+
+#[derive(Drop)]
+pub struct Path {
+    levels: [Level; Bundle::TERMS],
+    height: usize,
+}
+
+impl Path {
+    pub fn new() -> Path {
+        let none = Level {
+            left: 0,
+            right: 0,
+            left_link: 0,
+            right_link: 0,
+            in_body: false,
+        };
+        Path {
+            levels: [none; Bundle::TERMS],
+            height: 0,
+        }
+    }
+
+    pub fn levels(&self) -> &[Level] {
+        self.levels.get(..self.height).unwrap_or(&[])
+    }
+
+    pub fn last(&self) -> Option<Level> {
+        self.levels().last().copied()
+    }
+
+    // A level more, where there is room.
+    pub fn push(&mut self, level: Level) {
+        if self.height < Bundle::TERMS {
+            self.levels[self.height] = level;
+            self.height += 1;
+        }
+    }
+
+    pub fn pop(&mut self) {
+        self.height = self.height.saturating_sub(1);
+    }
 }

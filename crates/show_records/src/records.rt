@@ -100,24 +100,14 @@ fn step_line(bundle: &Bundle, i: usize) {
     premises(bundle, list);
 }
 
-// The line of record i of a section: 1 symbols, 2 variables, 3 terms, 4 contexts, 5 steps.
-fn record_line(bundle: &Bundle, section: usize, i: usize) {
-    match section {
-        1 => symbol_line(bundle, i),
-        2 => variable_line(bundle, i),
-        3 => term_line(bundle, i),
-        4 => context_line(bundle, i),
-        _ => step_line(bundle, i),
-    }
-    out::line_end();
-}
-
-// The lines of a section of `count` records.
-fn section_lines(bundle: &Bundle, section: usize, count: usize)
-    requires { (count ≤ 1024) }
+// The lines of a section of `count` records, each as `line` writes it.
+fn section_lines<F: Fn(&Bundle, usize)>(bundle: &Bundle, count: usize, line: F)
+    requires room { count ≤ 1024 }
+    requires calls { F.IsAlwaysCallable line }
 {
     for i in 1..count + 1 {
-        record_line(bundle, section, i);
+        line(bundle, i);
+        out::line_end();
     }
 }
 
@@ -144,11 +134,11 @@ fn claimed(bundle: &Bundle, side: &[u8], t: usize) {
 
 // All sections, and the claim after the declarations.
 pub fn all_lines(bundle: &Bundle, left: usize, right: usize) {
-    section_lines(bundle, 1, bundle.symbols());
-    section_lines(bundle, 2, bundle.variables());
+    section_lines(bundle, bundle.symbols(), symbol_line);
+    section_lines(bundle, bundle.variables(), variable_line);
     claimed(bundle, b"left ", left);
     claimed(bundle, b"right", right);
-    section_lines(bundle, 3, bundle.terms());
-    section_lines(bundle, 4, bundle.contexts());
-    section_lines(bundle, 5, bundle.steps());
+    section_lines(bundle, bundle.terms(), term_line);
+    section_lines(bundle, bundle.contexts(), context_line);
+    section_lines(bundle, bundle.steps(), step_line);
 }

@@ -2,7 +2,6 @@
 use mathlib.Core.Path.{◌≡◌, sym, ◌∙◌}
 use mathlib.Core.Bool.{true}
 use mathlib.Core.List.{List}
-use mathlib.Core.Logic.{◌⊎◌, inl, inr}
 use Prim.Native.Nat.{ℕ}
 use lib.ListN.{length}
 use Rattle.bundle.specs.Bundle.{Bundle}
@@ -14,7 +13,6 @@ use Rattle.images.proofs.ReadingRight.{free_right}
 
 -- What is free by the area is free.
 pub stray_free : (b : Bundle) (w : List ℕ) (n : ℕ) → FreeSets w n b → (Γ t x : ℕ)
-    → (x ≡ 0) ⊎ ((free_in (length b.terms) w n t x ≡ true) × (Mentioned b Γ x → ⊥)) → {v u : ℕ} → v ≡ x → u ≡ t
-    → (v ≡ 0) ⊎ ((free_at b u v ≡ true) × (Mentioned b Γ v → ⊥))
-stray_free b w n sets Γ t x (inl none) p q = inl (p ∙ none)
-stray_free b w n sets Γ t x (inr (free, unmentioned)) p q = inr (rw (p, q) (sym (free_right b w n sets t x) ∙ free), rw p unmentioned)
+    → (free_in (length b.terms) w n t x ≡ true) × (Mentioned b Γ x → ⊥) → {v u : ℕ} → v ≡ x → u ≡ t
+    → (free_at b u v ≡ true) × (Mentioned b Γ v → ⊥)
+stray_free b w n sets Γ t x (free, unmentioned) p q = (rw (p, q) (sym (free_right b w n sets t x) ∙ free), rw p unmentioned)

@@ -29,6 +29,7 @@ pub fn mentions(bundle: &Bundle, context: usize, x: usize) -> bool
     ensures { result ≡ false → Mentioned bundle.now context x → ⊥ }
 {
     let mut c = context;
+    // No `for`: each context names its parent.
     while c != 0 {
         if entry_mentions(bundle, c, x) {
             return true;
@@ -52,26 +53,28 @@ fn above(bundle: &Bundle, c: usize) -> usize
     if parent < c { parent } else { 0 }
 }
 
-// How many entries a context has, and its last, whose parent is the empty context; 0 and 0 for the empty one.
+// How many entries a context has, and its last, whose parent is the empty context.
 #[derive(Clone, Copy)]
 pub struct Chain {
     pub entries: usize,
     pub last: usize,
 }
 
-pub fn chain_of(bundle: &Bundle, context: usize) -> Chain {
+// The empty context has none.
+pub fn chain_of(bundle: &Bundle, context: usize) -> Option<Chain> {
     let mut entries = 0;
-    let mut last = 0;
+    let mut last = None;
     let mut c = context;
+    // No `for`: each context names its parent.
     while c != 0 {
         entries += 1;
-        last = c;
+        last = Some(c);
         c = above(bundle, c);
     }
-    Chain {
-        entries: entries,
-        last: last,
-    }
+    Some(Chain {
+        entries,
+        last: last?,
+    })
 }
 
 // Whether x is free in a term of a list.
@@ -86,19 +89,20 @@ fn free_in_some(bundle: &Bundle, area: &[u64], list: usize, x: usize) -> bool
     false
 }
 
-// The nearest entry that replaces by a term in which x is free; 0 where none does.
-pub fn replacer(bundle: &Bundle, area: &[u64], context: usize, x: usize) -> usize
+// The nearest entry that replaces by a term in which x is free.
+pub fn replacer(bundle: &Bundle, area: &[u64], context: usize, x: usize) -> Option<usize>
     requires { (set_words * length bundle.now.terms ≤ length area.now) }
 {
     let mut c = context;
+    // No `for`: each context names its parent.
     while c != 0 {
         if bundle.context_field(c, 0) == REPLACES {
             let terms = bundle.context_field(c, 2);
             if free_in_some(bundle, area, terms, x) {
-                return c;
+                return Some(c);
             }
         }
         c = above(bundle, c);
     }
-    0
+    None
 }

@@ -1,5 +1,5 @@
 // The stray variable of a refusal by 22: it is free in a side of a step, and no entry of its context mentions it.
-ghost use Rattle.std.specs.Prelude.{◌≡◌, true, ◌⊎◌, ◌*◌, ◌≤◌, length};
+ghost use Rattle.std.specs.Prelude.{◌≡◌, true, IfSome, ◌*◌, ◌≤◌, length};
 ghost use Rattle.bundle.specs.Limits.{set_words};
 ghost use Rattle.logic.specs.Free.{free_at};
 ghost use Rattle.logic.specs.Contexts.{Mentioned};
@@ -10,28 +10,28 @@ use bundle::Bundle;
 use images::images::is_free;
 use show_walks::area::free_sets;
 
-// The lowest variable that is free in term t and that no entry of the context mentions; 0 where none is found.
-fn stray_in(bundle: &Bundle, area: &[u64], context: usize, t: usize) -> usize
+// The lowest variable that is free in term t and that no entry of the context mentions.
+fn stray_in(bundle: &Bundle, area: &[u64], context: usize, t: usize) -> Option<usize>
     requires { (set_words * length bundle.now.terms ≤ length area.now) }
-    ensures { (result ≡ 0) ⊎ ((free_in (length bundle.now.terms) area.now set_words t result ≡ true)
-        × (Mentioned bundle.now context result → ⊥)) }
+    ensures { IfSome result (λ x. (free_in (length bundle.now.terms) area.now set_words t x ≡ true)
+        × (Mentioned bundle.now context x → ⊥)) }
 {
     for x in 1..bundle.variables() + 1 {
         if is_free(bundle, area, Bundle::SET_WORDS, t, x) {
             if !mentions(bundle, context, x) {
-                return x;
+                return Some(x);
             }
         }
     }
-    0
+    None
 }
 
-// A stray variable, or 0; the side that it is free in; and the nearest entry that replaces by a term in which it is free, or 0.
+// A stray variable, the side that it is free in, and the nearest entry that replaces by a term in which it is free.
 #[derive(Clone, Copy)]
 pub struct Stray {
     pub variable: usize,
     pub term: usize,
-    pub replacer: usize,
+    pub replacer: Option<usize>,
 }
 
 fn stray_of(bundle: &Bundle, area: &[u64], context: usize, t: usize, x: usize) -> Stray
@@ -46,14 +46,13 @@ fn stray_of(bundle: &Bundle, area: &[u64], context: usize, t: usize, x: usize) -
 }
 
 // The first stray variable of left, else of right.
-pub fn find(bundle: &Bundle, context: usize, left: usize, right: usize) -> Stray
-    ensures { (result.variable ≡ 0) ⊎ ((free_at bundle.now result.term result.variable ≡ true) × (Mentioned bundle.now context result.variable → ⊥)) }
+pub fn find(bundle: &Bundle, context: usize, left: usize, right: usize) -> Option<Stray>
+    ensures { IfSome result (λ s. (free_at bundle.now s.term s.variable ≡ true) × (Mentioned bundle.now context s.variable → ⊥)) }
 {
     let area = free_sets(bundle);
-    let x = stray_in(bundle, &area, context, left);
-    if x != 0 {
-        return stray_of(bundle, &area, context, left, x);
+    if let Some(x) = stray_in(bundle, &area, context, left) {
+        return Some(stray_of(bundle, &area, context, left, x));
     }
-    let y = stray_in(bundle, &area, context, right);
-    stray_of(bundle, &area, context, right, y)
+    let y = stray_in(bundle, &area, context, right)?;
+    Some(stray_of(bundle, &area, context, right, y))
 }

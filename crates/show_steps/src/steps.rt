@@ -1,8 +1,9 @@
-// What a refusal by 12 to 15, 21 or 22 means, in one sentence, and the sentence for every number.
+// What a refusal by 12 to 15, 21 or 22 means, in one sentence, and the sentence for every check.
 // Each function goes through the tests of its check, up to the first that fails; where only one is left, it is that one.
 
 use super::strays::stray_step;
 use bundle::Bundle;
+use logic::checks::{Check, Failure};
 use logic::rules::{BIND, REFL, RULES, TRANS};
 use show_rules::failures::{failed_side, false_step, spent_step};
 use show_tables::tables::{bad_link, bad_sort, before, is_number, no_list, not_to};
@@ -12,6 +13,7 @@ use show_text::out;
 
 // ---- 12: steps
 
+// A table of words.
 fn wrong_count(rule: usize) {
     match rule {
         REFL => out::text(b" is REFL, which takes no premises"),
@@ -75,21 +77,22 @@ fn other_claim(bundle: &Bundle, left: usize, right: usize) {
 }
 
 // The sentence for a file that is whole and claims left and right.
-pub fn sentence(bundle: &Bundle, left: usize, right: usize, number: usize, record: usize) {
-    match number {
-        5 => bad_link(bundle, record),
-        6 => bad_sort(bundle, record),
-        7 => bad_term(bundle, record),
-        8 => missorted(bundle, record),
-        9 => repeated_term(bundle, record),
-        10 => bad_context(bundle, record),
-        11 => unsettled(bundle, record),
-        12 => bad_step(bundle, record),
-        13 => false_step(bundle, record),
-        14 => failed_side(bundle, record),
-        15 => other_claim(bundle, left, right),
-        21 => spent_step(bundle, record),
-        22 => stray_step(bundle, record),
+pub fn sentence(bundle: &Bundle, left: usize, right: usize, failure: Failure) {
+    let record = failure.record;
+    match failure.check {
+        Check::Next => bad_link(bundle, record),
+        Check::Declared => bad_sort(bundle, record),
+        Check::Refers => bad_term(bundle, record),
+        Check::Sorted => missorted(bundle, record),
+        Check::New => repeated_term(bundle, record),
+        Check::Context => bad_context(bundle, record),
+        Check::Settled => unsettled(bundle, record),
+        Check::Step => bad_step(bundle, record),
+        Check::Matches => false_step(bundle, record),
+        Check::Side => failed_side(bundle, record),
+        Check::Claim => other_claim(bundle, left, right),
+        Check::Pairs => spent_step(bundle, record),
+        Check::Scope => stray_step(bundle, record),
         _ => out::text(b"the area lent to the checker is too short"),
     }
 }

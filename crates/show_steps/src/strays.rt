@@ -7,10 +7,11 @@ use show_text::out;
 
 // Where the context ends, and that no entry up to there mentions x.
 fn not_mentioned(bundle: &Bundle, context: usize, x: usize) {
-    let chain = chain_of(bundle, context);
-    if context == 0 {
+    let Some(chain) = chain_of(bundle, context) else {
         out::text(b", and its context is the empty one, c0");
-    } else if chain.entries == 1 {
+        return;
+    };
+    if chain.entries == 1 {
         out::name(b", and c", context);
         out::name(b", where its context ends, neither fixes nor replaces v", x);
     } else {
@@ -33,13 +34,15 @@ fn advice(context: usize, t: usize, x: usize) {
     }
 }
 
-// 22: a free variable of a side that no entry mentions.
+// 22: a free variable of a side that no entry mentions. Where 22 is the first check that fails, there is one.
 pub fn stray_step(bundle: &Bundle, k: usize) {
     let context = bundle.step_field(k, 1);
     let left = bundle.step_field(k, 2);
     let right = bundle.step_field(k, 3);
-    let stray = find(bundle, context, left, right);
     out::name(b"step ", k);
+    let Some(stray) = find(bundle, context, left, right) else {
+        return;
+    };
     out::name(b": v", stray.variable);
     out::name(b" is free in t", stray.term);
     if stray.term == left {
@@ -48,8 +51,8 @@ pub fn stray_step(bundle: &Bundle, k: usize) {
         out::text(b", its right");
     }
     not_mentioned(bundle, context, stray.variable);
-    if stray.replacer != 0 {
-        out::name(b" (c", stray.replacer);
+    if let Some(c) = stray.replacer {
+        out::name(b" (c", c);
         out::name(b" has v", stray.variable);
         out::text(b" only in a replacement)");
     }

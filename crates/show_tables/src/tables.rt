@@ -1,29 +1,30 @@
-// What a refusal by 1 to 6 means: document 01's word for each number, and one sentence that says what is wrong there.
+// What a refusal by 1 to 6 means: document 01's word for each check, and one sentence that says what is wrong there.
 // Each function goes through the tests of its check, up to the first that fails; where only one is left, it is that one.
 
 use bundle::{Bundle, Counts};
 use declarations::{Section, section_fault};
+use logic::checks::Check;
 use show_text::out;
 
-// The words are document 01's, as it prints them, and document 02's for 21 and 22.
-pub fn word(number: usize) {
-    match number {
-        1 => out::text(b"short"),
-        2 => out::text(b"foreign"),
-        3 => out::text(b"oversize"),
-        4 => out::text(b"narrow bed"),
-        5 => out::text(b"broken chain"),
-        6 => out::text(b"bad sort"),
-        7 => out::text(b"bad stick"),
-        8 => out::text(b"missorted"),
-        9 => out::text(b"twin"),
-        10 => out::text(b"bad setting"),
-        11 => out::text(b"unsettled"),
-        12 => out::text(b"bad step"),
-        13 => out::text(b"false step"),
-        14 => out::text(b"captured"),
-        21 => out::text(b"spent"),
-        22 => out::text(b"stray"),
+// A table of words: document 01's, as it prints them, and document 02's for 21 and 22. Other checks than these, and 15, are of no bundle.
+pub fn word(check: Check) {
+    match check {
+        Check::Length => out::text(b"short"),
+        Check::Version => out::text(b"foreign"),
+        Check::Limits => out::text(b"oversize"),
+        Check::Area => out::text(b"narrow bed"),
+        Check::Next => out::text(b"broken chain"),
+        Check::Declared => out::text(b"bad sort"),
+        Check::Refers => out::text(b"bad stick"),
+        Check::Sorted => out::text(b"missorted"),
+        Check::New => out::text(b"twin"),
+        Check::Context => out::text(b"bad setting"),
+        Check::Settled => out::text(b"unsettled"),
+        Check::Step => out::text(b"bad step"),
+        Check::Matches => out::text(b"false step"),
+        Check::Side => out::text(b"captured"),
+        Check::Pairs => out::text(b"spent"),
+        Check::Scope => out::text(b"stray"),
         _ => out::text(b"other claim"),
     }
 }
@@ -52,7 +53,7 @@ pub fn no_list(what: &[u8], start: usize, links: usize) {
 
 // The number before i.
 pub fn before(i: usize) -> usize {
-    if i == 0 { 0 } else { i - 1 }
+    i.saturating_sub(1)
 }
 
 pub fn is_number(n: usize, most: usize) -> bool {

@@ -28,6 +28,7 @@ pub fn line_end() {
     text(b"\n");
 }
 
+// A sort: a table of words.
 pub fn sort(s: usize) {
     match s {
         0 => text(b"Bool"),
@@ -36,7 +37,7 @@ pub fn sort(s: usize) {
     }
 }
 
-// A symbol as SMT-LIB names it: the built-in ones by their words, the others by their numbers.
+// A symbol as SMT-LIB names it: a table of the built-in ones' words, and the others by their numbers.
 pub fn symbol(f: usize) {
     match f {
         1 => text(b"true"),
@@ -59,6 +60,7 @@ pub fn declared(i: usize) {
     }
 }
 
+// A rule: a table of words.
 pub fn rule(r: usize) {
     match r {
         REFL => text(b"REFL"),

@@ -2,50 +2,47 @@
 
 use super::walk::first_difference;
 use bundle::Bundle;
-use show_pairs::pairs::{CAPTURE, COUNT, HIDDEN, IMAGE, KIND, SORTS, SYMBOL, UNMATCHED};
+use logic::Image;
+use show_pairs::pairs::Reason;
 use show_text::out;
 
-// The image of the variable is another term, or the variable itself where the term is 0.
-fn other_image(context: usize, x: usize, t: usize) {
+// The image of the variable is another term, or the variable itself.
+fn other_image(context: usize, x: usize, image: Image) {
     out::name(b"the image of v", x);
     out::name(b" in c", context);
-    if t == 0 {
-        out::name(b" is v", x);
-    } else {
-        out::name(b" is t", t);
+    match image {
+        Image::Own => out::name(b" is v", x),
+        Image::Gives(t) => out::name(b" is t", t),
     }
 }
 
-// Why the walk ends at a pair; x is the left variable, where it is one.
-fn why(context: usize, right: usize, x: usize, number: usize, about: usize) {
-    match number {
-        KIND => out::text(b"these are terms of different kinds"),
-        SYMBOL => out::text(b"these apply different symbols"),
-        COUNT => out::text(b"these have different numbers of arguments"),
-        SORTS => out::text(
+// Why the walk ends at a pair, a table of words; x is the left variable, where it is one.
+fn why(context: usize, right: usize, x: usize, reason: Reason) {
+    match reason {
+        Reason::Kind => out::text(b"these are terms of different kinds"),
+        Reason::Symbol => out::text(b"these apply different symbols"),
+        Reason::Count => out::text(b"these have different numbers of arguments"),
+        Reason::Sorts => out::text(
             b"these bind different numbers of variables, or variables of different sorts",
         ),
-        UNMATCHED => {
+        Reason::Unmatched(y) => {
             out::name(b"v", x);
             out::name(b" is bound, and t", right);
-            out::name(b" is not v", about);
+            out::name(b" is not v", y);
             out::text(b", the variable of the matching binder");
         }
-        HIDDEN => {
+        Reason::Hidden(y) => {
             out::name(b"v", x);
-            out::name(
-                b" is bound, and a nearer binder on the right hides v",
-                about,
-            );
+            out::name(b" is bound, and a nearer binder on the right hides v", y);
             out::text(b", the variable of the matching one");
         }
-        IMAGE => other_image(context, x, about),
-        CAPTURE => {
-            out::name(b"v", about);
+        Reason::Image(image) => other_image(context, x, image),
+        Reason::Capture(y) => {
+            out::name(b"v", y);
             out::name(b" is free in t", right);
             out::text(b", and a binder crossed on the right captures it");
         }
-        _ => out::text(b"there is no difference"),
+        Reason::Spent => out::text(b"there is no difference"),
     }
 }
 
@@ -59,7 +56,10 @@ pub fn failed_walk(bundle: &Bundle, context: usize, left: usize, right: usize) {
     out::name(b": the walk ends at t", end.left);
     out::name(b" and t", end.right);
     out::text(b", where ");
-    why(context, end.right, x, end.number, end.about);
+    match end.reason {
+        Some(reason) => why(context, end.right, x, reason),
+        None => out::text(b"there is no difference"),
+    }
 }
 
 // 21: the walk of a REFL would be too long.

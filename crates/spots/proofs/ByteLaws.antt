@@ -2,25 +2,23 @@
 --     over_blanks            white space and comments change nothing
 --     at-bracket             a bracket or a stray byte
 --     begins_run, run_any, run_sort, ends_run     a run of symbol characters
-use Prim.Native.Nat.{ℕ, zero, suc, ◌+◌, ◌-◌, ◌≤◌, ◌<◌}
+use Prim.Native.Nat.{ℕ, suc, ◌+◌, ◌-◌}
 use native.Mathlib.Omega.{arith}
 use mathlib.Core.Path.{◌≡◌, refl, sym, ap, ◌∙◌}
 use mathlib.Core.Bool.{Bool, true, false, cond, not, ◌&&◌, ◌||◌, true≢false, false≢true}
 use mathlib.Core.List.{List, [], ◌∷◌, ◌++◌, append_assoc, append-nil}
-use mathlib.Core.Option.{Option, none, some}
-use lib.ListN.{length, get_or, take, drop, length-append}
+use mathlib.Core.Option.{none, some}
+use lib.ListN.{length, take, drop, length-append}
 use lib.Dec.{eqb, ltb}
-use Rattle.logic.proofs.Tests.{and_left, and_right}
-use Rattle.grammar.specs.Bytes.{Class, space, lineEnd, semicolon, opening, closing, digit, symbol, other, Word, class_of, word_of}
+use Rattle.logic.specs.Tests.{Fault, fault}
+use Rattle.grammar.specs.Bytes.{Class, space, lineEnd, semicolon, opening, closing, digit, symbol, other, class_of, word_of}
 use Rattle.grammar.specs.Grammar.{Lexeme, opens, closes, word, stray, Mode, between, comment, within, bracket, ends, outside, onwards, last}
-use Rattle.grammar.specs.Parser.{Due, Stack, stack_of, State, takes, and_then, feed, complete, run, starts, may_grow, viable, enter, step, finish}
+use Rattle.grammar.specs.Parser.{Due, stack_of, State, takes, and_then, feed, run, starts, may_grow, viable, enter, step, finish}
 use Rattle.grammar.specs.Names.{Name, Located, locate, met_at, ends_at, ended_by, in_run, EndsRun, first_unknown}
-use Rattle.grammar.proofs.Bytewise.{then_then}
 use Rattle.lexing.specs.Codes.{class_code}
 use Rattle.lexing.specs.Common.{common}
 use Rattle.spots.specs.Runs.{code_of, blanks, run_length}
-use Rattle.spots.specs.Judgement.{unknown_or, go_on, at_end, judge_from, verdict}
-use Rattle.spots.specs.declared.Verdict.{Verdict}
+use Rattle.spots.specs.Judgement.{unknown_or, go_on, at_end, judge_from}
 
 abbrev pub state : Mode → List Due → State (Unit {0})
 state m σ = record { mode = m; stack = stack_of σ }
@@ -60,7 +58,7 @@ pub data OneLexeme : Class → Lexeme → Type 0 where
 
 module _ (known : Name → Bool) (σ : List Due) where
   -- one byte by its class
-  abbrev ByClass : Mode → ℕ → ℕ → Class → (State (Unit {0}) → Verdict) → Verdict
+  abbrev ByClass : Mode → ℕ → ℕ → Class → (State (Unit {0}) → Fault) → Fault
   ByClass m n c k f = unknown_or (first_unknown known (ended_by k n m σ)) (go_on n (and_then (feed (ends m k) (stack_of σ)) (enter (onwards m c k))) f)
 
   by_class : (m : Mode) (n c : ℕ) (cs : List ℕ) → judge_from known n (c ∷ cs) (state m σ) ≡ ByClass m n c (class_of c) (judge_from known (suc n) cs)
@@ -73,7 +71,7 @@ module _ (known : Name → Bool) (σ : List Due) where
   inside true = comment
   inside false = between
 
-  in_comment : (n c : ℕ) (k : Class) (f : State (Unit {0}) → Verdict) → ByClass comment n c k f ≡ f (state (inside (not (eqb (class_code k) 1))) σ)
+  in_comment : (n c : ℕ) (k : Class) (f : State (Unit {0}) → Fault) → ByClass comment n c k f ≡ f (state (inside (not (eqb (class_code k) 1))) σ)
   unfolding unknown_or first_unknown ended_by ends_at go_on and_then feed ends enter onwards viable class_code
   in_comment n c space f = refl
   in_comment n c lineEnd f = refl
@@ -84,7 +82,7 @@ module _ (known : Name → Bool) (σ : List Due) where
   in_comment n c symbol f = refl
   in_comment n c other f = refl
 
-  blank : (n c : ℕ) (k : Class) (f : State (Unit {0}) → Verdict) → ltb 2 (class_code k) ≡ false
+  blank : (n c : ℕ) (k : Class) (f : State (Unit {0}) → Fault) → ltb 2 (class_code k) ≡ false
       → ByClass between n c k f ≡ f (state (inside (eqb (class_code k) 2)) σ)
   unfolding unknown_or first_unknown ended_by ends_at go_on and_then feed ends enter onwards viable class_code bracket outside
   blank n c space f e = refl
@@ -131,7 +129,7 @@ module _ (known : Name → Bool) (σ : List Due) where
 
   -- ---- brackets and stray bytes
 
-  one_lexeme : (n c : ℕ) (k : Class) (l : Lexeme) → OneLexeme k l → (f : State (Unit {0}) → Verdict)
+  one_lexeme : (n c : ℕ) (k : Class) (l : Lexeme) → OneLexeme k l → (f : State (Unit {0}) → Fault)
       → ByClass between n c k f ≡ go_on n (and_then (and_then (takes σ (λ f. tt) l) (feed [])) (enter between)) f
   unfolding unknown_or first_unknown ended_by ends_at feed ends onwards bracket outside
   one_lexeme n c k l an_opening f = refl
@@ -145,36 +143,36 @@ module _ (known : Name → Bool) (σ : List Due) where
   lexeme_goes n c cs l o τ e = by_class between n c cs ∙ one_lexeme n c (class_of c) l o (judge_from known (suc n) cs) ∙ rw e
 
   pub lexeme_stops : (n c : ℕ) (cs : List ℕ) (l : Lexeme) → OneLexeme (class_of c) l → takes {A = Unit {0}} σ (λ f. tt) l ≡ none
-      → judge_from known n (c ∷ cs) (state between σ) ≡ verdict 19 n
+      → judge_from known n (c ∷ cs) (state between σ) ≡ fault 19 n
   unfolding go_on and_then
   lexeme_stops n c cs l o e = by_class between n c cs ∙ one_lexeme n c (class_of c) l o (judge_from known (suc n) cs) ∙ rw e
 
   -- ---- runs
 
-  starts_run : (n c : ℕ) (f : State (Unit {0}) → Verdict) → ByClass between n c symbol f
-      ≡ cond (may_grow (c ∷ []) σ) (f (state (within (c ∷ [])) σ)) (verdict 19 n)
+  starts_run : (n c : ℕ) (f : State (Unit {0}) → Fault) → ByClass between n c symbol f
+      ≡ cond (may_grow (c ∷ []) σ) (f (state (within (c ∷ [])) σ)) (fault 19 n)
   unfolding unknown_or first_unknown ended_by ends_at go_on and_then feed ends enter onwards viable bracket outside
   starts_run n c f = go (may_grow (c ∷ []) σ)
     where
-      go : (b : Bool) → go_on n (cond b (some (state (within (c ∷ [])) σ)) none) f ≡ cond b (f (state (within (c ∷ [])) σ)) (verdict 19 n)
+      go : (b : Bool) → go_on n (cond b (some (state (within (c ∷ [])) σ)) none) f ≡ cond b (f (state (within (c ∷ [])) σ)) (fault 19 n)
       go true = refl
       go false = refl
 
   pub begins_run : (n c : ℕ) (cs : List ℕ) → class_of c ≡ symbol
-      → judge_from known n (c ∷ cs) (state between σ) ≡ cond (may_grow (c ∷ []) σ) (judge_from known (suc n) cs (state (within (c ∷ [])) σ)) (verdict 19 n)
+      → judge_from known n (c ∷ cs) (state between σ) ≡ cond (may_grow (c ∷ []) σ) (judge_from known (suc n) cs (state (within (c ∷ [])) σ)) (fault 19 n)
   begins_run n c cs e = by_class between n c cs ∙ ap (λ k. ByClass between n c k (judge_from known (suc n) cs)) e ∙ starts_run n c (judge_from known (suc n) cs)
 
-  grown : (n c : ℕ) (w : List ℕ) (k : Class) (f : State (Unit {0}) → Verdict) → (eqb (class_code k) 5 || eqb (class_code k) 6) ≡ true
-      → ByClass (within w) n c k f ≡ cond (may_grow (w ++ (c ∷ [])) σ) (f (state (within (w ++ (c ∷ []))) σ)) (verdict 19 n)
+  grown : (n c : ℕ) (w : List ℕ) (k : Class) (f : State (Unit {0}) → Fault) → (eqb (class_code k) 5 || eqb (class_code k) 6) ≡ true
+      → ByClass (within w) n c k f ≡ cond (may_grow (w ++ (c ∷ [])) σ) (f (state (within (w ++ (c ∷ []))) σ)) (fault 19 n)
   unfolding unknown_or first_unknown ended_by ends_at go_on and_then feed ends enter onwards viable class_code
   grown n c w k f e = by k e
     where
-      go : (b : Bool) → go_on n (cond b (some (state (within (w ++ (c ∷ []))) σ)) none) f ≡ cond b (f (state (within (w ++ (c ∷ []))) σ)) (verdict 19 n)
+      go : (b : Bool) → go_on n (cond b (some (state (within (w ++ (c ∷ []))) σ)) none) f ≡ cond b (f (state (within (w ++ (c ∷ []))) σ)) (fault 19 n)
       go true = refl
       go false = refl
 
       by : (k : Class) → (eqb (class_code k) 5 || eqb (class_code k) 6) ≡ true
-          → ByClass (within w) n c k f ≡ cond (may_grow (w ++ (c ∷ [])) σ) (f (state (within (w ++ (c ∷ []))) σ)) (verdict 19 n)
+          → ByClass (within w) n c k f ≡ cond (may_grow (w ++ (c ∷ [])) σ) (f (state (within (w ++ (c ∷ []))) σ)) (fault 19 n)
       by space e = absurd (false≢true e)
       by lineEnd e = absurd (false≢true e)
       by semicolon e = absurd (false≢true e)
@@ -186,7 +184,7 @@ module _ (known : Name → Bool) (σ : List Due) where
 
   grows_run : (n c : ℕ) (cs w : List ℕ) → (eqb (code_of c) 5 || eqb (code_of c) 6) ≡ true
       → judge_from known n (c ∷ cs) (state (within w) σ) ≡ cond (may_grow (w ++ (c ∷ [])) σ) (judge_from known (suc n) cs (state (within (w ++ (c ∷ []))) σ))
-      (verdict 19 n)
+      (fault 19 n)
   grows_run n c cs w e = by_class (within w) n c cs ∙ grown n c w (class_of c) (judge_from known (suc n) cs) e
 
   within_same : (n m : ℕ) (cs u v : List ℕ) → n ≡ m → u ≡ v → judge_from known n cs (state (within u) σ) ≡ judge_from known m cs (state (within v) σ)
@@ -214,8 +212,8 @@ module _ (known : Name → Bool) (σ : List Due) where
   -- where only one word may be meant
   module _ (t : List ℕ) where
     -- a run from byte i on, of which w is read when byte m comes
-    abbrev SortRun : ℕ → List ℕ → ℕ → List ℕ → Verdict
-    SortRun i w m ys = cond (starts w t) (judge_from known m ys (state (within w) σ)) (verdict 19 (i + common w t))
+    abbrev SortRun : ℕ → List ℕ → ℕ → List ℕ → Fault
+    SortRun i w m ys = cond (starts w t) (judge_from known m ys (state (within w) σ)) (fault 19 (i + common w t))
 
     sort_same : (i : ℕ) (u v : List ℕ) (m n : ℕ) (ys : List ℕ) → u ≡ v → m ≡ n → SortRun i u m ys ≡ SortRun i v n ys
     sort_same i u v m n ys e f = rw (e, f)
@@ -238,7 +236,7 @@ module _ (known : Name → Bool) (σ : List Due) where
       sort_grow c xs u n e p s false q h =
           let k = cut (c₀ ∷ u) (run_of xs) c t s q in
           let z : n ≡ i + common (c₀ ∷ (u ++ (c ∷ run_of xs))) t = omega (arith, k.1, p) in
-          grows_run n c xs (c₀ ∷ u) e ∙ rw (g (u ++ (c ∷ [])), q, k.0) (ap (verdict 19) z)
+          grows_run n c xs (c₀ ∷ u) e ∙ rw (g (u ++ (c ∷ [])), q, k.0) (ap (fault 19) z)
 
       pub run_sort : (xs u : List ℕ) (n : ℕ) → n ≡ i + suc (length u) → starts (c₀ ∷ u) t ≡ true → Sorted xs u n
       unfolding run_length
@@ -256,7 +254,7 @@ module _ (known : Name → Bool) (σ : List Due) where
 
   -- ---- the run's end
 
-  ends_run_by : (w : List ℕ) (n c : ℕ) (k : Class) (f : State (Unit {0}) → Verdict) → in_run k ≡ false
+  ends_run_by : (w : List ℕ) (n c : ℕ) (k : Class) (f : State (Unit {0}) → Fault) → in_run k ≡ false
       → ByClass (within w) n c k f
       ≡ unknown_or (first_unknown known (locate (n - length w) (met_at σ (word_of w))))
       (go_on n (and_then (and_then (takes σ (λ f. tt) (word (word_of w))) (feed (bracket k))) (enter (outside c k))) f)
@@ -274,7 +272,7 @@ module _ (known : Name → Bool) (σ : List Due) where
   abbrev name_met : ℕ → List ℕ → List Located
   name_met n w = locate (n - length w) (met_at σ (word_of w))
 
-  between_by : (n c : ℕ) (k : Class) (τ : List Due) (f : State (Unit {0}) → Verdict)
+  between_by : (n c : ℕ) (k : Class) (τ : List Due) (f : State (Unit {0}) → Fault)
       → unknown_or (first_unknown known (ended_by k n between τ)) (go_on n (and_then (feed (ends between k) (stack_of τ)) (enter (onwards between c k))) f)
       ≡ go_on n (and_then (feed (bracket k) (stack_of τ)) (enter (outside c k))) f
   unfolding ended_by ends_at ends onwards first_unknown unknown_or
@@ -295,13 +293,13 @@ module _ (known : Name → Bool) (σ : List Due) where
       ends_run_by w n c (class_of c) (judge_from known (suc n) cs) r ∙ rw (u, e) (sym (between_by n c (class_of c) τ (judge_from known (suc n) cs)))
 
   pub run_unknown : (w : List ℕ) (n : ℕ) (cs : List ℕ) → EndsRun cs → (m : ℕ) → first_unknown known (name_met n w) ≡ some m
-      → judge_from known n cs (state (within w) σ) ≡ verdict 20 m
+      → judge_from known n cs (state (within w) σ) ≡ fault 20 m
   unfolding judge_from ends_at unknown_or step
   run_unknown w n [] r m u = rw u
   run_unknown w n (c ∷ cs) r m u = ends_run_by w n c (class_of c) (judge_from known (suc n) cs) r ∙ rw u
 
   pub run_stops : (w : List ℕ) (n : ℕ) (cs : List ℕ) → EndsRun cs → first_unknown known (name_met n w) ≡ none
-      → takes {A = Unit {0}} σ (λ f. tt) (word (word_of w)) ≡ none → judge_from known n cs (state (within w) σ) ≡ verdict 19 n
+      → takes {A = Unit {0}} σ (λ f. tt) (word (word_of w)) ≡ none → judge_from known n cs (state (within w) σ) ≡ fault 19 n
   unfolding judge_from ends_at finish run last feed unknown_or and_then go_on at_end step
   run_stops w n [] r u e = rw (u, e)
   run_stops w n (c ∷ cs) r u e = ends_run_by w n c (class_of c) (judge_from known (suc n) cs) r ∙ rw (u, e)

@@ -2,18 +2,18 @@
 --     guess_in, guess_out, column-…, if-…, inside-…     as the functions of `guesses` return
 --     guessed_word, guessed_open, guessed_close         one lexeme
 --     Seeking                                           the loop of `guesses::find_levels`
-use Prim.Native.Nat.{ℕ, zero, suc, ◌+◌, ◌-◌, ◌*◌, ◌≤◌, ◌<◌}
+use Prim.Native.Nat.{ℕ, suc, ◌+◌, ◌-◌, ◌*◌, ◌≤◌, ◌<◌}
 use native.Mathlib.Omega.{arith}
 use native.Mathlib.Decide.{ℕ_discrete}
 use mathlib.Core.Path.{◌≡◌, refl, sym, ap, ◌∙◌}
-use mathlib.Core.Bool.{Bool, true, false, cond, not, ◌&&◌, true≢false, false≢true}
+use mathlib.Core.Bool.{Bool, true, false, cond, not, ◌&&◌}
 use mathlib.Core.List.{List, [], ◌∷◌}
 use lib.ListN.{length, get_or, set, get_or-eq_default}
 use lib.Seq.{get_or-set_same, get_or-set_other}
 use lib.Dec.{eqb, ltb}
-use borrow.Author.Tests.{lt-ltb, le-ltb, eq-eqb, ne_eqb, eqb-true, eqb-false, ltb-true, ltb-false, not-false}
+use borrow.Author.Tests.{lt-ltb, le-ltb, eq-eqb, ne_eqb, ltb-true, ltb-false, not-false}
 use Rattle.grammar.specs.Bytes.{word_of}
-use Rattle.grammar.specs.Names.{Name, Place, either, symbolOnly, variableOnly}
+use Rattle.grammar.specs.Names.{Name, symbolOnly, variableOnly}
 use Rattle.lexing.specs.Counted.{place_of}
 use Rattle.spots.specs.Spots.{table, cell, alike}
 use Rattle.spots.specs.Judgement.{code_of_run, is_unknown}

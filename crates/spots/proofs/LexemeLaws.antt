@@ -3,17 +3,18 @@
 --     opens_goes, opens_stops, closes_goes, closes_stops, stray_stops
 --     word_goes, word_unknown, word_stops         a run
 --     judged_end                                  the text's end
-use Prim.Native.Nat.{ℕ, zero, suc, ◌+◌, ◌-◌, ◌≤◌, ◌<◌}
+use Prim.Native.Nat.{ℕ, suc, ◌+◌, ◌-◌, ◌≤◌, ◌<◌}
 use native.Mathlib.Omega.{arith}
 use native.Mathlib.Numerals.{add-one}
 use mathlib.Core.Path.{◌≡◌, refl, sym, ap, ◌∙◌}
 use mathlib.Core.Bool.{Bool, true, false, cond, not, ◌&&◌, ◌||◌, true≢false, false≢true}
 use mathlib.Core.List.{List, [], ◌∷◌, ◌++◌}
-use mathlib.Core.Option.{Option, none, some, none-ne-some}
+use mathlib.Core.Option.{none, some, none-ne-some}
 use lib.ListN.{length, get_or, take, drop}
 use lib.Seq.{drop-cons, drop-drop}
 use lib.Dec.{eqb, ltb}
-use borrow.Author.Tests.{lt-ltb, le-ltb, eq-eqb, ne_eqb, eqb-true, eqb-false, ltb-true, ltb-false}
+use borrow.Author.Tests.{lt-ltb, le-ltb, eq-eqb, ne_eqb, eqb-true, eqb-false}
+use Rattle.logic.specs.Tests.{Fault, fault}
 use Rattle.grammar.specs.Bytes.{
   Class,
   space,
@@ -34,9 +35,9 @@ use Rattle.grammar.specs.Bytes.{
   name,
   class_of,
 }
-use Rattle.grammar.specs.Bytes.{word_of, bytes, word_among, twelve}
-use Rattle.grammar.specs.Grammar.{Lexeme, opens, closes, word, stray, between, within}
-use Rattle.grammar.specs.Parser.{Due, Stack, stack_of, takes, run, feed, and_then, complete, finish, starts, may_grow}
+use Rattle.grammar.specs.Bytes.{word_of, bytes, twelve}
+use Rattle.grammar.specs.Grammar.{opens, closes, word, stray, between, within}
+use Rattle.grammar.specs.Parser.{Due, stack_of, takes, run, feed, and_then, finish, starts, may_grow}
 use Rattle.grammar.specs.Grammar.{last}
 use Rattle.grammar.specs.Names.{Name, locate, word_at, met_at, ends_at, first_unknown}
 use Rattle.grammar.proofs.Words.{among}
@@ -48,11 +49,10 @@ use Rattle.lexing.proofs.ClassLaws.{is_class}
 use Rattle.lexing.proofs.CommonLaws.{starts_common}
 use Rattle.spots.specs.Spots.{wanted, owed, due_at, cell, Nested}
 use Rattle.spots.specs.Runs.{code_of, blanks, lexeme_from, run_length, run_end, sort_meant, sort_start}
-use Rattle.spots.specs.Judgement.{verdict, unknown_or, at_end, judge_from, standing, viable_bytes, code_of_run, is_unknown}
+use Rattle.spots.specs.Judgement.{unknown_or, at_end, judge_from, viable_bytes, code_of_run, is_unknown}
 use Rattle.spots.specs.Traces.{run_at}
-use Rattle.spots.specs.declared.Verdict.{Verdict}
-use Rattle.spots.proofs.SpotLaws.{stack_if, opened_to, closed_to, word_to, grows_as, named_as, due_opens, due_closes, due_stray, due_word, due_grows}
-use Rattle.spots.proofs.SpotLaws.{due_named, completed, ends_at_spot, due_ends}
+use Rattle.spots.proofs.SpotLaws.{word_to, grows_as, due_opens, due_closes, due_stray, due_word, due_grows}
+use Rattle.spots.proofs.SpotLaws.{due_named, due_ends}
 use Rattle.spots.proofs.ByteLaws.{state, cut, run_of, past_run, over_blanks, OneLexeme, an_opening, a_closing, a_digit, another, lexeme_goes}
 use Rattle.spots.proofs.ByteLaws.{lexeme_stops, begins_run, run_any, run_sort, past_run_lem, run_goes, run_unknown, run_stops}
 use Rattle.spots.proofs.RunLaws.{run_parts, run_past, run_ending, run_length_lem}
@@ -135,7 +135,7 @@ sort_meant_lem c w = go (eqb c 66) refl
 
 module _ (known : Name → Bool) (text : List ℕ) where
   -- the verdict from byte i on
-  abbrev Rest : ℕ → List Due → Verdict
+  abbrev Rest : ℕ → List Due → Fault
   Rest i σ = judge_from known i (drop i text) (state between σ)
 
   pub over_lexeme : (σ : List Due) (i : ℕ) → Rest i σ ≡ Rest (lexeme_from text i) σ
@@ -178,7 +178,7 @@ module _ (known : Name → Bool) (text : List ℕ) where
         (due_opens s held low nested ∙ rw (lt-ltb (cell s 0) 20 l))
         ∙ one_past (due_at (cell s 0) (cell s 10 ∷ held)) i
 
-    pub opens_stops : code_of (get_or text i 0) ≡ 3 → 20 ≤ cell s 0 → Rest i (due_at s held) ≡ verdict 19 i
+    pub opens_stops : code_of (get_or text i 0) ≡ 3 → 20 ≤ cell s 0 → Rest i (due_at s held) ≡ fault 19 i
     unfolding σ class_code
     opens_stops e l = here ∙ lexeme_stops known σ i c xs opens (rw (class_is opening e) an_opening) (due_opens s held low nested ∙ rw (le-ltb (cell s 0) 20 l))
 
@@ -190,21 +190,21 @@ module _ (known : Name → Bool) (text : List ℕ) where
         ∙ lexeme_goes known σ i c xs closes (rw (class_is closing e) a_closing) (due_at u rest) (due_closes s held low nested ∙ rw (ne_eqb (cell s 1) 99 l, h))
         ∙ one_past (due_at u rest) i
 
-    pub closes_stops : code_of (get_or text i 0) ≡ 4 → cell s 1 ≡ 99 → Rest i (due_at s held) ≡ verdict 19 i
+    pub closes_stops : code_of (get_or text i 0) ≡ 4 → cell s 1 ≡ 99 → Rest i (due_at s held) ≡ fault 19 i
     unfolding σ class_code
     closes_stops e l =
         here ∙ lexeme_stops known σ i c xs closes (rw (class_is closing e) a_closing) (due_closes s held low nested ∙ rw (eq-eqb (cell s 1) 99 l))
 
     pub stray_stops : ltb 2 (code_of (get_or text i 0)) ≡ true → (code_of (get_or text i 0) ≡ 3 → ⊥) → (code_of (get_or text i 0) ≡ 4 → ⊥)
         → (code_of (get_or text i 0) ≡ 6 → ⊥)
-        → Rest i (due_at s held) ≡ verdict 19 i
+        → Rest i (due_at s held) ≡ fault 19 i
     unfolding σ c
     stray_stops e x y z = here ∙ lexeme_stops known σ i c xs stray (stray_class (class_of (get_or text i 0)) e x y z) (due_stray s held low nested)
 
     -- ---- runs
 
     begins : code_of (get_or text i 0) ≡ 6
-        → Rest i (due_at s held) ≡ cond (may_grow (c ∷ []) σ) (judge_from known (suc i) xs (state (within (c ∷ [])) σ)) (verdict 19 i)
+        → Rest i (due_at s held) ≡ cond (may_grow (c ∷ []) σ) (judge_from known (suc i) xs (state (within (c ∷ [])) σ)) (fault 19 i)
     unfolding σ class_code
     begins e = here ∙ begins_run known σ i c xs (class_is symbol e)
 
@@ -221,7 +221,7 @@ module _ (known : Name → Bool) (text : List ℕ) where
     ending = let e = run_ending text i inside in let l = run_length_lem text i inside in omega (arith, e, l)
 
     -- the verdict where the run is read whole
-    abbrev Whole : Verdict
+    abbrev Whole : Fault
     Whole = judge_from known (run_end text (i + 1)) (drop (run_end text (i + 1)) text) (state (within w) σ)
 
     whole : judge_from known (suc i + run_length xs) (past_run xs) (state (within (c ∷ run_of xs)) σ) ≡ Whole
@@ -254,7 +254,7 @@ module _ (known : Name → Bool) (text : List ℕ) where
         so = sym (ap (λ v. may_grow v σ) parts) ∙ m
 
         by_sort : ((v : List ℕ) → may_grow (c ∷ v) σ ≡ starts (c ∷ v) t) → (b : Bool) → starts (c ∷ []) t ≡ b
-            → cond b (judge_from known (suc i) xs (state (within (c ∷ [])) σ)) (verdict 19 i) ≡ Whole
+            → cond b (judge_from known (suc i) xs (state (within (c ∷ [])) σ)) (fault 19 i) ≡ Whole
         by_sort g true q =
             let k : starts (c ∷ run_of xs) t ≡ true = sym (g (run_of xs)) ∙ so in
             run_sort known σ t i c g xs [] (suc i) (omega arith) q ∙ rw k whole
@@ -264,7 +264,7 @@ module _ (known : Name → Bool) (text : List ℕ) where
             starts_nil v = refl
 
         go : (a b : Bool) → eqb (cell s 11) 0 ≡ a → eqb (cell s 11) 1 ≡ b
-            → cond (may_grow (c ∷ []) σ) (judge_from known (suc i) xs (state (within (c ∷ [])) σ)) (verdict 19 i) ≡ Whole
+            → cond (may_grow (c ∷ []) σ) (judge_from known (suc i) xs (state (within (c ∷ [])) σ)) (fault 19 i) ≡ Whole
         go true b x y = absurd (true≢false (sym m ∙ not_any x w))
         go false true x y = rw (any x y (c ∷ [])) (run_any known σ (any x y) xs (c ∷ []) (suc i) ∙ whole)
         go false false x y = rw (one_sort x y []) (by_sort (one_sort x y) (starts (c ∷ []) t) refl)
@@ -283,7 +283,7 @@ module _ (known : Name → Bool) (text : List ℕ) where
             let q : starts w t ≡ true = ap (λ v. starts v t) parts ∙ sym (one_sort x y (run_of xs)) ∙ sym (ap (λ v. may_grow v σ) parts) ∙ m in
             eqb-true (common w (sort_meant w)) (length w) (starts_common w (sort_meant w) ∙ ap (starts w) meant ∙ q)
 
-    halts : code_of (get_or text i 0) ≡ 6 → may_grow w σ ≡ false → Rest i (due_at s held) ≡ verdict 19 (i + viable_bytes s w)
+    halts : code_of (get_or text i 0) ≡ 6 → may_grow w σ ≡ false → Rest i (due_at s held) ≡ fault 19 (i + viable_bytes s w)
     unfolding viable_bytes sort_start sort_meant t starts
     halts e m = begins e ∙ go (eqb (cell s 11) 0) (eqb (cell s 11) 1) refl refl
       where
@@ -293,11 +293,11 @@ module _ (known : Name → Bool) (text : List ℕ) where
         so : may_grow (c ∷ run_of xs) σ ≡ false
         so = sym (ap (λ v. may_grow v σ) parts) ∙ m
 
-        at_once : verdict 19 i ≡ verdict 19 (i + 0)
-        at_once = let z : i ≡ i + 0 = omega arith in ap (verdict 19) z
+        at_once : fault 19 i ≡ fault 19 (i + 0)
+        at_once = let z : i ≡ i + 0 = omega arith in ap (fault 19) z
 
         by_sort : ((v : List ℕ) → may_grow (c ∷ v) σ ≡ starts (c ∷ v) t) → (b : Bool) → starts (c ∷ []) t ≡ b
-            → cond b (judge_from known (suc i) xs (state (within (c ∷ [])) σ)) (verdict 19 i) ≡ verdict 19 (i + common w (sort_meant w))
+            → cond b (judge_from known (suc i) xs (state (within (c ∷ [])) σ)) (fault 19 i) ≡ fault 19 (i + common w (sort_meant w))
         by_sort g true q =
             let k : starts (c ∷ run_of xs) t ≡ false = sym (g (run_of xs)) ∙ so in
             run_sort known σ t i c g xs [] (suc i) (omega arith) q ∙ rw (k, meant, parts)
@@ -309,8 +309,8 @@ module _ (known : Name → Bool) (text : List ℕ) where
             starts_nil v = refl
 
         go : (a b : Bool) → eqb (cell s 11) 0 ≡ a → eqb (cell s 11) 1 ≡ b
-            → cond (may_grow (c ∷ []) σ) (judge_from known (suc i) xs (state (within (c ∷ [])) σ)) (verdict 19 i)
-            ≡ verdict 19 (i + cond a 0 (cond b (length w) (common w (sort_meant w))))
+            → cond (may_grow (c ∷ []) σ) (judge_from known (suc i) xs (state (within (c ∷ [])) σ)) (fault 19 i)
+            ≡ fault 19 (i + cond a 0 (cond b (length w) (common w (sort_meant w))))
         go true b x y = rw (not_any x (c ∷ [])) at_once
         go false true x y = absurd (true≢false (sym (any x y w) ∙ m))
         go false false x y = rw (one_sort x y []) (by_sort (one_sort x y) (starts (c ∷ []) t) refl)
@@ -375,31 +375,31 @@ module _ (known : Name → Bool) (text : List ℕ) where
         ∙ over_lexeme (due_at (cell s (code_of_run w)) held) (run_end text (i + 1))
 
     pub word_unknown : code_of (get_or text i 0) ≡ 6 → cell s (code_of_run (run_at text i)) < 20 → is_unknown known s (run_at text i) ≡ true
-        → Rest i (due_at s held) ≡ verdict 20 i
+        → Rest i (due_at s held) ≡ fault 20 i
     unfolding w
     word_unknown e l u =
         reaches e (may l) ∙ run_unknown known σ w (run_end text (i + 1)) (drop (run_end text (i + 1)) text) run_ends i (unknown_here l ∙ rw u)
 
-    pub word_stops : code_of (get_or text i 0) ≡ 6 → 20 ≤ cell s (code_of_run (run_at text i)) → Rest i (due_at s held) ≡ verdict 19 (i + viable_bytes s (run_at text i))
+    pub word_stops : code_of (get_or text i 0) ≡ 6 → 20 ≤ cell s (code_of_run (run_at text i)) → Rest i (due_at s held) ≡ fault 19 (i + viable_bytes s (run_at text i))
     unfolding w
     word_stops e l = go (may_grow w σ) refl
       where
-        go : (b : Bool) → may_grow w σ ≡ b → Rest i (due_at s held) ≡ verdict 19 (i + viable_bytes s (run_at text i))
+        go : (b : Bool) → may_grow w σ ≡ b → Rest i (due_at s held) ≡ fault 19 (i + viable_bytes s (run_at text i))
         go true m =
             let n = viable_all m in
             let z : run_end text (i + 1) ≡ i + viable_bytes s w = run_ending text i inside ∙ ap (λ k. i + k) (sym n) in
             reaches e m
             ∙ run_stops known σ w (run_end text (i + 1)) (drop (run_end text (i + 1)) text) run_ends (none_here l)
             (takes_word ∙ rw (le-ltb (cell s (code_of_run w)) 20 l))
-            ∙ ap (verdict 19) z
+            ∙ ap (fault 19) z
         go false m = halts e m
 
   -- ---- the text's end
 
-  pub judged_end : (i s : ℕ) (held : List ℕ) → s < 20 → Nested s held → length text ≤ i → Rest i (due_at s held) ≡ cond (eqb s 0) (verdict 0 0) (verdict 19 i)
+  pub judged_end : (i s : ℕ) (held : List ℕ) → s < 20 → Nested s held → length text ≤ i → Rest i (due_at s held) ≡ cond (eqb s 0) (fault 0 0) (fault 19 i)
   unfolding judge_from ends_at first_unknown unknown_or finish run last feed and_then at_end
   judged_end i s held l n e = rw (lib.ListN.drop_of_length-le text e, due_ends s held l n) (go (eqb s 0))
     where
-      go : (b : Bool) → at_end i (cond b (some tt) none) ≡ cond b (verdict 0 0) (verdict 19 i)
+      go : (b : Bool) → at_end i (cond b (some tt) none) ≡ cond b (fault 0 0) (fault 19 i)
       go true = refl
       go false = refl

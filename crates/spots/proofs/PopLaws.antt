@@ -1,16 +1,15 @@
 -- Laws of a closing bracket, as `levels::pop` returns.
-use Prim.Native.Nat.{ℕ, zero, suc, ◌+◌, ◌-◌, ◌≤◌, ◌<◌}
+use Prim.Native.Nat.{ℕ, suc, ◌-◌, ◌≤◌, ◌<◌}
 use native.Mathlib.Omega.{arith}
-use mathlib.Core.Path.{◌≡◌, refl, sym, ap, ◌∙◌}
-use mathlib.Core.Bool.{Bool, true}
+use mathlib.Core.Path.{◌≡◌, sym, ◌∙◌}
+use mathlib.Core.Bool.{Bool}
 use mathlib.Core.List.{List, ◌∷◌}
 use lib.ListN.{length, get_or}
-use Rattle.bundle.specs.Lists.{has}
 use Rattle.grammar.specs.Names.{Name}
-use Rattle.spots.specs.Spots.{cell, behind, Nested}
+use Rattle.spots.specs.Spots.{cell}
 use Rattle.spots.specs.Traces.{stand, origin, Sound}
-use Rattle.spots.specs.Levels.{Window, Stands, place}
-use Rattle.spots.specs.Guesses.{Lettered, LevelsFound}
+use Rattle.spots.specs.Levels.{Stands, place}
+use Rattle.spots.specs.Guesses.{LevelsFound}
 use Rattle.spots.specs.Turns.{Popped}
 use Rattle.spots.specs.declared.Place.{Place}
 use Rattle.spots.proofs.TableFacts.{closes_to, closes_plain}

@@ -2,7 +2,7 @@
 --     resolved_judged
 --     declared_known      what is declared, by counts
 use Prim.Native.Nat.{ℕ, suc}
-use mathlib.Core.Path.{◌≡◌, refl, sym, ap, ◌∙◌, fun_ext}
+use mathlib.Core.Path.{◌≡◌, refl, sym, fun_ext}
 use mathlib.Core.Bool.{Bool, true, false, cond}
 use mathlib.Core.List.{List, [], ◌∷◌, ◌++◌}
 use mathlib.Core.Option.{Option, none, some}
@@ -12,13 +12,12 @@ use Rattle.reading.specs.Called.{known_in}
 use Rattle.lexing.proofs.NumeralLaws.{counts_suffice}
 use Rattle.grammar.specs.Bytes.{class_of}
 use Rattle.grammar.specs.Grammar.{Formula}
-use Rattle.grammar.specs.Parser.{State, Outcome, read, unread, step, finish, on_read, on_step, parse_from, start, parse, start_of_scan}
+use Rattle.grammar.specs.Parser.{State, step, finish, on_read, on_step, parse_from, start, parse}
 use Rattle.grammar.specs.Names.{Name, Located, ends_at, ended_by, while_steps, met_from, first_unknown, Resolved, resolved, otherwise, or_unknown, resolve}
 use Rattle.grammar.specs.Names as N
 use Rattle.grammar.proofs.Erased.{mapped, state_by, step_by, finish_by}
 use Rattle.spots.specs.Spots.{wants, wanted, owed, due_at}
-use Rattle.spots.specs.Judgement.{verdict, declared_by, verdict_of, unknown_or, go_on, at_end, judge_from, standing}
-use Rattle.spots.specs.declared.Verdict.{Verdict}
+use Rattle.spots.specs.Judgement.{declared_by, verdict_of, unknown_or, go_on, at_end, judge_from, standing}
 
 module _ (known : Name → Bool) where
   erased : State Formula → State (Unit {0})

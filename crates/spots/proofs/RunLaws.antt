@@ -3,21 +3,21 @@
 --     lexeme_first                                 what follows blanks is none
 --     run_parts, run_past, run_ending              a run, what follows it and where it ends
 --     Skipping, Running                            the loops of `runs`
-use Prim.Native.Nat.{ℕ, zero, suc, ◌+◌, ◌-◌, ◌≤◌, ◌<◌}
+use Prim.Native.Nat.{ℕ, suc, ◌+◌, ◌-◌, ◌≤◌, ◌<◌}
 use native.Mathlib.Omega.{arith}
 use native.Mathlib.Numerals.{add-one}
 use native.Mathlib.Decide.{ℕ_discrete}
 use mathlib.Core.Path.{◌≡◌, refl, sym, ap, ◌∙◌}
 use mathlib.Core.Bool.{Bool, true, false, cond, not, ◌&&◌, ◌||◌}
 use mathlib.Core.List.{List, [], ◌∷◌}
-use lib.ListN.{length, get_or, take, drop, length-drop, drop_of_length-le}
+use lib.ListN.{length, get_or, drop, length-drop, drop_of_length-le}
 use lib.Seq.{drop-cons, drop-drop, length-take-le, get_or-drop}
 use lib.Dec.{eqb, ltb}
 use borrow.Author.Tests.{eq-eqb, ne_eqb, le-ltb, ltb-true, ltb-false}
 use Rattle.grammar.specs.Bytes.{bytes}
 use Rattle.grammar.proofs.Words.{or_false}
 use Rattle.lexing.specs.Common.{common}
-use Rattle.spots.specs.Runs.{code_of, blanks, lexeme_from, run_length, run_end, part, sort_meant, sort_start}
+use Rattle.spots.specs.Runs.{code_of, blanks, lexeme_from, run_length, run_end, sort_meant, sort_start}
 use Rattle.spots.specs.Traces.{run_at}
 use Rattle.spots.proofs.ByteLaws.{run_of, past_run}
 

@@ -2,14 +2,13 @@
 --     due_opens, due_closes, due_stray, due_word     a lexeme
 --     due_grows, due_named                           what a run may become; the kind of name due
 --     due_ends                                       the text may end at spot 0 alone
-use Prim.Native.Nat.{ℕ, zero, suc, ◌+◌, ◌*◌, ◌<◌}
+use Prim.Native.Nat.{ℕ, zero, suc, ◌<◌}
 use native.Mathlib.Omega.{arith}
 use native.Mathlib.Decide.{ℕ_discrete}
-use mathlib.Core.Path.{◌≡◌, refl, sym, ap, ◌∙◌}
+use mathlib.Core.Path.{◌≡◌, refl}
 use mathlib.Core.Bool.{Bool, true, false, cond, ◌||◌, false≢true}
 use mathlib.Core.List.{List, [], ◌∷◌, ◌++◌}
 use mathlib.Core.Option.{Option, none, some}
-use lib.ListN.{get_or}
 use lib.Dec.{eqb, ltb}
 use Rattle.grammar.specs.Bytes.{Word, constant, negation, connective, quantifier, letting, sort, name, bytes}
 use Rattle.grammar.specs.Grammar.{Lexeme, opens, closes, word, stray}

@@ -1,20 +1,19 @@
 -- Laws of traces: where a scan can stand.
 --     sound_origin, sound_next, sound_reached     what holds of each stand
 --     reached_on, next_after                      one lexeme more; the next one on the way
-use Prim.Native.Nat.{ℕ, zero, suc, ◌+◌, ◌-◌, ◌≤◌, ◌<◌}
+use Prim.Native.Nat.{ℕ, suc, ◌+◌, ◌≤◌, ◌<◌}
 use native.Mathlib.Omega.{arith}
-use mathlib.Core.Path.{◌≡◌, refl, sym, ap, ◌∙◌}
-use mathlib.Core.Bool.{Bool, true, false, cond}
-use mathlib.Core.List.{List, [], ◌∷◌}
-use lib.ListN.{length, get_or}
-use lib.Dec.{eqb, ltb}
+use mathlib.Core.Path.{◌≡◌, refl, ap}
+use mathlib.Core.Bool.{Bool}
+use mathlib.Core.List.{List, ◌∷◌}
+use lib.ListN.{length}
 use Rattle.grammar.specs.Bytes.{Word, constant, negation, connective, quantifier, letting, sort, name, word_of}
 use Rattle.grammar.specs.Names.{Name}
 use Rattle.lexing.specs.Codes.{word_code}
-use Rattle.spots.specs.Spots.{cell, Nested}
-use Rattle.spots.specs.Runs.{code_of, lexeme_from, run_end}
+use Rattle.spots.specs.Spots.{Nested}
+use Rattle.spots.specs.Runs.{run_end}
 use Rattle.spots.specs.Judgement.{code_of_run}
-use Rattle.spots.specs.Traces.{Stand, stand, origin, run_at, Next, words, opens, closes, Reached, here, more, Sound}
+use Rattle.spots.specs.Traces.{Stand, origin, run_at, Next, words, opens, closes, Reached, here, more, Sound}
 use Rattle.spots.proofs.RunLaws.{lexeme_within, lexeme_first, end_within}
 use Rattle.spots.proofs.TableFacts.{word_keeps, opens_keeps, behind_low}
 

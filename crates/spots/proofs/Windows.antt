@@ -3,7 +3,7 @@
 --     window_push, window_again     an opening bracket; where the area is full
 --     window_pop, window_below      a closing bracket; where nothing is held in the area
 --     window_found                  levels that are found again
-use Prim.Native.Nat.{ℕ, zero, suc, ◌+◌, ◌-◌, ◌≤◌, ◌<◌}
+use Prim.Native.Nat.{ℕ, ◌+◌, ◌-◌, ◌≤◌, ◌<◌}
 use native.Mathlib.Omega.{arith}
 use native.Mathlib.Decide.{ℕ_discrete}
 use mathlib.Core.Path.{◌≡◌, refl, sym, ap, ◌∙◌}
@@ -11,10 +11,10 @@ use mathlib.Core.Bool.{Bool, true, false, cond}
 use mathlib.Core.List.{List, [], ◌∷◌}
 use lib.ListN.{length, get_or, set, length-set}
 use lib.Seq.{get_or-set_same, get_or-set_other}
-use lib.Dec.{eqb, ltb}
+use lib.Dec.{ltb}
 use borrow.Author.Tests.{lt-ltb, le-ltb, eq-eqb, ne_eqb}
 use Rattle.bundle.specs.Lists.{each}
-use Rattle.spots.specs.Spots.{cell, Nested, behind, alike}
+use Rattle.spots.specs.Spots.{Nested, behind, alike}
 use Rattle.spots.specs.Levels.{level, Window, place, pushed, stored_at}
 use Rattle.spots.specs.declared.Place.{Place}
 use Rattle.spots.proofs.TableFacts.{plain, nested_plain, plain_same}

@@ -1,19 +1,17 @@
 -- Laws of a word at a spot, as `words::viable_bytes` and `words::word` return.
 use Prim.Native.Nat.{ℕ, ◌+◌, ◌-◌, ◌≤◌, ◌<◌}
 use native.Mathlib.Omega.{arith}
-use mathlib.Core.Path.{◌≡◌, refl, sym, ap, ◌∙◌}
-use mathlib.Core.Bool.{Bool, true, false, cond, not, ◌&&◌}
+use mathlib.Core.Path.{◌≡◌, sym, ap, ◌∙◌}
+use mathlib.Core.Bool.{Bool, true, false}
 use mathlib.Core.List.{List}
-use lib.ListN.{length, take, drop, length-drop}
+use lib.ListN.{length, drop, length-drop}
 use lib.Seq.{length-take-le}
-use lib.Dec.{eqb, ltb}
 use borrow.Author.Tests.{lt-ltb, le-ltb, eq-eqb, ne_eqb}
-use Rattle.grammar.specs.Names.{Name}
+use Rattle.std.specs.Prelude.{Ok, Err}
 use Rattle.lexing.specs.Counted.{place_of, known_among}
 use Rattle.spots.specs.Spots.{cell}
 use Rattle.spots.specs.Runs.{part, sort_start}
-use Rattle.spots.specs.Judgement.{declared_by, met, code_of_run, is_unknown, viable_bytes, word_met}
-use Rattle.spots.specs.declared.Met.{Met}
+use Rattle.spots.specs.Judgement.{declared_by, unread_text, unknown_name, code_of_run, is_unknown, viable_bytes, word_met}
 use Rattle.spots.proofs.RunLaws.{sort_within}
 
 pub part_length : (text : List ℕ) (s e : ℕ) → s ≤ e → e ≤ length text → length (part text s e) ≡ e - s
@@ -41,24 +39,24 @@ module _ (symbols variables s i : ℕ) (w : List ℕ) (code : ℕ) (is : code �
   there : next ≡ cell s (code_of_run w)
   there = goes ∙ ap (cell s) is
 
-  pub met_word : next < 20 → (code ≡ 9 → ⊥) → met 0 0 next ≡ word_met (declared_by symbols variables) s i w
+  pub met_word : next < 20 → (code ≡ 9 → ⊥) → Ok next ≡ word_met (declared_by symbols variables) s i w
   unfolding word_met is_unknown
   met_word l n =
-      rw (lt-ltb (cell s (code_of_run w)) 20 (omega (arith, there)), ne_eqb (code_of_run w) 9 (λ e. n (is ∙ e))) (ap (met 0 0) there)
+      rw (lt-ltb (cell s (code_of_run w)) 20 (omega (arith, there)), ne_eqb (code_of_run w) 9 (λ e. n (is ∙ e))) (ap (λ (k : ℕ). Ok k) there)
 
   module _ (kind : ℕ) (due : kind ≡ cell s 12) (known : Bool) (test : known ≡ known_among symbols variables (place_of kind) w) where
     so : known_among symbols variables (place_of (cell s 12)) w ≡ known
     so = ap (λ k. known_among symbols variables (place_of k) w) (sym due) ∙ sym test
 
-    pub met_name : next < 20 → code ≡ 9 → known ≡ true → met 0 0 next ≡ word_met (declared_by symbols variables) s i w
+    pub met_name : next < 20 → code ≡ 9 → known ≡ true → Ok next ≡ word_met (declared_by symbols variables) s i w
     unfolding word_met is_unknown declared_by
     met_name l n k =
-        rw (lt-ltb (cell s (code_of_run w)) 20 (omega (arith, there)), eq-eqb (code_of_run w) 9 (sym is ∙ n), so, k) (ap (met 0 0) there)
+        rw (lt-ltb (cell s (code_of_run w)) 20 (omega (arith, there)), eq-eqb (code_of_run w) 9 (sym is ∙ n), so, k) (ap (λ (k : ℕ). Ok k) there)
 
-    pub met_unknown : next < 20 → code ≡ 9 → known ≡ false → met 20 i s ≡ word_met (declared_by symbols variables) s i w
+    pub met_unknown : next < 20 → code ≡ 9 → known ≡ false → Err (unknown_name i) ≡ word_met (declared_by symbols variables) s i w
     unfolding word_met is_unknown declared_by
     met_unknown l n k = rw (lt-ltb (cell s (code_of_run w)) 20 (omega (arith, there)), eq-eqb (code_of_run w) 9 (sym is ∙ n), so, k)
 
-  pub met_refused : 20 ≤ next → (v : ℕ) → v ≡ viable_bytes s w → met 19 (i + v) s ≡ word_met (declared_by symbols variables) s i w
+  pub met_refused : 20 ≤ next → (v : ℕ) → v ≡ viable_bytes s w → Err (unread_text (i + v)) ≡ word_met (declared_by symbols variables) s i w
   unfolding word_met
-  met_refused l v e = rw (le-ltb (cell s (code_of_run w)) 20 (omega (arith, there))) (ap (λ k. met 19 (i + k) s) e)
+  met_refused l v e = rw (le-ltb (cell s (code_of_run w)) 20 (omega (arith, there))) (ap (λ (k : ℕ). Err (unread_text (i + k))) e)

@@ -1,21 +1,6 @@
 // Types of the scan of a text. What may follow where, and the laws that the code of crate scanning rests on, are in specs/ and proofs/.
 #![tactic(auto)]
 
-// The verdict on a text: 0 read; 19 unread or 20 unknown, at a byte.
-#[derive(Clone, Copy)]
-pub struct Verdict {
-    pub number: usize,
-    pub byte: usize,
-}
-
-// What a word gives: 0 and the spot after it, or 19 or 20 and the byte.
-#[derive(Clone, Copy)]
-pub struct Met {
-    pub number: usize,
-    pub byte: usize,
-    pub spot: usize,
-}
-
 // Where a scan stands: its spot, and how many spots the area holds for the last open brackets; `base` brackets are around these.
 #[derive(Clone, Copy)]
 pub struct Place {
@@ -24,11 +9,9 @@ pub struct Place {
     pub base: usize,
 }
 
-// What a lexeme gives: 0, the first byte of the next one and the place after it, or 19 or 20 and the byte.
+// What a lexeme gives: the first byte of the next one, and the place after it.
 #[derive(Clone, Copy)]
 pub struct Turn {
-    pub number: usize,
-    pub byte: usize,
     pub next: usize,
     pub place: Place,
 }

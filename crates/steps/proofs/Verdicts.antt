@@ -7,7 +7,6 @@
 --     scope_read, stray_judged, in_scope_judged   with check 22
 --     after_refers, after_rule  and with check 12
 --     on_ok                     what holds at any rate holds where nothing is wrong
---     number_some               a check has a number
 --     last_later                the pairs of the last REFL walked, step by step
 use Rattle.std.specs.Prelude.{Result, Ok, Err, IfOk}
 use mathlib.Core.Path.{◌≡◌, refl, sym, ap, ◌∙◌}
@@ -28,7 +27,7 @@ use Rattle.logic.specs.declared.Limited.{Limited}
 use Rattle.logic.specs.declared.Mention.TheVariants.{Absent}
 use Rattle.logic.specs.Contexts.{as_image}
 use Rattle.logic.specs.Tests.{passed, first_failing}
-use Rattle.logic.specs.Failures.{number_of, number_in}
+use Rattle.logic.specs.Failures.{check_number, number_in}
 use Rattle.logic.specs.Readings.{Reading}
 use Rattle.logic.specs.ReflWalk.{PairWalk, refl_walk_by, within_by, pair_limit, limit}
 use Rattle.logic.specs.Rules.{rule_of, refl_holds_by, refl_matches_by, refl_suffices_by, scoped_by, matches_by, sides_by, refers_where}
@@ -153,30 +152,6 @@ module _ (g : Reading) (b : Bundle) (s : Step) (n : ℕ) (s' : Step) (same : s �
 pub on_ok : {P : Type 0} (r : Result ℕ Check) → P → IfOk r (λ _. P)
 on_ok (Ok n) h = h
 on_ok (Err k) h = tt
-
-pub number_some : (k : Check) → number_of k ≡ 0 → ⊥
-number_some Check.Length e = omega (arith, e)
-number_some Check.Version e = omega (arith, e)
-number_some Check.Limits e = omega (arith, e)
-number_some Check.Area e = omega (arith, e)
-number_some Check.Next e = omega (arith, e)
-number_some Check.Declared e = omega (arith, e)
-number_some Check.Refers e = omega (arith, e)
-number_some Check.Sorted e = omega (arith, e)
-number_some Check.New e = omega (arith, e)
-number_some Check.Context e = omega (arith, e)
-number_some Check.Settled e = omega (arith, e)
-number_some Check.Step e = omega (arith, e)
-number_some Check.Matches e = omega (arith, e)
-number_some Check.Side e = omega (arith, e)
-number_some Check.Claim e = omega (arith, e)
-number_some Check.Room e = omega (arith, e)
-number_some Check.Closed e = omega (arith, e)
-number_some Check.Job e = omega (arith, e)
-number_some Check.Text e = omega (arith, e)
-number_some Check.Name e = omega (arith, e)
-number_some Check.Pairs e = omega (arith, e)
-number_some Check.Scope e = omega (arith, e)
 
 -- step by step, the pairs of the last REFL walked
 pub last_later : (b : Bundle) (k p q r : ℕ) → 1 ≤ k → p ≡ last_pairs b (k - 1) → q ≡ walked_pairs b k → r ≡ later p q → r ≡ last_pairs b (k + 1 - 1)

@@ -42,11 +42,7 @@ pub fn tables_fault(file: &[u8], lent: usize, required: usize) -> Result<Bundle<
     ensures fault { fault_in result ≡ tables_fault file.now lent required }
     ensures bundle { IfOk result (λ b. b ≡ bundle_of file.now) }
 {
-    match opened(file, lent, required) {
-        Err(check) => Err(Failure { check, record: 0 }),
-        Ok(bundle) => {
-            noted_sections(&bundle)?;
-            Ok(bundle)
-        }
-    }
+    let bundle = opened(file, lent, required)?;
+    noted_sections(&bundle)?;
+    Ok(bundle)
 }

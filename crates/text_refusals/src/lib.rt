@@ -4,6 +4,7 @@
 ghost use Rattle.std.specs.Prelude.{◌+◌, ◌≤◌, ◌<◌, length};
 
 use bundle::Bundle;
+use logic::checks::{Check, Failure};
 use text_places::places::{content_end, line_end, place_of};
 use text_places::shown::{mark_line, shown_from, shown_line, shown_to};
 
@@ -49,21 +50,23 @@ fn bad_sort(record: usize) {
 }
 
 // What is wrong where no byte of the text is: with the declarations, or with the formula as a whole.
-fn whole(number: usize, record: usize) {
-    match number {
-        1 => put(b"the declarations are shorter than a header, or not as long as their counts say"),
-        2 => put(b"the declarations are of a version other than 1"),
-        3 => limits(),
-        5 => put_number(
-            b"the declarations have a link that leads to no later one: link ",
-            record,
+fn whole(failure: Failure) {
+    match failure.check {
+        Check::Length => put(
+            b"the declarations are shorter than a header, or not as long as their counts say",
         ),
-        6 => bad_sort(record),
-        8 => put(
+        Check::Version => put(b"the declarations are of a version other than 1"),
+        Check::Limits => limits(),
+        Check::Next => put_number(
+            b"the declarations have a link that leads to no later one: link ",
+            failure.record,
+        ),
+        Check::Declared => bad_sort(failure.record),
+        Check::Sorted => put(
             b"a sort or a number of arguments is wrong, a let has a variable twice, or the formula is not Bool",
         ),
-        16 => full(),
-        18 => put(
+        Check::Room => full(),
+        Check::Job => put(
             b"the declarations have terms, contexts, steps or a claim; they may declare symbols and variables only",
         ),
         _ => put(b"the areas of this program are too short"),
@@ -178,11 +181,11 @@ fn too_short(text: &[u8]) {
 }
 
 // A byte of the text that is refused.
-fn at_byte(declarations: &[u8], text: &[u8], number: usize, at: usize)
+fn at_byte(declarations: &[u8], text: &[u8], check: Check, at: usize)
     requires { at < length text.now }
 {
     put_place(text, at);
-    if number == 20 {
+    if check == Check::Name {
         unknown(declarations);
     } else {
         unread(text[at]);
@@ -191,17 +194,21 @@ fn at_byte(declarations: &[u8], text: &[u8], number: usize, at: usize)
     show_line(text, at);
 }
 
-pub fn refusal(declarations: &[u8], text: &[u8], number: usize, record: usize) {
-    put_number(b"refused ", number);
-    put_number(b" ", record);
-    put(b": ");
-    if number < 19 {
-        whole(number, record);
-        return;
-    }
-    if record < text.len() {
-        at_byte(declarations, text, number, record);
+// A text that is no formula, or a name in it that is not known.
+fn in_text(declarations: &[u8], text: &[u8], failure: Failure) {
+    if failure.record < text.len() {
+        at_byte(declarations, text, failure.check, failure.record);
     } else {
         too_short(text);
+    }
+}
+
+pub fn refusal(declarations: &[u8], text: &[u8], failure: Failure) {
+    put_number(b"refused ", failure.check.number());
+    put_number(b" ", failure.record);
+    put(b": ");
+    match failure.check {
+        Check::Text | Check::Name => in_text(declarations, text, failure),
+        _ => whole(failure),
     }
 }

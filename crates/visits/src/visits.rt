@@ -1,156 +1,88 @@
 // The visit to a term and the visit to a list of terms, which call on each other: the term number falls, ties by links left.
-ghost use Rattle.logic.specs.WellFormed.{TablesFormed};
-ghost use Rattle.scratch.specs.Scratch.{bundle_in};
-ghost use Rattle.filing.specs.Filing.{Indexed};
-ghost use Rattle.placing.specs.Outcomes.{TermAsks, TermGives, ListAsks, ListGives, VisitIndexed, ListIndexed};
+ghost use Rattle.placing.specs.Outcomes.{TermAsks, TermGives, ListAsks, ListGives};
 
-use bundle::digests::DIGESTS;
-use bundle::{Bundle, Counts};
+use bundle::Bundle;
 use closers::{
     close_application, close_quantifier, close_variable, conclude, open_let, open_quantifier,
 };
-use filing::filing::file_terms;
+use filing::Filed;
 use logic::kinds::{APPLICATION, VARIABLE, is_binder};
 use logic::rules::LET;
-use placing::{Listed, Opened, Recorded, Visited};
-use scratch::lists::pack;
-use scratch::records::{link_field, term_field};
+use placing::Visited;
+use scratch::pairs::pack;
 
-// Visits a term in a context: its parts in order, then its result and its step. The index holds all terms.
+// Visits a term in a context: its parts in order, then its result and its step.
 #[cycle(visit_list_visit_term)]
 pub fn visit_term(
-    words: &mut [u32],
+    filed: &mut Filed<'_>,
     stack: &mut [u64],
-    c: Counts,
     context: usize,
     height: usize,
     term: usize,
-    index: &mut [u16; DIGESTS + Bundle::TERMS + 1],
-) -> Visited
-    requires { TermAsks words.old stack.old c context height term × Indexed (bundle_in words.old c) index.old }
-    ensures { TermGives words.old stack.old c context height term words.new stack.new result
-        × VisitIndexed words.new index.new result }
+) -> Option<Visited>
+    requires { TermAsks filed.old stack.old context height term }
+    ensures { TermGives filed.old stack.old context height term filed.new stack.new result }
 {
-    let kind = term_field(words, c, term, 0);
-    let first = term_field(words, c, term, 1);
-    let second = term_field(words, c, term, 2);
-    let third = term_field(words, c, term, 3);
+    let scratch = filed.scratch();
+    // The counts are within the limits.
+    prove!(scratch.counts().terms <= Bundle::TERMS);
+    let words = scratch.term_words(term);
+    let kind = words.kind;
+    let first = words.first;
+    let second = words.second;
     if kind == VARIABLE {
-        return close_variable(words, c, context, term, first);
+        return close_variable(filed, context, term, first);
     }
     if is_binder(kind) {
-        let opened = open_quantifier(words, c, first, context, index);
-        return match opened {
-            Opened::Full => Visited::Full,
-            Opened::Done {
-                counts: inside,
-                context: inner,
-                variable: y,
-            } => {
-                let visited = visit_term(words, stack, inside, inner, height, second, index);
-                match visited {
-                    Visited::Full => Visited::Full,
-                    Visited::Done {
-                        counts: after,
-                        result,
-                        step,
-                    } => close_quantifier(
-                        words, after, context, term, kind, y, result, step, index,
-                    ),
-                }
-            }
-        };
+        let opened = open_quantifier(filed, first, context)?;
+        let body = visit_term(filed, stack, opened.context, height, second)?;
+        return close_quantifier(filed, context, term, kind, opened.variable, body);
     }
-    let listed = visit_list(words, stack, c, context, height, term, second, index);
-    match listed {
-        Listed::Full => Visited::Full,
-        Listed::Done {
-            counts: bound,
-            height: top,
-        } => {
-            if kind == APPLICATION {
-                return close_application(
-                    words, bound, context, term, first, stack, height, top, index,
-                );
-            }
-            let opened = open_let(words, bound, first, context, stack, height, top);
-            match opened {
-                Recorded::Full => Visited::Full,
-                Recorded::Done {
-                    counts: inside,
-                    number: inner,
-                } => {
-                    let visited = visit_term(words, stack, inside, inner, top, third, index);
-                    match visited {
-                        Visited::Full => Visited::Full,
-                        Visited::Done {
-                            counts: after,
-                            result,
-                            step,
-                        } => {
-                            let pair = pack(result, step);
-                            stack[top] = pair;
-                            conclude(
-                                words,
-                                after,
-                                LET,
-                                context,
-                                term,
-                                result,
-                                stack,
-                                height,
-                                top + 1,
-                            )
-                        }
-                    }
-                }
-            }
-        }
+    let top = visit_list(filed, stack, context, height, term, second)?;
+    // The pairs are on the stack.
+    prove!((height <= top) & (top <= stack.len()));
+    if kind == APPLICATION {
+        return close_application(filed, context, term, first, &stack[height..top]);
     }
+    let inner = open_let(filed, first, context, &stack[height..top])?;
+    let body = visit_term(filed, stack, inner, top, words.third)?;
+    // There is a place for the body's pair.
+    prove!(top < stack.len());
+    stack[top] = pack(body.result, body.step);
+    conclude(
+        filed,
+        LET,
+        context,
+        term,
+        body.result,
+        &stack[height..top + 1],
+    )
 }
 
-// Visits each term of a list of the term `owner` from link `list` on, and leaves their pairs on the stack, from `height` on.
+// Visits each term of a list of the term `owner` from link `list` on, and leaves their pairs on the stack, from `height` on. Where the stack ends then.
 #[cycle(visit_list_visit_term)]
 pub fn visit_list(
-    words: &mut [u32],
+    filed: &mut Filed<'_>,
     stack: &mut [u64],
-    c: Counts,
     context: usize,
     height: usize,
     owner: usize,
     list: usize,
-    index: &mut [u16; DIGESTS + Bundle::TERMS + 1],
-) -> Listed
-    requires { ListAsks words.old stack.old c context height owner list × Indexed (bundle_in words.old c) index.old }
-    ensures { ListGives words.old stack.old c context height owner list words.new stack.new result
-        × ListIndexed words.new index.new result }
+) -> Option<usize>
+    requires { ListAsks filed.old stack.old context height owner list }
+    ensures { ListGives filed.old stack.old context height owner list filed.new stack.new result }
 {
     if list == 0 {
-        return Listed::Done { counts: c, height };
+        // The counts are within the limits.
+        prove!(filed.scratch().counts().terms <= Bundle::TERMS);
+        return Some(height);
     }
-    let value = link_field(words, c, list, 0);
-    let next = link_field(words, c, list, 1);
-    let visited = visit_term(words, stack, c, context, height, value, index);
-    match visited {
-        Visited::Full => Listed::Full,
-        Visited::Done {
-            counts: after,
-            result,
-            step,
-        } => {
-            let pair = pack(result, step);
-            stack[height] = pair;
-            visit_list(words, stack, after, context, height + 1, owner, next, index)
-        }
-    }
-}
-
-// Visits a term of a job in the empty context: all terms are filed first.
-pub fn visit_job(words: &mut [u32], stack: &mut [u64], c: Counts, term: usize) -> Visited
-    requires { TermAsks words.old stack.old c 0 0 term × TablesFormed (bundle_in words.old c) }
-    ensures { TermGives words.old stack.old c 0 0 term words.new stack.new result }
-{
-    let mut index = [0u16; DIGESTS + Bundle::TERMS + 1];
-    file_terms(words, c, &mut index);
-    visit_term(words, stack, c, 0, 0, term, &mut index)
+    let scratch = filed.scratch();
+    let value = scratch.link_field(list, 0);
+    let next = scratch.link_field(list, 1);
+    let visited = visit_term(filed, stack, context, height, value)?;
+    // There is a place for the pair.
+    prove!(height < stack.len());
+    stack[height] = pack(visited.result, visited.step);
+    visit_list(filed, stack, context, height + 1, owner, next)
 }

@@ -1,24 +1,21 @@
 -- The answer of the expansion, as the code comes to it.
 --     refused_early, refused_late             a check of 1 to 9 fails; 18, 15 or 17 does
 --     Begun                                   none of those does, and the job is in the scratch
---     job_formed, visit_asks, visit_is        what the visit to the rule asks for then, and what it gives
---     Told, told_done, told_full              what the visit's answer says
+--     tables_formed, visit_asks, visit_is     what filing and the visit to the rule ask for then, and what the visit gives
 --     refused_full, written                   16 fails; no check does
---     bytes_of_lem, right_small                   the result's term is a word of 32 bits
 --     stored_expanded                         what is left before the zeros are written
 use Prim.Native.Nat.{ℕ, zero, suc, ◌≤◌, ◌<◌}
 use mathlib.Core.Path.{◌≡◌, refl, sym, ap, ◌∙◌}
 use mathlib.Core.Bool.{Bool, true, false, cond}
 use mathlib.Core.List.{List, [], ◌∷◌, ◌++◌}
+use Rattle.std.specs.Prelude.{Option}
 use native.Mathlib.Omega.{arith}
-use lib.ListN.{length, get_or, take}
+use lib.ListN.{length, take}
 use lib.Dec.{ltb}
 use borrow.Author.Tests.{ltb-true}
-use Rattle.bundle.specs.declared.Counts.{Counts}
 use Rattle.bundle.specs.Bundle.{Bundle}
-use Rattle.bundle.specs.Words.{word_at}
 use Rattle.bundle.specs.Limits.{bytes_of, Within, within_of}
-use Rattle.bundle.specs.File.{bundle_by, bundle_at, bundle_of, counts_of}
+use Rattle.bundle.specs.File.{bundle_of, own_counts}
 use Rattle.bundle.proofs.Limits.{within_all, within_true, within_words}
 use Rattle.logic.specs.Tests.{Fault}
 use Rattle.logic.specs.WellFormed.{HeaderFormed, TablesFormed}
@@ -28,19 +25,18 @@ use Rattle.logic.proofs.Tests.{numbered, failing_none, numbers_of_lem, and_left,
 use Rattle.logic.proofs.Firsts.{or_else_on, or_else_here, next_both}
 use Rattle.logic.proofs.Formed.{tables_exactly}
 use Rattle.logic.proofs.Headers.{tables_header}
-use Rattle.scratch.specs.Scratch.{bundle_in}
-use Rattle.expansion.specs.declared.Answer.TheVariants.{Written, Refused}
+use Rattle.expansion.specs.Answer.{Written, Refused}
 use Rattle.placing.specs.declared.Visited.{Visited}
 use Rattle.expansion.specs.Nodes.{Node, node_at}
-use Rattle.expansion.specs.Visit.{Visit, visit, visited, expanded, claiming}
+use Rattle.expansion.specs.Visit.{visit, visited, expanded, claiming}
 use Rattle.expansion.specs.File.{counts_in, file_of}
 use Rattle.expansion.specs.Expansion.{long_enough, early_tests, job_tests, job_fault, writes, outcome_of, expansion}
-use Rattle.expansion.specs.Demands.{LongEnough, Bytes}
-use Rattle.placing.specs.Outcomes.{StandsFor, TooMuch, VisitOutcome, done, full, Stands, TermAsks}
+use Rattle.expansion.specs.Demands.{LongEnough}
+use Rattle.placing.specs.Outcomes.{TooMuch, VisitOutcome, Stands, TermAsks}
+use Rattle.placing.proofs.OutcomeFacts.{VisitDone}
 use Rattle.expansion.specs.AreasAfter.{Stored}
 use Rattle.expansion.proofs.Files.{file_length}
 use Rattle.expansion.proofs.AreasAfter.{stored_written}
-use Rattle.expansion.proofs.SmallWords.{file_small, expanded_small}
 use Rattle.writer.proofs.Rooted.{stands_at}
 use Rattle.expansion.proofs.JobChecks.{long_exactly}
 
@@ -74,43 +70,14 @@ off : (p : Bool) → (p ≡ true → ⊥) → p ≡ false
 off true h = absurd (h refl)
 off false h = refl
 
--- ---- the visit's answer
-
--- the answer of a visit that was done, with its counts c and result x
-pub record Told (v : Visit) (w : List ℕ) (c : Counts) (x : ℕ) : Type 0 where
-  pub counts : c ≡ counts_in v.bundle
-  pub result : x ≡ v.result
-  pub holds : StandsFor w v.bundle
-
-pub told_done : {v : Visit} {w : List ℕ} {r : Visited} → VisitOutcome v w r → {c : Counts} {x y : ℕ} → r ≡ Visited.Done c x y → Told v w c x
-told_done (done h e) k = record { counts = cc; result = cc; holds = h }
-told_done (full h e) k = let z : ◌≡◌ {A = ℕ} 0 1 = cc in absurd (omega arith)
-
-pub told_full : {v : Visit} {w : List ℕ} {r : Visited} → VisitOutcome v w r → r ≡ Visited.Full → TooMuch v.bundle
-told_full (done h e) k = let z : ◌≡◌ {A = ℕ} 0 1 = cc in absurd (omega arith)
-told_full (full h e) k = h
-
--- a string of bytes, by its elements
-pub bytes_of_lem : (f : List ℕ) → ((i : ℕ) → get_or f i 0 < 256) → Bytes f
-bytes_of_lem [] h = tt
-bytes_of_lem (x ∷ xs) h = (h 0, bytes_of_lem xs (λ i. h (suc i)))
-
--- where the visit is done, its result's term is a word of 32 bits
-pub right_small : (f : List ℕ) → Bytes f → {w : List ℕ} {d : Counts} {x : ℕ} → Told (visited (bundle_of f)) w d x → x ≤ 4294967295
-unfolding expanded
-right_small f bytes t =
-    let small = (expanded_small (bundle_of f) (file_small f bytes) t.holds.within).right in
-    omega (arith, small, t.result)
-
 -- ---- the job f, and areas of these lengths
 
--- no check of 1 to 9 fails, nor do 18, 15, 17; the scratch w holds the job; c and left are what the code has read
-pub record Begun (f : List ℕ) (out words sets : ℕ) (w : List ℕ) (c : Counts) (left : ℕ) : Type 0 where
+-- no check of 1 to 9 fails, nor do 18, 15, 17; B, in the scratch, is the job; left is what the code has read
+pub record Begun (f : List ℕ) (out words sets : ℕ) (B : Bundle) (left : ℕ) : Type 0 where
   pub none : (tables_fault f (long_enough out words sets) 3).number ≡ 0
   pub early : first_failing (early_tests (bundle_of f)) ≡ 0
-  pub counted : c ≡ counts_of f
+  pub copied : B ≡ bundle_of f
   pub read : left ≡ (bundle_of f).left
-  pub copied : bundle_in w c ≡ bundle_of f
 
 module _ (f : List ℕ) (out words sets : ℕ) where
   refused : (m i : ℕ) → (m ≡ 0 → ⊥) → job_fault f out words sets ≡ fault m i → Refused m i ≡ (expansion f out words sets).answer
@@ -134,7 +101,7 @@ module _ (f : List ℕ) (out words sets : ℕ) where
     pub areas_long : LongEnough out words sets
     areas_long = (long_exactly out words sets).0 (tables_header f (long_enough out words sets) 3 none).1
 
-    tables_formed : TablesFormed (bundle_of f)
+    pub tables_formed : TablesFormed (bundle_of f)
     unfolding tables_fault
     tables_formed = (tables_exactly (bundle_of f)).0 (next_both (fault (header_fault f (long_enough out words sets) 3) 0) (sections_fault (bundle_of f)) none).1
 
@@ -150,7 +117,7 @@ module _ (f : List ℕ) (out words sets : ℕ) where
         refused_number m ne (failing_early (test 16 (within_of (counts_in (visited (bundle_of f)).bundle)) ∷ []) (early_tests (bundle_of f)) (λ z. ne (e ∙ z))
         ∙ sym e)
 
-module _ {f : List ℕ} {out words sets : ℕ} {w : List ℕ} {c : Counts} {left : ℕ} (b : Begun f out words sets w c left) where
+module _ {f : List ℕ} {out words sets : ℕ} {B : Bundle} {left : ℕ} (b : Begun f out words sets B left) where
   last_is : first_failing (job_tests (bundle_of f)) ≡ cond (within_of (counts_in (visited (bundle_of f)).bundle)) 0 16
   unfolding first_failing
   last_is = failing_late (test 16 (within_of (counts_in (visited (bundle_of f)).bundle)) ∷ []) (early_tests (bundle_of f)) refl b.early
@@ -167,63 +134,46 @@ module _ {f : List ℕ} {out words sets : ℕ} {w : List ℕ} {c : Counts} {left
       ∙ or_else_on (first_failing (job_tests (bundle_of f))) 0 (fault 0 0) (last_is ∙ rw (within_true (counts_in (visited (bundle_of f)).bundle) h)) in
       ap (λ (r : Fault). outcome_of (bundle_of f) r r.number out words sets) e
 
-  bundle_is : bundle_in w c ≡ bundle_of f
-  bundle_is = b.copied
-
-  left_is : left ≡ (bundle_of f).left
-  left_is = b.read
-
-  visit_stands : Stands (bundle_in w c) left (node_at (bundle_in w c) left)
+  visit_stands : Stands B left (node_at B left)
   visit_stands =
       let known = numbers_of_lem (length (bundle_of f).terms) (bundle_of f).left (failing_none (early_tests (bundle_of f)) refl b.early).1.0 in
-      rw (bundle_is, left_is) (stands_at (bundle_of f) (tables_formed f out words sets b.none) (bundle_of f).left known)
-
-  pub job_formed : TablesFormed (bundle_in w c)
-  job_formed = rw bundle_is (tables_formed f out words sets b.none)
+      rw (b.copied, b.read) (stands_at (bundle_of f) (tables_formed f out words sets b.none) (bundle_of f).left known)
 
   -- the stack is s
-  pub visit_asks : {s : List ℕ} → length w ≡ words → length s ≡ sets → TermAsks w s c 0 0 left
-  visit_asks scratch stack =
-      let header = header_formed f out words sets b.none in
+  pub visit_asks : {s : List ℕ} → length s ≡ sets → TermAsks B s 0 0 left
+  visit_asks stack =
       let long = areas_long f out words sets b.none in
       record {
-        ready = record {
-          room = record { within = rw b.counted header.whole.within; long = omega (arith, long.scratch, scratch) };
-          version = rw b.counted header.version;
-        };
         pending = record { places = omega (arith, long.stack, stack); height = omega arith };
         context = omega arith;
-        standing = node_at (bundle_in w c) left;
+        standing = node_at B left;
         stands = visit_stands;
       }
 
-  pub visit_is : (w' : List ℕ) (r : Visited) → ((τ : Node) → Stands (bundle_in w c) left τ → VisitOutcome (visit τ 0 (bundle_in w c)) w' r)
-      → VisitOutcome (visited (bundle_of f)) w' r
+  pub visit_is : (B' : Bundle) (r : Option Visited) → ((τ : Node) → Stands B left τ → VisitOutcome (visit τ 0 B) B' r)
+      → VisitOutcome (visited (bundle_of f)) B' r
   unfolding visited
-  visit_is w' r o = rw (bundle_is, left_is) at (o (node_at (bundle_in w c) left) visit_stands)
+  visit_is B' r o = rw (b.copied, b.read) at (o (node_at B left) visit_stands)
 
 -- ---- what is left before the zeros are written
 
--- the visit was done, with the counts d and the result x, and the scratch v; the file was stored, n bytes long
+-- the visit was done, with the result x, and the bundle B' after it; the file was stored, n bytes long
 module _ (f out words sets out' words' sets' : List ℕ) (lo : length out' ≡ length out) (lw : length words' ≡ length words)
-    (ls : length sets' ≡ length sets) {u : List ℕ} {c : Counts} {left : ℕ} (b : Begun f (length out) (length words) (length sets) u c left) (v : List ℕ)
-    (d : Counts) (x n : ℕ) (t : Told (visited (bundle_of f)) v d x) (size : n ≡ bytes_of d)
-    (stored : take (bytes_of d) out' ≡ file_of (claiming (bundle_in v d) left x)) where
-  holds_bundle : bundle_in v d ≡ (visited (bundle_of f)).bundle
-  holds_bundle = rw t.counts t.holds.bundle
-
-  file_is : file_of (claiming (bundle_in v d) left x) ≡ file_of (expanded (bundle_of f))
+    (ls : length sets' ≡ length sets) {B : Bundle} {left : ℕ} (b : Begun f (length out) (length words) (length sets) B left) {B' : Bundle}
+    {x : Visited} {n : ℕ} (t : VisitDone (visited (bundle_of f)).bundle (visited (bundle_of f)).result (visited (bundle_of f)).step B' x)
+    (size : n ≡ bytes_of (own_counts B')) (stored : take n out' ≡ file_of (claiming B' left x.result)) where
+  file_is : file_of (claiming B' left x.result) ≡ file_of (expanded (bundle_of f))
   unfolding expanded
-  file_is = λ i. file_of (claiming (holds_bundle i) (left_is b i) (t.result i))
+  file_is = λ i. file_of (claiming (t.bundle i) (b.read i) (t.result i))
 
   size_is : n ≡ length (file_of (expanded (bundle_of f)))
   unfolding expanded
-  size_is = size ∙ ap bytes_of t.counts ∙ sym (file_length (expanded (bundle_of f)))
+  size_is = size ∙ ap (λ (b : Bundle). bytes_of (own_counts b)) t.bundle ∙ sym (file_length (expanded (bundle_of f)))
 
   room : n ≤ length out
   room =
-      let within : Within d = rw t.counts t.holds.within in
-      omega (arith, size, within_words d within, (areas_long f (length out) (length words) (length sets) b.none).output)
+      let within : Within (own_counts B') = rw t.bundle t.within in
+      omega (arith, size, within_words (own_counts B') within, (areas_long f (length out) (length words) (length sets) b.none).output)
 
   pub stored_expanded : Stored (expansion f (length out) (length words) (length sets)) out words sets out' words' sets' (Written n)
-  stored_expanded = stored_written lo lw ls (expanded (bundle_of f)) n (written b t.holds.within) size_is room (rw size stored ∙ file_is)
+  stored_expanded = stored_written lo lw ls (expanded (bundle_of f)) n (written b t.within) size_is room (stored ∙ file_is)

@@ -1,26 +1,30 @@
 -- `areas::close` meets its contract: zeros in scratch and stack, then in the output from where the answer says.
+use Prim.Native.Nat.{ℕ}
+use mathlib.Core.Path.{◌≡◌, refl, ◌∙◌}
 use native.Mathlib.Omega.{arith}
-use mathlib.Core.Path.{◌≡◌, ap}
+use Rattle.std.specs.Prelude.{Result, Ok, Err}
+use Rattle.std.specs.Result.{result_unwrap_or}
+use Rattle.sets.proofs.Cleared.{all_cleared}
+use Rattle.logic.specs.declared.checks.Failure.{Failure}
+use Rattle.expansion.specs.Answer.{answer_in}
 use Rattle.expansion.specs.AreasAfter.{kept}
-use Rattle.areas.proofs.Zeros.{all_zeroed}
 use Rattle.areas.proofs.close.Goals as goal
 
-pub zero_bytes-requires-in-Written : goal.zero_bytes-requires-in-Written
+-- how many bytes are kept, as the code says it
+kept_is : (a : Result ℕ Failure) → result_unwrap_or a 0 ≡ kept (answer_in a)
 unfolding kept
-zero_bytes-requires-in-Written c =
-    let e : kept c.args.answer ≡ c.in-Written.length = ap kept c.in-Written.is in
-    omega (arith, e, c.requires)
+kept_is (Ok n) = refl
+kept_is (Err f) = refl
 
-pub returns-in-Refused : goal.returns-in-Refused
-unfolding kept
-returns-in-Refused c =
-    let a = c.args in
-    all_zeroed a.answer _ a.out.now a.words.now a.sets.now c.in-Refused.is
-    c.zero_words.ensures c.clear.ensures c.zero_bytes.ensures
+pub zero_bytes-requires : goal.zero_bytes-requires
+zero_bytes-requires c = omega (arith, c.unwrap_or.ensures ∙ kept_is c.args.answer, c.requires)
 
-pub returns-in-Written : goal.returns-in-Written
-unfolding kept
-returns-in-Written c =
-    let a = c.args in
-    all_zeroed a.answer _ a.out.now a.words.now a.sets.now c.in-Written.is
-    c.zero_words.ensures c.clear.ensures c.zero_bytes-in-Written.ensures
+pub returns : goal.returns
+returns c = (
+  refl,
+  record {
+    output = rw (← c.unwrap_or.ensures ∙ kept_is c.args.answer) c.zero_bytes.ensures;
+    scratch = c.zero_words.ensures;
+    stack = c.clear.ensures ∙ all_cleared _;
+  },
+)

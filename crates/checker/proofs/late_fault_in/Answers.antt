@@ -4,12 +4,12 @@ use mathlib.Core.Path.{◌≡◌, refl, sym, ap, ◌∙◌}
 use Rattle.std.proofs.lemmas.Result.{err_from_is_err_and}
 use Rattle.bundle.specs.Bundle.{Bundle}
 use Rattle.logic.specs.declared.checks.Failure.{Failure}
-use Rattle.logic.specs.Failures.{number_of}
+use Rattle.logic.specs.Failures.{check_number}
 use Rattle.logic.specs.Tests.{Fault, first_failing, fault, or_else, or_next}
 use Rattle.logic.specs.Contexts.{contexts_fault}
 use Rattle.logic.specs.Rules.{steps_fault}
 use Rattle.logic.proofs.Firsts.{or_else_on, or_else_here}
-use Rattle.steps.proofs.Verdicts.{number_some}
+use Rattle.logic.proofs.CheckNumbers.{number_some}
 use Rattle.judgement.specs.Judge.{claim_tests, late_fault}
 use Rattle.checker.proofs.late_fault_in.Goals as goal
 
@@ -24,17 +24,17 @@ module _ (b : Bundle) where
   abbrev rest : Fault
   rest = or_next (steps_fault b) (or_else (first_failing (claim_tests b)) 0 (fault 0 0))
 
-  in_contexts : (f : Failure) → fault (number_of f.check) f.«record» ≡ contexts_fault b → fault (number_of f.check) f.«record» ≡ late_fault b
+  in_contexts : (f : Failure) → fault (check_number f.check) f.«record» ≡ contexts_fault b → fault (check_number f.check) f.«record» ≡ late_fault b
   unfolding late_fault
-  in_contexts f e = sym (ap (λ (t : Fault). or_next t rest) (sym e) ∙ or_else_here (number_of f.check) f.«record» rest (number_some f.check))
+  in_contexts f e = sym (ap (λ (t : Fault). or_next t rest) (sym e) ∙ or_else_here (check_number f.check) f.«record» rest (number_some f.check))
 
   module _ (good : fault 0 0 ≡ contexts_fault b) where
     past_contexts : late_fault b ≡ rest
     unfolding late_fault
     past_contexts = ap (λ (t : Fault). or_next t rest) (sym good) ∙ or_else_on 0 0 rest refl
 
-    in_steps : (f : Failure) → fault (number_of f.check) f.«record» ≡ steps_fault b → fault (number_of f.check) f.«record» ≡ late_fault b
-    in_steps f e = rw (past_contexts, ← e) (sym (or_else_here (number_of f.check) f.«record» _ (number_some f.check)))
+    in_steps : (f : Failure) → fault (check_number f.check) f.«record» ≡ steps_fault b → fault (check_number f.check) f.«record» ≡ late_fault b
+    in_steps f e = rw (past_contexts, ← e) (sym (or_else_here (check_number f.check) f.«record» _ (number_some f.check)))
 
     in_claim : (n : ℕ) → fault 0 0 ≡ steps_fault b → n ≡ first_failing (claim_tests b) → fault n 0 ≡ late_fault b
     in_claim n steps e = rw (past_contexts, ← steps, ← e) (sym (or_else_on 0 0 _ refl ∙ or_else_last n))
@@ -56,14 +56,17 @@ returns-in_err-pairs c =
       pairs = tt;
     })
 
-pub returns-in-Err : goal.returns-in-Err
-returns-in-Err c = record {
-  fault = in_claim c.args.bundle.now c.in_ok-contexts_fault.ensures.value _ c.in_ok-pairs.ensures.fault c.in-Err.ensures;
-  pairs = tt;
-}
+pub returns-in_err-claim_fault : goal.returns-in_err-claim_fault
+returns-in_err-claim_fault c =
+    let r = c.from_residual-in_err-claim_fault in
+    let p = err_from_is_err_and r.result r.ensures.1 in
+    rw (p.1, p.2) (record {
+      fault = in_claim c.args.bundle.now c.in_ok-contexts_fault.ensures.value _ c.in_ok-pairs.ensures.fault c.in_err-claim_fault.ensures;
+      pairs = tt;
+    })
 
-pub returns-in-Ok : goal.returns-in-Ok
-returns-in-Ok c = record {
-  fault = in_claim c.args.bundle.now c.in_ok-contexts_fault.ensures.value _ c.in_ok-pairs.ensures.fault c.in-Ok.ensures;
+pub returns : goal.returns
+returns c = record {
+  fault = in_claim c.args.bundle.now c.in_ok-contexts_fault.ensures.value _ c.in_ok-pairs.ensures.fault c.in_ok-claim_fault.ensures;
   pairs = c.in_ok-pairs.ensures.pairs;
 }

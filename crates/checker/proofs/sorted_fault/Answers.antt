@@ -9,19 +9,19 @@ use Rattle.std.proofs.lemmas.Result.{err_from_is_err_and}
 use Rattle.bundle.specs.Bundle.{Bundle}
 use Rattle.bundle.specs.Limits.{set_words}
 use Rattle.logic.specs.declared.checks.Failure.{Failure}
-use Rattle.logic.specs.Failures.{number_of}
+use Rattle.logic.specs.Failures.{check_number}
 use Rattle.logic.specs.Tests.{Fault, fault, or_next}
 use Rattle.logic.specs.Checks.{sections_fault}
 use Rattle.logic.proofs.Firsts.{or_else_on, or_else_here}
 use Rattle.free_variables.proofs.HeldSets.{sets_held}
 use Rattle.free_variables.proofs.SpreadAreas.{area_spread}
 use Rattle.judgement.specs.Judge.{late_fault}
-use Rattle.steps.proofs.Verdicts.{number_some}
+use Rattle.logic.proofs.CheckNumbers.{number_some}
 use Rattle.checker.proofs.sorted_fault.Goals as goal
 
 module _ (b : Bundle) where
-  early : (f : Failure) → fault (number_of f.check) f.«record» ≡ sections_fault b
-      → fault (number_of f.check) f.«record» ≡ or_next (sections_fault b) (late_fault b)
+  early : (f : Failure) → fault (check_number f.check) f.«record» ≡ sections_fault b
+      → fault (check_number f.check) f.«record» ≡ or_next (sections_fault b) (late_fault b)
   early f e = rw (← e, or_else_here _ _ _ (number_some f.check))
 
   later : {r : Fault} → fault 0 0 ≡ sections_fault b → r ≡ late_fault b → r ≡ or_next (sections_fault b) (late_fault b)

@@ -1,45 +1,21 @@
--- `closers::close_variable` meets its contract: by the image, which is a word of 32 bits.
-use mathlib.Core.Path.{sym, ◌∙◌}
-use Prim.Native.Nat.{ℕ}
-use native.Mathlib.Omega.{arith}
-use borrow.Author.Rules.{rules}
-use mir.Syntax.{w32}
-use mir.Val.{Fits}
-use lib.ListN.{get_or}
-use Rattle.scratch.specs.Scratch.{bundle_in}
-use Rattle.placing.proofs.ScratchOutcomes.{given_word}
-use Rattle.placing.proofs.CallOutcomes.{leaf_own, leaf_gives}
+-- `closers::close_variable` meets its contract: the step ends in what the image gives.
+use Rattle.std.proofs.Common.{◌≡◌, ℕ, [], sym, ap, subst, ◌∙◌}
+use Rattle.logic.specs.declared.Image.{Image}
+use Rattle.logic.specs.Contexts.{image}
+use Rattle.expansion.specs.Visit.{visit, concluded, image_term}
+use Rattle.placing.specs.Outcomes.{VisitOutcome}
+use Rattle.closers.proofs.close_variable.Goals.{in-Own, in-Gives}
 use Rattle.closers.proofs.close_variable.Goals as goal
 
-pub conclude_alone-requires-in-Gives : goal.conclude_alone-requires-in-Gives
-conclude_alone-requires-in-Gives c =
+pub returns : goal.returns
+unfolding visit
+returns c =
     let a = c.args in
-    let i = c.image_in-image in
-    let word : (j : ℕ) → Fits w32 (get_or a.words.now j 0) = search rules in (
-      c.requires.0,
-      omega arith,
-      c.requires.1,
-      c.requires.2,
-      given_word a.words.now a.c c.requires.0.version (λ j. omega (arith, word j))
-          a.context a.x _ (sym i.ensures ∙ c.in-Gives.is),
-    )
-
-pub returns-in-Own : goal.returns-in-Own
-returns-in-Own c =
-    let a = c.args in
-    let t = c.conclude_alone in (
-      t.ensures.0,
-      leaf_own (bundle_in a.words.now a.c) a.context a.term a.x
-          (sym c.image_in-image.ensures ∙ c.in-Own.is)
-          t.ensures.1,
-    )
-
-pub returns-in-Gives : goal.returns-in-Gives
-returns-in-Gives c =
-    let a = c.args in
-    let t = c.conclude_alone-in-Gives in (
-      t.ensures.0,
-      leaf_gives (bundle_in a.words.now a.c) a.context a.term a.x _
-          (sym c.image_in-image.ensures ∙ c.in-Gives.is)
-          t.ensures.1,
-    )
+    let t = c.conclude_alone in
+    let b = a.filed.now in
+    let to : Image → ℕ = λ i. image_term i a.term in
+    let found : c.image.result ≡ image b a.context a.x = c.image.ensures.0 ∙ ap (λ s. image s a.context a.x) c.scratch.ensures in
+    let right : c.match-image.right ≡ to (image b a.context a.x) =
+    elim c.match-image.branch
+    [ in-Own w ↦ w.right-is ∙ ap to (sym w.in-Own.is ∙ found) | in-Gives w ↦ w.right-is ∙ ap to (sym w.in-Gives.is ∙ found) ] in
+    (subst (λ (n : ℕ). VisitOutcome (concluded b 1 a.context a.term n []) t.new.filed t.result) right t.ensures.0, t.ensures.1)

@@ -14,7 +14,7 @@ use Rattle.bundle.specs.RecordWords.{as_step}
 use Rattle.logic.specs.declared.Walk.{Walk}
 use Rattle.logic.specs.declared.checks.Check.{Check}
 use Rattle.logic.specs.Checks.{header_fault}
-use Rattle.logic.specs.Failures.{number_of}
+use Rattle.logic.specs.Failures.{check_number}
 use Rattle.logic.specs.Rules.{cong_walk_by, cong_walk}
 use Rattle.logic.proofs.Headers.{header_exactly}
 use Rattle.images.specs.LentReading.{step_in}
@@ -24,7 +24,7 @@ use Rattle.nezkaldo_links.proofs.Links.{links_short, few_links}
 use Rattle.nezkaldo_links.proofs.nezkaldo_links.Goals as goal
 
 -- each check has a number
-some_number : (c : Check) → number_of c ≡ 0 → ⊥
+some_number : (c : Check) → check_number c ≡ 0 → ⊥
 some_number c = grind arith
 
 refused : (f : List ℕ) (k : ℕ) {n : ℕ} → n ≡ header_fault f 0 0 → (n ≡ 0 → ⊥) → 4294967296 * n ≡ links_number f k

@@ -1,16 +1,14 @@
 -- `store_read` meets its contract: the checks of the declarations, the pass over the text, and every check of the text where it is given up.
-use mathlib.Core.Path.{◌≡◌, refl, sym, ap, ◌∙◌}
+use mathlib.Core.Path.{◌≡◌, refl}
 use mathlib.Core.List.{List}
 use Prim.Native.Nat.{ℕ}
 use lib.ListN.{length}
-use Rattle.bundle.specs.declared.Counts.{Counts}
 use Rattle.bundle.specs.Bundle.{Bundle}
-use Rattle.bundle.specs.File.{bundle_of, counts_of, own_counts}
-use Rattle.bundle.proofs.Fields.{own_counts_are}
+use Rattle.bundle.specs.File.{bundle_of}
+use Rattle.std.proofs.lemmas.Result.{err_from_is_err_and}
 use Rattle.logic.specs.Tests.{fault}
-use Rattle.logic.specs.Failures.{number_of}
-use Rattle.logic.proofs.Headers.{bundle_is}
-use Rattle.declarations.proofs.Failing.{number_not}
+use Rattle.logic.specs.Failures.{check_number}
+use Rattle.logic.proofs.CheckNumbers.{number_some}
 use Rattle.expansion.proofs.AreasAfter.{stored_refused}
 use Rattle.reading.specs.Reading.{declarations_fault}
 use Rattle.reader.specs.Storing.{Declared}
@@ -18,42 +16,44 @@ use Rattle.reader.proofs.Answering.{refused_declared}
 use Rattle.reader.proofs.Passed.{declared_again, stored_again}
 use Rattle.reader.proofs.store_read.Goals as goal
 
--- the checks of the declarations find nothing: they are opened as b, whose counts are c
+-- the checks of the declarations find nothing: they are opened as b
 declared : (f : List ℕ) (out words sets : ℕ) → fault 0 0 ≡ declarations_fault f out words sets → {b : Bundle} → b ≡ bundle_of f
-    → {c : Counts} → c ≡ own_counts b → Declared f out words sets c
-declared f out words sets checked opened counted = record {
-  none = rw (← checked);
-  counted = counted ∙ (ap own_counts (opened ∙ sym (bundle_is f refl)) ∙ own_counts_are f (counts_of f));
-}
+    → Declared f out words sets b
+declared f out words sets checked opened = record { none = rw (← checked); bundle = opened }
 
-pub returns-in-Err : goal.returns-in-Err
-returns-in-Err c =
+pub returns-in_err-bundle : goal.returns-in_err-bundle
+returns-in_err-bundle c =
     let a = c.args in
-    let k = c.in-Err.early in
-    rw c.number.ensures
+    let p = err_from_is_err_and c.from_residual.result c.from_residual.ensures.1 in
+    let k = c.in_err-bundle.field-0.0 in
+    rw (p.1, p.2)
     (stored_refused refl refl refl
     (refused_declared a.declarations.now a.text.now (length a.out.now) (length a.words.now) (length a.sets.now)
-    (fault (number_of k.check) k.«record») c.in-Err.ensures.fault (number_not k.check)))
+    (fault (check_number k.check) k.«record») c.in_err-bundle.ensures.fault (number_some k.check)))
 
-pub store_passed-length-requires : goal.store_passed-length-requires
-store_passed-length-requires c =
+pub store_passed-requires : goal.store_passed-requires
+store_passed-requires c =
     let a = c.args in
-    (_, declared a.declarations.now (length a.out.now) (length a.words.now) (length a.sets.now) c.in-Ok.ensures.fault c.in-Ok.ensures.bundle c.counts-b.ensures.0)
+    let t = c.in_ok-bundle.ensures in
+    (_, _, declared a.declarations.now (length a.out.now) (length a.words.now) (length a.sets.now) t.fault t.bundle)
 
-pub returns-then-length-ne0 : goal.returns-then-length-ne0
-returns-then-length-ne0 c =
+pub returns-in-Some : goal.returns-in-Some
+returns-in-Some c =
     let a = c.args in
-    c.store_passed-length.ensures.2 c.if-length-ne0.true a.sets.now
-    (declared a.declarations.now (length a.out.now) (length a.words.now) (length a.sets.now) c.in-Ok.ensures.fault c.in-Ok.ensures.bundle c.counts-b.ensures.0)
+    let t = c.in_ok-bundle.ensures in
+    let stored = rw c.in-Some.is at c.store_passed.ensures.2 in
+    stored a.declarations.now a.sets.now (declared a.declarations.now (length a.out.now) (length a.words.now) (length a.sets.now) t.fault t.bundle)
 
 pub store_checked-requires : goal.store_checked-requires
 store_checked-requires c =
     let a = c.args in
-    let d = declared a.declarations.now (length a.out.now) (length a.words.now) (length a.sets.now) c.in-Ok.ensures.fault c.in-Ok.ensures.bundle c.counts-b.ensures.0 in
-    (_, declared_again c.store_passed-length.ensures.0 c.store_passed-length.ensures.1 d)
+    let t = c.in_ok-bundle.ensures in
+    let d = declared a.declarations.now (length a.out.now) (length a.words.now) (length a.sets.now) t.fault t.bundle in
+    (_, _, declared_again c.store_passed.ensures.0 c.store_passed.ensures.1 d)
 
-pub returns : goal.returns
-returns c =
+pub returns-in-None : goal.returns-in-None
+returns-in-None c =
     let a = c.args in
-    let d = declared a.declarations.now (length a.out.now) (length a.words.now) (length a.sets.now) c.in-Ok.ensures.fault c.in-Ok.ensures.bundle c.counts-b.ensures.0 in
-    stored_again a.text.now c.store_passed-length.ensures.0 c.store_passed-length.ensures.1 d c.store_checked.ensures
+    let t = c.in_ok-bundle.ensures in
+    let d = declared a.declarations.now (length a.out.now) (length a.words.now) (length a.sets.now) t.fault t.bundle in
+    stored_again a.text.now c.store_passed.ensures.0 c.store_passed.ensures.1 d c.store_checked.ensures

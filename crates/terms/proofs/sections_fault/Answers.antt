@@ -2,7 +2,7 @@
 use mathlib.Core.Path.{refl, ◌∙◌}
 use Rattle.std.proofs.lemmas.Result.{err_from_is_err_and}
 use Rattle.logic.specs.Checks.{sections_fault}
-use Rattle.declarations.proofs.Failing.{number_not}
+use Rattle.logic.proofs.CheckNumbers.{number_some}
 use Rattle.declarations.proofs.Sections.{sections_here, sections_on}
 use Rattle.terms.proofs.sections_fault.Goals as goal
 
@@ -11,7 +11,7 @@ unfolding sections_fault
 returns-in_err-sections_fault c =
     let e = c.in_err-sections_fault in
     let p = err_from_is_err_and c.from_residual.result c.from_residual.ensures.1 in
-    rw (p.1, p.2) (sections_here _ _ _ e.ensures (number_not e.field-0.0.check))
+    rw (p.1, p.2) (sections_here _ _ _ e.ensures (number_some e.field-0.0.check))
 
 pub returns : goal.returns
 unfolding sections_fault

@@ -7,7 +7,7 @@ use Rattle.bundle.proofs.Bundle.claim_left.Goals as goal
 
 pub claim_left-requires : goal.claim_left-requires
 unfolding header_words
-claim_left-requires c = omega (arith, c.self.invariant.exact)
+claim_left-requires c = omega (arith, c.self.invariant.whole.exact)
 
 pub returns : goal.returns
 returns c = (c.claim_left.ensures.0 ∙ rw (← c.self.view_is) (sym (left_is c.self.inside.file.now c.self.inside.counts)), c.claim_left.ensures.1)

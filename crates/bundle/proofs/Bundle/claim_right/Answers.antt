@@ -7,7 +7,7 @@ use Rattle.bundle.proofs.Bundle.claim_right.Goals as goal
 
 pub claim_right-requires : goal.claim_right-requires
 unfolding header_words
-claim_right-requires c = omega (arith, c.self.invariant.exact)
+claim_right-requires c = omega (arith, c.self.invariant.whole.exact)
 
 pub returns : goal.returns
 returns c = (c.claim_right.ensures.0 ∙ rw (← c.self.view_is) (sym (right_is c.self.inside.file.now c.self.inside.counts)), c.claim_right.ensures.1)

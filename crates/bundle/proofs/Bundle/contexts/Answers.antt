@@ -4,4 +4,4 @@ use Rattle.bundle.proofs.Fields.{contexts_length}
 use Rattle.bundle.proofs.Bundle.contexts.Goals as goal
 
 pub returns : goal.returns
-returns c = (rw (← c.self.view_is) (sym (contexts_length c.self.inside.file.now c.self.inside.counts)), c.self.invariant.within.contexts)
+returns c = (rw (← c.self.view_is) (sym (contexts_length c.self.inside.file.now c.self.inside.counts)), c.self.invariant.whole.within.contexts)

@@ -6,4 +6,4 @@ use Rattle.bundle.proofs.Bundle.counts.Goals as goal
 pub returns : goal.returns
 returns c =
     let b = c.self.inside in
-    (rw (← c.self.view_is) (sym (own_counts_are b.file.now b.counts)), c.self.invariant.within)
+    (rw (← c.self.view_is) (sym (own_counts_are b.file.now b.counts)), c.self.invariant.whole.within)

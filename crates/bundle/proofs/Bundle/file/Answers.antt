@@ -8,4 +8,4 @@ pub returns : goal.returns
 returns c =
     let b = c.self.inside in
     let own : own_counts c.args.self.now ≡ b.counts = rw (← c.self.view_is) (own_counts_are b.file.now b.counts) in
-    rw own (c.self.invariant, c.self.view_is)
+    rw own (c.self.invariant.whole, c.self.view_is)

@@ -1,11 +1,23 @@
--- `Bundle::link_field` meets its contract: `link_is`, with the section's start as `links_at` gives it.
+-- `Bundle::link_field` meets its contract: `link_is`, with the file from the section on.
+use native.Mathlib.Omega.{arith}
 use mathlib.Core.Path.{sym, ◌∙◌}
 use Rattle.bundle.specs.Words.{word_at}
+use Rattle.bundle.specs.Limits.{links_at}
 use Rattle.bundle.proofs.Fields.{link_is}
+use Rattle.bundle.proofs.Parts.{from_length, field_from}
 use Rattle.bundle.proofs.Bundle.link_field.Goals as goal
+
+pub field-requires : goal.field-requires
+field-requires c =
+    let b = c.self.inside in
+    let w = c.self.invariant in
+    (c.requires, rw w.links (omega (arith, w.whole.exact, from_length b.file.now (links_at b.counts))))
 
 pub returns : goal.returns
 returns c =
     let b = c.self.inside in
+    let w = c.self.invariant in
     rw (← c.self.view_is)
-    ((rw c.links_at.ensures.0 at c.field.ensures) ∙ sym (link_is (word_at b.file.now) b.counts b.counts c.args.i c.args.k c.requires))
+    ((rw w.links at c.field.ensures)
+    ∙ field_from b.file.now (links_at b.counts) 2 b.counts.links c.args.i c.args.k c.requires (omega (arith, w.whole.exact))
+    ∙ sym (link_is (word_at b.file.now) b.counts b.counts c.args.i c.args.k c.requires))

@@ -4,4 +4,4 @@ use Rattle.bundle.proofs.Fields.{steps_length}
 use Rattle.bundle.proofs.Bundle.steps.Goals as goal
 
 pub returns : goal.returns
-returns c = (rw (← c.self.view_is) (sym (steps_length c.self.inside.file.now c.self.inside.counts)), c.self.invariant.within.steps)
+returns c = (rw (← c.self.view_is) (sym (steps_length c.self.inside.file.now c.self.inside.counts)), c.self.invariant.whole.within.steps)

@@ -4,4 +4,4 @@ use Rattle.bundle.proofs.Fields.{symbols_length}
 use Rattle.bundle.proofs.Bundle.symbols.Goals as goal
 
 pub returns : goal.returns
-returns c = (rw (← c.self.view_is) (sym (symbols_length c.self.inside.file.now c.self.inside.counts)), c.self.invariant.within.symbols)
+returns c = (rw (← c.self.view_is) (sym (symbols_length c.self.inside.file.now c.self.inside.counts)), c.self.invariant.whole.within.symbols)

@@ -1,11 +1,23 @@
--- `Bundle::term_field` meets its contract: `term_is`, with the section's start as `terms_at` gives it.
+-- `Bundle::term_field` meets its contract: `term_is`, with the file from the section on.
+use native.Mathlib.Omega.{arith}
 use mathlib.Core.Path.{sym, ◌∙◌}
 use Rattle.bundle.specs.Words.{word_at}
+use Rattle.bundle.specs.Limits.{terms_at}
 use Rattle.bundle.proofs.Fields.{term_is}
+use Rattle.bundle.proofs.Parts.{from_length, field_from}
 use Rattle.bundle.proofs.Bundle.term_field.Goals as goal
+
+pub field-requires : goal.field-requires
+field-requires c =
+    let b = c.self.inside in
+    let w = c.self.invariant in
+    (c.requires, rw w.terms (omega (arith, w.whole.exact, from_length b.file.now (terms_at b.counts))))
 
 pub returns : goal.returns
 returns c =
     let b = c.self.inside in
+    let w = c.self.invariant in
     rw (← c.self.view_is)
-    ((rw c.terms_at.ensures.0 at c.field.ensures) ∙ sym (term_is (word_at b.file.now) b.counts b.counts c.args.i c.args.k c.requires))
+    ((rw w.terms at c.field.ensures)
+    ∙ field_from b.file.now (terms_at b.counts) 4 b.counts.terms c.args.i c.args.k c.requires (omega (arith, w.whole.exact))
+    ∙ sym (term_is (word_at b.file.now) b.counts b.counts c.args.i c.args.k c.requires))

@@ -4,4 +4,4 @@ use Rattle.bundle.proofs.Fields.{terms_length}
 use Rattle.bundle.proofs.Bundle.terms.Goals as goal
 
 pub returns : goal.returns
-returns c = (rw (← c.self.view_is) (sym (terms_length c.self.inside.file.now c.self.inside.counts)), c.self.invariant.within.terms)
+returns c = (rw (← c.self.view_is) (sym (terms_length c.self.inside.file.now c.self.inside.counts)), c.self.invariant.whole.within.terms)

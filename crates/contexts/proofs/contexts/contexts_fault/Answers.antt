@@ -3,39 +3,13 @@ use native.Mathlib.Omega.{arith}
 use Prim.Native.Nat.{◌+◌, ◌≤◌}
 use mathlib.Core.Path.{◌≡◌, refl, sym, ◌∙◌}
 use lib.ListN.{length}
-use Rattle.logic.specs.declared.checks.Check.{Check}
-use Rattle.logic.specs.Failures.{number_of}
 use Rattle.logic.specs.Contexts.{contexts_fault}
+use Rattle.logic.proofs.CheckNumbers.{number_some}
 use Rattle.logic.proofs.Firsts.{rest_start, rest_on, rest_here, rest_end}
 use Rattle.logic.proofs.EntryFacts.{refers_passed}
 use Rattle.images.proofs.FreeWords.{known_room}
 use Rattle.images.proofs.ContextRows.{record_below}
 use Rattle.contexts.proofs.contexts.contexts_fault.Goals as goal
-
--- a check's number is not 0, which says that none fails
-number_not : (k : Check) → number_of k ≡ 0 → ⊥
-number_not Check.Length e = absurd (omega (arith, e))
-number_not Check.Version e = absurd (omega (arith, e))
-number_not Check.Limits e = absurd (omega (arith, e))
-number_not Check.Area e = absurd (omega (arith, e))
-number_not Check.Next e = absurd (omega (arith, e))
-number_not Check.Declared e = absurd (omega (arith, e))
-number_not Check.Refers e = absurd (omega (arith, e))
-number_not Check.Sorted e = absurd (omega (arith, e))
-number_not Check.New e = absurd (omega (arith, e))
-number_not Check.Context e = absurd (omega (arith, e))
-number_not Check.Settled e = absurd (omega (arith, e))
-number_not Check.Step e = absurd (omega (arith, e))
-number_not Check.Matches e = absurd (omega (arith, e))
-number_not Check.Side e = absurd (omega (arith, e))
-number_not Check.Claim e = absurd (omega (arith, e))
-number_not Check.Room e = absurd (omega (arith, e))
-number_not Check.Closed e = absurd (omega (arith, e))
-number_not Check.Job e = absurd (omega (arith, e))
-number_not Check.Text e = absurd (omega (arith, e))
-number_not Check.Name e = absurd (omega (arith, e))
-number_not Check.Pairs e = absurd (omega (arith, e))
-number_not Check.Scope e = absurd (omega (arith, e))
 
 pub loop-i-init : goal.loop-i-init
 unfolding contexts_fault
@@ -49,7 +23,7 @@ context_fault-requires c = (c.requires.0, c.requires.1, c.loop-i.invariant.scope
 pub returns-in-Err-clause-value : goal.returns-in-Err-clause-value
 returns-in-Err-clause-value c =
     let few : c.loop-i.i ≤ length c.args.bundle.now.contexts = omega (arith, c.contexts-contexts.ensures.0) in
-    sym (c.loop-i.invariant.rest ∙ rest_here _ _ _ c.in-Err.ensures few (number_not c.in-Err.check))
+    sym (c.loop-i.invariant.rest ∙ rest_here _ _ _ c.in-Err.ensures few (number_some c.in-Err.check))
 
 pub enter-requires : goal.enter-requires
 enter-requires c =

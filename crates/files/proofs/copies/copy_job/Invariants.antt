@@ -6,5 +6,4 @@ use Rattle.files.proofs.JobCopied.{Holds}
 use Rattle.files.proofs.copies.copy_job.Given as goal
 
 abbrev pub invariant-loop-s : goal.invariant-loop-s
-invariant-loop-s l =
-    (l.from ≡ place_of l.b l.s) × (l.to ≡ place_of limits l.s) × Holds l.job l.b l.s l.words
+invariant-loop-s l = (l.from ≡ place_of l.counts l.s) × (l.to ≡ place_of limits l.s) × Holds l.file l.counts l.s l.words

@@ -10,5 +10,5 @@ use Rattle.files.proofs.stores.store_file.Given as goal
 
 abbrev pub invariant-loop-s : goal.invariant-loop-s
 invariant-loop-s l =
-    (l.from ≡ place_of limits l.s) × (l.place ≡ place_of l.c l.s)
-    × WordsStored l.initial.out 0 (place_of l.c l.s) (words_to (claiming (bundle_in l.words l.c) l.left l.right) l.s) l.out
+    (l.from ≡ place_of limits l.s) × (l.place ≡ place_of l.counts l.s)
+    × WordsStored l.initial.out 0 (place_of l.counts l.s) (words_to (claiming (bundle_in l.words l.counts) l.left l.right) l.s) l.out

@@ -1,7 +1,7 @@
--- `lookups::is_variable` meets its contract: the two tests of `same_variable`.
+-- `is_variable` meets its contract: the two tests of `same_variable`.
 use Rattle.logic.specs.Lookup.{same_variable}
 use Rattle.filing.proofs.lookups.is_variable.Goals as goal
 
 pub returns : goal.returns
 unfolding same_variable
-returns c = rw (← c.term_field-kind.ensures.0, ← c.term_field-first.ensures.0)
+returns c = rw (← c.term_words-term.ensures.0)

@@ -1,6 +1,5 @@
 -- The cycle of calls {read_formula, read_let, read_parts, read_quantified}. The measure is three times the bytes that are left; a list of variables or of
 -- parts has one more than a formula at its byte, a let two more.
--- Each answer cites a law of FormulaTurns or PartTurns, over words, stack and counts; here their arguments are only fetched from `c`.
 use lib.ListN.{length}
 use Rattle.formulas.proofs.PartTurns as P
 use Prim.Native.Nat.{◌+◌, ◌-◌, ◌*◌}
@@ -18,10 +17,9 @@ decreases-read_parts l = 3 * (length l.text.now - l.i) + 1
 abbrev pub decreases-read_quantified : goal.decreases-read_quantified
 decreases-read_quantified l = 3 * (length l.text.now - l.i) + 1
 
-abbrev pub invariant-read_parts-loop-last : goal.invariant-read_parts-loop-last
-invariant-read_parts-loop-last l =
-    P.Going l.bundle l.text l.left l.bound l.initial.words l.initial.stack l.initial.counts l.height l.i l.words l.stack l.index l.counts l.top l.known l.sort
-    (record { last = l.last; variable = l.variable; end = l.at })
+abbrev pub invariant-read_parts-loop-part : goal.invariant-read_parts-loop-part
+invariant-read_parts-loop-part l =
+    P.Going l.bundle l.text l.left l.bound l.initial.filed l.initial.stack l.height l.i l.filed l.stack l.top l.first l.part
 
-abbrev pub decreases-read_parts-loop-last : goal.decreases-read_parts-loop-last
-decreases-read_parts-loop-last l = length l.text - l.at
+abbrev pub decreases-read_parts-loop-part : goal.decreases-read_parts-loop-part
+decreases-read_parts-loop-part l = length l.text - l.part.end

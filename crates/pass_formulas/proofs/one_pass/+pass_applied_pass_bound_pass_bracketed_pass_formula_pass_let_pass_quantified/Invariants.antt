@@ -23,16 +23,14 @@ decreases-pass_let l = 3 * (length l.text.now - l.i) + 2
 abbrev pub decreases-pass_quantified : goal.decreases-pass_quantified
 decreases-pass_quantified l = 3 * (length l.text.now - l.i) + 1
 
-abbrev pub invariant-pass_applied-loop-c : goal.invariant-pass_applied-loop-c
-invariant-pass_applied-loop-c l = P.Applying l.file l.text l.initial.words
-    l.initial.stack l.initial.counts l.height l.i l.words l.stack l.index l.counts l.top l.at l.c
+abbrev pub invariant-pass_applied-loop-filed : goal.invariant-pass_applied-loop-filed
+invariant-pass_applied-loop-filed l = P.Applying l.bundle l.text l.initial.filed l.initial.stack l.height l.i l.filed l.stack l.top l.at
 
-abbrev pub decreases-pass_applied-loop-c : goal.decreases-pass_applied-loop-c
-decreases-pass_applied-loop-c l = length l.text - l.at
+abbrev pub decreases-pass_applied-loop-filed : goal.decreases-pass_applied-loop-filed
+decreases-pass_applied-loop-filed l = length l.text - l.at
 
-abbrev pub invariant-pass_let-loop-c : goal.invariant-pass_let-loop-c
-invariant-pass_let-loop-c l = P.Letting l.file l.text l.initial.words l.initial.stack
-    l.initial.counts l.height l.i l.words l.stack l.index l.counts l.top l.at l.c
+abbrev pub invariant-pass_let-loop-filed : goal.invariant-pass_let-loop-filed
+invariant-pass_let-loop-filed l = P.Letting l.bundle l.text l.initial.filed l.initial.stack l.height l.i l.filed l.stack l.top l.at
 
-abbrev pub decreases-pass_let-loop-c : goal.decreases-pass_let-loop-c
-decreases-pass_let-loop-c l = length l.text - l.at
+abbrev pub decreases-pass_let-loop-filed : goal.decreases-pass_let-loop-filed
+decreases-pass_let-loop-filed l = length l.text - l.at

@@ -1,11 +1,13 @@
--- `all_of_sort` meets its contract. The invariant: the pairs are so many, each of that sort, where those that are left are as many as is left.
+-- The invariant: the pairs have the sort, each, where those that are left have it.
 use mathlib.Core.Path.{◌≡◌}
 use mathlib.Core.Bool.{false}
-use lib.ListN.{replicate}
+use Prim.Native.Nat.{◌-◌}
+use lib.ListN.{drop, replicate}
 use Rattle.bundle.specs.Lists.{same_list}
-use Rattle.scratch.specs.Stack.{halves}
+use Rattle.scratch.specs.Stack.{halves_of}
 use Rattle.pass_terms.proofs.sorts.all_of_sort.Given as goal
 
-abbrev pub invariant-loop-at : goal.invariant-loop-at
-invariant-loop-at l =
-    same_list (replicate l.count l.sort) (halves false l.stack l.from l.to) ≡ same_list (replicate l.left l.sort) (halves false l.stack l.at l.to)
+abbrev pub invariant-loop-pair : goal.invariant-loop-pair
+invariant-loop-pair l =
+    same_list (replicate l.count l.sort) (halves_of false l.pairs)
+    ≡ same_list (replicate (l.count - l.pair-index) l.sort) (halves_of false (drop l.pair-index l.pairs))

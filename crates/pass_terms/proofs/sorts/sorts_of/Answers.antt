@@ -1,32 +1,32 @@
--- `sorts_of` meets its contract. The invariant: the list has the sorts of the pairs where what is left of it has those that are left.
-use mathlib.Core.Path.{sym, ◌∙◌}
-use Rattle.pass_terms.proofs.PairSorts.{short, ended, differs, on, is_over}
+-- `sorts_of` meets its contract.
+use mathlib.Core.Bool.{false}
+use borrow.Author.Tests.{eq-eqb, ne_eqb}
+use Rattle.bundle.specs.Lists.{same_list}
+use Rattle.scratch.proofs.Halves.{rest_none, rest_more}
+use Rattle.pass_terms.proofs.PairSorts.{is_over}
 use Rattle.pass_terms.proofs.sorts.sorts_of.Goals as goal
 
-pub loop-at-init : goal.loop-at-init
-loop-at-init c = rw c.items-sorts.ensures
-
 pub returns-in_default : goal.returns-in_default
+unfolding same_list
 returns-in_default c =
-    let l = c.loop-at in
-    sym (l.invariant ∙ short c.args.stack.now l.at c.args.to _ c.loop-at-test.true c.requires.1 c.in_default.ensures.steps.0)
+    let l = c.loop-pair in
+    rw (l.invariant, c.in_default.ensures.steps.0, rest_more false c.args.pairs.now l.pair-index c.loop-pair-test.true)
 
 pub returns-then-sort-half : goal.returns-then-sort-half
+unfolding same_list
 returns-then-sort-half c =
-    let l = c.loop-at in
-    sym (l.invariant
-    ∙ differs c.args.stack.now l.at c.args.to _ c.loop-at-test.true c.requires.1 c.half.ensures.0 c.in-Some.ensures.steps
-    c.if-sort-half.true)
+    let l = c.loop-pair in
+    rw (l.invariant, c.in-Some.ensures.steps, rest_more false c.args.pairs.now l.pair-index c.loop-pair-test.true)
+    (rw (← c.half.ensures.0, ne_eqb _ _ c.if-sort-half.true))
 
-pub loop-at-preserved : goal.loop-at-preserved
-loop-at-preserved c =
-    let l = c.loop-at in
-    l.invariant
-    ∙ on c.args.stack.now l.at c.args.to _ c.loop-at-test.true c.requires.1 c.half.ensures.0 c.in-Some.ensures.steps
-    c.if-sort-half.false
+pub loop-pair-preserved : goal.loop-pair-preserved
+unfolding same_list
+loop-pair-preserved c =
+    let l = c.loop-pair in
+    rw (l.invariant, c.in-Some.ensures.steps, rest_more false c.args.pairs.now l.pair-index c.loop-pair-test.true)
+    (rw (← c.half.ensures.0, eq-eqb _ _ c.if-sort-half.false))
 
 pub returns : goal.returns
 returns c =
-    let l = c.loop-at in
-    rw (l.invariant, ended c.args.stack.now l.at c.args.to l.sorts c.loop-at-test.false)
-    (is_over _ _ _ _ c.next-2.ensures.steps c.is_none.ensures)
+    let l = c.loop-pair in
+    rw (l.invariant, rest_none false c.args.pairs.now l.pair-index c.loop-pair-test.false) (is_over _ _ _ _ c.next-2.ensures.steps c.is_none.ensures)

@@ -1,7 +1,7 @@
 -- `takes` meets its contract, by the cases of the argument sorts.
-use mathlib.Core.Path.{sym}
+use mathlib.Core.Path.{◌∙◌}
 use Rattle.logic.specs.Symbols.{argument_sorts}
-use Rattle.pass_terms.proofs.PairSorts.{none_taken}
+use Rattle.pass_terms.proofs.PairSorts.{none_left}
 use Rattle.pass_terms.proofs.sorts.takes.Goals as goal
 
 pub returns-in-BuiltIn : goal.returns-in-BuiltIn
@@ -10,9 +10,8 @@ returns-in-BuiltIn c = rw c.in-BuiltIn.is c.all_of_sort.ensures
 
 pub returns-in-Declared : goal.returns-in-Declared
 unfolding argument_sorts
-returns-in-Declared c = rw (c.in-Declared.is, ← c.symbol_field-list.ensures) c.sorts_of.ensures
+returns-in-Declared c = rw (c.in-Declared.is, ← c.symbol_field.ensures) c.sorts_of.ensures
 
 pub returns-in-Unknown : goal.returns-in-Unknown
 unfolding argument_sorts
-returns-in-Unknown c =
-    rw c.in-Unknown.is (sym (none_taken c.args.stack.now c.args.from c.args.to c.requires.0 c.requires.1))
+returns-in-Unknown c = rw c.in-Unknown.is (c.is_empty.ensures ∙ none_left c.args.pairs.now)

@@ -1,24 +1,9 @@
 -- `places::bound_at` meets its contract.
 use mathlib.Core.Path.{sym, ◌∙◌}
-use Rattle.pass_tokens.proofs.PlaceLaws as P
+use Rattle.pass_tokens.proofs.PlaceLaws.{bound}
 use Rattle.pass_tokens.proofs.places.bound_at.Goals as goal
-
-pub returns-then-byte_at-ne40 : goal.returns-then-byte_at-ne40
-returns-then-byte_at-ne40 c =
-    P.not_bound c.args.symbols c.args.variables c.args.text.now c.args.i c.no_item.ensures
-
-pub past_blanks-at-requires : goal.past_blanks-at-requires
-past_blanks-at-requires c =
-    P.open_inside c.args.text.now c.args.i (sym c.byte_at.ensures ∙ c.if-byte_at-ne40.false)
-
-pub returns-then-x-ne3 : goal.returns-then-x-ne3
-returns-then-x-ne3 c =
-    P.not_bound c.args.symbols c.args.variables c.args.text.now c.args.i c.no_item-then-x-ne3.ensures
 
 pub returns : goal.returns
 returns c =
-    P.bound c.args.symbols c.args.variables c.args.text.now c.args.i
-    (sym c.byte_at.ensures ∙ c.if-byte_at-ne40.false)
-    c.past_blanks-at.result c.past_blanks-at.ensures
-    c.word_at-x.result c.word_at-x.ensures c.if-x-ne3.false c.past_blanks-end.result
-    c.past_blanks-end.ensures
+    bound c.args.symbols c.args.variables c.args.text.now c.args.i (sym c.byte_at.ensures ∙ c.if-byte_at-ne40.false) c.past_blanks-at.result
+    c.past_blanks-at.ensures c.in_ok-named.named c.in_ok-named.ensures c.in-Variable.variable c.in-Variable.is c.past_blanks.result c.past_blanks.ensures

@@ -1,121 +1,52 @@
 -- `words::reserved_at` meets its contract: an answer for each word.
-use native.Mathlib.Omega.{arith}
 use Rattle.grammar.specs.Bytes.{bytes}
 use Rattle.pass_tokens.proofs.WordLaws as W
 use Rattle.pass_tokens.proofs.words.reserved_at.Goals as goal
 
-pub returns-then-word_stands : goal.returns-then-word_stands
+pub returns-in-97 : goal.returns-in-97
 unfolding bytes
-returns-then-word_stands c =
-    W.word_and c.args.symbols c.args.variables c.args.text.now c.args.start
-    (c.word_stands.ensures c.if-word_stands.true) c.token.ensures
+returns-in-97 c = W.word_and c.args.symbols c.args.variables c.args.text.now c.args.start c.word_if.result c.word_if.ensures
 
-pub returns-then-c-eq97 : goal.returns-then-c-eq97
-returns-then-c-eq97 c =
-    W.no_word c.args.symbols c.args.variables c.args.text.now c.args.start (omega (arith, c.requires)) c.token-then-c-eq97.ensures
-
-pub returns-then-word_stands-2 : goal.returns-then-word_stands-2
+pub returns-in-108 : goal.returns-in-108
 unfolding bytes
-returns-then-word_stands-2 c =
-    W.word_let c.args.symbols c.args.variables c.args.text.now c.args.start
-    (c.word_stands-then-c-eq108.ensures c.if-word_stands-2.true) c.token-then-word_stands-2.ensures
+returns-in-108 c = W.word_let c.args.symbols c.args.variables c.args.text.now c.args.start c.word_if-in-108.result c.word_if-in-108.ensures
 
-pub returns-then-c-eq108 : goal.returns-then-c-eq108
-returns-then-c-eq108 c =
-    W.no_word c.args.symbols c.args.variables c.args.text.now c.args.start (omega (arith, c.requires)) c.token-then-c-eq108.ensures
-
-pub returns-then-word_stands-3 : goal.returns-then-word_stands-3
+pub returns-in-73 : goal.returns-in-73
 unfolding bytes
-returns-then-word_stands-3 c =
-    W.word_item c.args.symbols c.args.variables c.args.text.now c.args.start
-    (c.word_stands-then-c-eq73.ensures c.if-word_stands-3.true) c.token-then-word_stands-3.ensures
+returns-in-73 c = W.word_item c.args.symbols c.args.variables c.args.text.now c.args.start c.word_if-in-73.result c.word_if-in-73.ensures
 
-pub returns-then-c-eq73 : goal.returns-then-c-eq73
-returns-then-c-eq73 c =
-    W.no_word c.args.symbols c.args.variables c.args.text.now c.args.start (omega (arith, c.requires)) c.token-then-c-eq73.ensures
-
-pub returns-then-word_stands-4 : goal.returns-then-word_stands-4
+pub returns-then-is_some : goal.returns-then-is_some
 unfolding bytes
-returns-then-word_stands-4 c =
-    W.word_equals c.args.symbols c.args.variables c.args.text.now c.args.start
-    (c.word_stands-then-c-eq61.ensures c.if-word_stands-4.true) c.token-then-word_stands-4.ensures
+returns-then-is_some c = W.word_equals c.args.symbols c.args.variables c.args.text.now c.args.start c.word_if-equal.result c.word_if-equal.ensures
 
-pub returns-then-word_stands-5 : goal.returns-then-word_stands-5
+pub returns-else-is_some : goal.returns-else-is_some
 unfolding bytes
-returns-then-word_stands-5 c =
-    W.word_implies c.args.symbols c.args.variables c.args.text.now c.args.start
-    (c.word_stands-then-c-eq61-2.ensures c.if-word_stands-5.true) c.token-then-word_stands-5.ensures
+returns-else-is_some c = W.word_implies c.args.symbols c.args.variables c.args.text.now c.args.start c.word_if-in-61.result c.word_if-in-61.ensures
 
-pub returns-then-c-eq61 : goal.returns-then-c-eq61
-returns-then-c-eq61 c =
-    W.no_word c.args.symbols c.args.variables c.args.text.now c.args.start (omega (arith, c.requires)) c.token-then-c-eq61.ensures
-
-pub returns-then-word_stands-6 : goal.returns-then-word_stands-6
+pub returns-in-110 : goal.returns-in-110
 unfolding bytes
-returns-then-word_stands-6 c =
-    W.word_not c.args.symbols c.args.variables c.args.text.now c.args.start
-    (c.word_stands-then-c-eq110.ensures c.if-word_stands-6.true) c.token-then-word_stands-6.ensures
+returns-in-110 c = W.word_not c.args.symbols c.args.variables c.args.text.now c.args.start c.word_if-in-110.result c.word_if-in-110.ensures
 
-pub returns-then-c-eq110 : goal.returns-then-c-eq110
-returns-then-c-eq110 c =
-    W.no_word c.args.symbols c.args.variables c.args.text.now c.args.start (omega (arith, c.requires)) c.token-then-c-eq110.ensures
-
-pub returns-then-word_stands-7 : goal.returns-then-word_stands-7
+pub returns-then-is_some-2 : goal.returns-then-is_some-2
 unfolding bytes
-returns-then-word_stands-7 c =
-    W.word_forall c.args.symbols c.args.variables c.args.text.now c.args.start
-    (c.word_stands-then-c-eq102.ensures c.if-word_stands-7.true) c.token-then-word_stands-7.ensures
+returns-then-is_some-2 c = W.word_forall c.args.symbols c.args.variables c.args.text.now c.args.start c.word_if-for_all.result c.word_if-for_all.ensures
 
-pub returns-then-word_stands-8 : goal.returns-then-word_stands-8
+pub returns-else-is_some-2 : goal.returns-else-is_some-2
 unfolding bytes
-returns-then-word_stands-8 c =
-    W.word_false c.args.symbols c.args.variables c.args.text.now c.args.start
-    (c.word_stands-then-c-eq102-2.ensures c.if-word_stands-8.true) c.token-then-word_stands-8.ensures
+returns-else-is_some-2 c = W.word_false c.args.symbols c.args.variables c.args.text.now c.args.start c.word_if-in-102.result c.word_if-in-102.ensures
 
-pub returns-then-c-eq102 : goal.returns-then-c-eq102
-returns-then-c-eq102 c =
-    W.no_word c.args.symbols c.args.variables c.args.text.now c.args.start (omega (arith, c.requires)) c.token-then-c-eq102.ensures
-
-pub returns-then-word_stands-9 : goal.returns-then-word_stands-9
+pub returns-in-101 : goal.returns-in-101
 unfolding bytes
-returns-then-word_stands-9 c =
-    W.word_exists c.args.symbols c.args.variables c.args.text.now c.args.start
-    (c.word_stands-then-c-eq101.ensures c.if-word_stands-9.true) c.token-then-word_stands-9.ensures
+returns-in-101 c = W.word_exists c.args.symbols c.args.variables c.args.text.now c.args.start c.word_if-in-101.result c.word_if-in-101.ensures
 
-pub returns-then-c-eq101 : goal.returns-then-c-eq101
-returns-then-c-eq101 c =
-    W.no_word c.args.symbols c.args.variables c.args.text.now c.args.start (omega (arith, c.requires)) c.token-then-c-eq101.ensures
-
-pub returns-then-word_stands-10 : goal.returns-then-word_stands-10
+pub returns-in-111 : goal.returns-in-111
 unfolding bytes
-returns-then-word_stands-10 c =
-    W.word_or c.args.symbols c.args.variables c.args.text.now c.args.start
-    (c.word_stands-then-c-eq111.ensures c.if-word_stands-10.true) c.token-then-word_stands-10.ensures
+returns-in-111 c = W.word_or c.args.symbols c.args.variables c.args.text.now c.args.start c.word_if-in-111.result c.word_if-in-111.ensures
 
-pub returns-then-c-eq111 : goal.returns-then-c-eq111
-returns-then-c-eq111 c =
-    W.no_word c.args.symbols c.args.variables c.args.text.now c.args.start (omega (arith, c.requires)) c.token-then-c-eq111.ensures
-
-pub returns-then-word_stands-11 : goal.returns-then-word_stands-11
+pub returns-in-116 : goal.returns-in-116
 unfolding bytes
-returns-then-word_stands-11 c =
-    W.word_true c.args.symbols c.args.variables c.args.text.now c.args.start
-    (c.word_stands-then-c-eq116.ensures c.if-word_stands-11.true) c.token-then-word_stands-11.ensures
+returns-in-116 c = W.word_true c.args.symbols c.args.variables c.args.text.now c.args.start c.word_if-in-116.result c.word_if-in-116.ensures
 
-pub returns-then-c-eq116 : goal.returns-then-c-eq116
-returns-then-c-eq116 c =
-    W.no_word c.args.symbols c.args.variables c.args.text.now c.args.start (omega (arith, c.requires)) c.token-then-c-eq116.ensures
-
-pub returns-then-word_stands-12 : goal.returns-then-word_stands-12
+pub returns-in-66 : goal.returns-in-66
 unfolding bytes
-returns-then-word_stands-12 c =
-    W.word_bool c.args.symbols c.args.variables c.args.text.now c.args.start
-    (c.word_stands-then-c-eq66.ensures c.if-word_stands-12.true) c.token-then-word_stands-12.ensures
-
-pub returns-then-c-eq66 : goal.returns-then-c-eq66
-returns-then-c-eq66 c =
-    W.no_word c.args.symbols c.args.variables c.args.text.now c.args.start (omega (arith, c.requires)) c.token-then-c-eq66.ensures
-
-pub returns : goal.returns
-returns c =
-    W.no_word c.args.symbols c.args.variables c.args.text.now c.args.start (omega (arith, c.requires)) c.token-2.ensures
+returns-in-66 c = W.word_bool c.args.symbols c.args.variables c.args.text.now c.args.start c.word_if-in-66.result c.word_if-in-66.ensures

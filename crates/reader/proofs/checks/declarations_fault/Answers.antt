@@ -4,7 +4,7 @@ use mathlib.Core.List.{List}
 use Prim.Native.Nat.{ℕ}
 use Rattle.std.proofs.lemmas.Result.{err_from_is_err_and}
 use Rattle.logic.specs.Checks.{header_fault}
-use Rattle.declarations.proofs.Failing.{number_not}
+use Rattle.logic.proofs.CheckNumbers.{number_some}
 use Rattle.expansion.specs.Expansion.{long_enough}
 use Rattle.reader.proofs.DeclarationTests.{header_here, section_here, not_bare, all_hold}
 use Rattle.reader.proofs.checks.declarations_fault.Goals as goal
@@ -14,32 +14,35 @@ header : (f : List ℕ) (out words sets : ℕ) {k n : ℕ} → k ≡ long_enough
     → n ≡ header_fault f (long_enough out words sets) 3
 header f out words sets enough tested = rw (← enough) tested
 
-pub returns-in-Err-clause-fault : goal.returns-in-Err-clause-fault
-returns-in-Err-clause-fault c =
-    let a = c.args in
-    header_here a.file.now a.out a.words a.sets _
-    (header a.file.now a.out a.words a.sets c.long_enough-enough.ensures c.in-Err.ensures.number) (number_not c.in-Err.check)
-
-pub returns-in_err-sections_fault-in-Ok-clause-fault : goal.returns-in_err-sections_fault-in-Ok-clause-fault
-returns-in_err-sections_fault-in-Ok-clause-fault c =
+pub returns-in_err-bundle-clause-fault : goal.returns-in_err-bundle-clause-fault
+returns-in_err-bundle-clause-fault c =
     let a = c.args in
     let p = err_from_is_err_and c.from_residual.result c.from_residual.ensures.1 in
-    let none = sym (header a.file.now a.out a.words a.sets c.long_enough-enough.ensures c.in-Ok.ensures.number) in
-    let found = c.in_err-sections_fault-in-Ok in
-    rw (p.1, p.2) (section_here a.file.now a.out a.words a.sets none c.in-Ok.ensures.bundle _ found.ensures (number_not _))
+    rw (p.1, p.2)
+    (header_here a.file.now a.out a.words a.sets _
+    (header a.file.now a.out a.words a.sets c.long_enough-enough.ensures c.in_err-bundle.ensures.number) (number_some c.in_err-bundle.field-0.0))
+
+pub returns-in_err-sections_fault-clause-fault : goal.returns-in_err-sections_fault-clause-fault
+returns-in_err-sections_fault-clause-fault c =
+    let a = c.args in
+    let r = c.from_residual-in_err-sections_fault in
+    let p = err_from_is_err_and r.result r.ensures.1 in
+    let b = c.in_ok-bundle.ensures in
+    let none = sym (header a.file.now a.out a.words a.sets c.long_enough-enough.ensures b.number) in
+    rw (p.1, p.2) (section_here a.file.now a.out a.words a.sets none b.bundle _ c.in_err-sections_fault.ensures (number_some _))
 
 pub returns-then-not-is_declarations-clause-fault : goal.returns-then-not-is_declarations-clause-fault
 returns-then-not-is_declarations-clause-fault c =
     let a = c.args in
-    let none = sym (header a.file.now a.out a.words a.sets c.long_enough-enough.ensures c.in-Ok.ensures.number) in
-    let passed = c.in_ok-sections_fault-in-Ok.ensures in
-    not_bare a.file.now a.out a.words a.sets none c.in-Ok.ensures.bundle _ passed refl c.is_declarations.result c.is_declarations.ensures
+    let b = c.in_ok-bundle.ensures in
+    let none = sym (header a.file.now a.out a.words a.sets c.long_enough-enough.ensures b.number) in
+    not_bare a.file.now a.out a.words a.sets none b.bundle _ c.in_ok-sections_fault.ensures refl c.is_declarations.result c.is_declarations.ensures
     c.if-not-is_declarations.true
 
-pub returns-else-not-is_declarations-clause-fault : goal.returns-else-not-is_declarations-clause-fault
-returns-else-not-is_declarations-clause-fault c =
+pub returns-clause-fault : goal.returns-clause-fault
+returns-clause-fault c =
     let a = c.args in
-    let none = sym (header a.file.now a.out a.words a.sets c.long_enough-enough.ensures c.in-Ok.ensures.number) in
-    let passed = c.in_ok-sections_fault-in-Ok.ensures in
-    all_hold a.file.now a.out a.words a.sets none c.in-Ok.ensures.bundle _ passed refl c.is_declarations.result c.is_declarations.ensures
+    let b = c.in_ok-bundle.ensures in
+    let none = sym (header a.file.now a.out a.words a.sets c.long_enough-enough.ensures b.number) in
+    all_hold a.file.now a.out a.words a.sets none b.bundle _ c.in_ok-sections_fault.ensures refl c.is_declarations.result c.is_declarations.ensures
     c.if-not-is_declarations.false

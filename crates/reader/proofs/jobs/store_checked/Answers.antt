@@ -1,95 +1,58 @@
 -- `store_checked` meets its contract: what refuses the text, the formula's records, and the job.
-use mathlib.Core.Path.{◌≡◌, refl, ap, ◌∙◌, subst}
-use mathlib.Core.List.{List}
-use Prim.Native.Nat.{ℕ}
+use mathlib.Core.Path.{◌≡◌, refl, ◌∙◌}
 use native.Mathlib.Omega.{arith}
-use Rattle.bundle.specs.declared.Counts.{Counts}
-use Rattle.bundle.specs.Bundle.{Bundle}
-use Rattle.bundle.specs.File.{bundle_at}
-use Rattle.logic.specs.Tests.{Fault, fault}
-use Rattle.logic.specs.Failures.{number_of}
-use Rattle.declarations.proofs.Failing.{number_not}
-use Rattle.grammar.specs.Names.{resolve}
-use Rattle.reading.specs.Called.{known_in}
-use Rattle.endings.specs.declared.ReadTerm.{ReadTerm}
-use Rattle.formulas.specs.ReadGives.{ReadsText}
+use Rattle.std.specs.Prelude.{Some, None}
+use Rattle.std.proofs.lemmas.Result.{err_from_is_err_and}
+use Rattle.logic.specs.Tests.{fault}
+use Rattle.logic.specs.declared.checks.Check.{Check}
+use Rattle.logic.specs.Failures.{check_number}
+use Rattle.logic.proofs.CheckNumbers.{number_some}
 use Rattle.expansion.proofs.AreasAfter.{stored_refused}
-use Rattle.reader.specs.Texts.{text_fault}
-use Rattle.reader.proofs.Answering.{areas_long, declared_whole, copied_formed, copied_ready, refused_text, settled, refused_records}
-use Rattle.reader.proofs.Answering.{held_done, held_ready, term_small, stored_read}
+use Rattle.reader.proofs.Answering.{areas_long, declared_version, copied_formed, refused_text, settled, refused_records, held_done, stored_read}
 use Rattle.reader.proofs.jobs.store_checked.Goals as goal
 
--- what is said of the bundle is said of the declarations f, by their counts c
-module _ (f : List ℕ) (c : Counts) {b : Bundle} (opened : b ≡ bundle_at f c) (text : List ℕ) where
-  found_at : {r : Fault} → r ≡ text_fault b (resolve (known_in b) text) → r ≡ text_fault (bundle_at f c) (resolve (known_in (bundle_at f c)) text)
-  found_at e = e ∙ ap (λ (D : Bundle). text_fault D (resolve (known_in D) text)) opened
-
-  read_at : {b₀ : Bundle} {w : List ℕ} {r : ReadTerm} → ReadsText b text b₀ w r → ReadsText (bundle_at f c) text b₀ w r
-  read_at {b₀} {w} {r} reads = subst (λ (D : Bundle). ReadsText D text b₀ w r) opened reads
-
-pub of-bundle-requires : goal.of-bundle-requires
-of-bundle-requires c = declared_whole c.requires.1
-
 pub text_fault-requires : goal.text_fault-requires
-text_fault-requires c = let d = c.requires.1 in omega (arith, (areas_long d).output)
+text_fault-requires c = let d = c.requires.2 in omega (arith, (areas_long d).output)
 
-pub returns-in-Err : goal.returns-in-Err
-returns-in-Err c =
-    λ sets d.
-    let a = c.args in
-    let k = c.in-Err.found in
-    let found = found_at a.declarations.now a.b c.of-bundle.ensures a.text.now c.in-Err.ensures in
-    rw c.number.ensures
+pub returns-in_err-text_fault : goal.returns-in_err-text_fault
+returns-in_err-text_fault c =
+    λ f sets d.
+    let p = err_from_is_err_and c.from_residual.result c.from_residual.ensures.1 in
+    let k = c.in_err-text_fault.field-0.0 in
+    rw (p.1, p.2)
     (stored_refused c.text_fault.auto.area refl refl
-    (refused_text d a.text.now (fault (number_of k.check) k.«record») found (number_not k.check)))
+    (refused_text d c.args.text.now (fault (check_number k.check) k.«record») c.in_err-text_fault.ensures (number_some k.check)))
 
 pub copy_job-requires : goal.copy_job-requires
-copy_job-requires c =
-    let d = c.requires.1 in
-    (declared_whole d, omega (arith, (areas_long d).scratch))
+copy_job-requires c = let d = c.requires.2 in (declared_version d, (areas_long d).scratch)
 
-pub read_records-records-requires : goal.read_records-records-requires
-read_records-records-requires c =
-    let d = c.requires.1 in
-    let j = c.copy_job in
-    (copied_ready d j.new.words j.ensures.1 j.ensures.0, copied_formed d j.new.words j.ensures.1)
+pub of-filed-requires : goal.of-filed-requires
+of-filed-requires c = copied_formed c.requires.2 c.copy_job.ensures
 
--- `reads` is the formula of the text, which nothing refuses, and `held` says that its records are in the scratch
 pub store_file-requires : goal.store_file-requires
 store_file-requires c =
-    let d = c.requires.1 in
-    let a = c.args in
-    let reads = settled d a.text.now (fault 0 0) (found_at a.declarations.now a.b c.of-bundle.ensures a.text.now c.in_default.ensures) refl in
-    let held = held_done reads.1 c.copy_job.new.words _ c.read_records-records.result c.copy_job.ensures.1
-    (read_at a.declarations.now a.b c.of-bundle.ensures a.text.now c.read_records-records.ensures.1) c.in-Done.is in
-    let small = term_small held reads.1 in
-    (held_ready held, omega (arith, small), omega (arith, small), omega (arith, (areas_long d).output, c.text_fault.auto.area))
+    let some : c.read_records.result ≡ Some c.in_ok-read.read = grind arith in
+    let word = rw some at c.read_records.ensures.1 in
+    (word, omega arith, omega (arith, (areas_long c.requires.2).output, c.text_fault.auto.area))
 
-pub bytes-requires : goal.bytes-requires
-bytes-requires c =
-    let d = c.requires.1 in
-    let a = c.args in
-    let reads = settled d a.text.now (fault 0 0) (found_at a.declarations.now a.b c.of-bundle.ensures a.text.now c.in_default.ensures) refl in
-    let held = held_done reads.1 c.copy_job.new.words _ c.read_records-records.result c.copy_job.ensures.1
-    (read_at a.declarations.now a.b c.of-bundle.ensures a.text.now c.read_records-records.ensures.1) c.in-Done.is in
-    (held_ready held).room.within
+-- `reads` is the formula of the text, which nothing refuses
+pub returns-in_err-read : goal.returns-in_err-read
+returns-in_err-read c =
+    λ f sets d.
+    let r = c.from_residual-in_err-read in
+    let p = err_from_is_err_and r.result r.ensures.1 in
+    let none : c.read_records.result ≡ None = grind arith in
+    let room : c.in_err-read.field-0.0 ≡ Check.Room = grind arith in
+    let reads = settled c.args.bundle.now c.args.text.now (fault 0 0) c.in_ok-text_fault.ensures refl in
+    rw (p.1, p.2, room)
+    (stored_refused c.text_fault.auto.area (omega arith) refl
+    (refused_records reads.1 (c.of-filed.ensures ∙ c.copy_job.ensures) c.read_records.ensures d none))
 
-pub returns-in-Full : goal.returns-in-Full
-returns-in-Full c =
-    λ sets d.
-    let a = c.args in
-    let reads = settled d a.text.now (fault 0 0) (found_at a.declarations.now a.b c.of-bundle.ensures a.text.now c.in_default.ensures) refl in
-    rw c.number-in-Full.ensures
-    (stored_refused c.text_fault.auto.area (c.read_records-records.ensures.0 ∙ c.copy_job.ensures.0) refl
-    (refused_records reads.1 c.copy_job.new.words _ c.read_records-records.result c.copy_job.ensures.1
-    (read_at a.declarations.now a.b c.of-bundle.ensures a.text.now c.read_records-records.ensures.1) c.in-Full.is))
-
-pub returns-in-Done : goal.returns-in-Done
-returns-in-Done c =
-    λ sets d.
-    let a = c.args in
-    let reads = settled d a.text.now (fault 0 0) (found_at a.declarations.now a.b c.of-bundle.ensures a.text.now c.in_default.ensures) refl in
-    let held = held_done reads.1 c.copy_job.new.words _ c.read_records-records.result c.copy_job.ensures.1
-    (read_at a.declarations.now a.b c.of-bundle.ensures a.text.now c.read_records-records.ensures.1) c.in-Done.is in
-    stored_read held reads.1 (c.store_file.auto.out ∙ c.text_fault.auto.area) (c.read_records-records.ensures.0 ∙ c.copy_job.ensures.0) refl c.bytes.result
-    c.bytes.ensures c.store_file.ensures.1
+pub returns : goal.returns
+returns c =
+    λ f sets d.
+    let some : c.read_records.result ≡ Some c.in_ok-read.read = grind arith in
+    let reads = settled c.args.bundle.now c.args.text.now (fault 0 0) c.in_ok-text_fault.ensures refl in
+    let held = held_done reads.1 (c.of-filed.ensures ∙ c.copy_job.ensures) c.read_records.ensures some in
+    let s = c.store_file.ensures in
+    stored_read held reads.1 c.scratch.ensures d (s.0 ∙ c.text_fault.auto.area) (omega arith) refl s.1 s.2 s.3

@@ -3,6 +3,15 @@ use mathlib.Core.Path.{refl}
 use Rattle.logic.specs.Tests.{passed}
 use Rattle.rules.proofs.rules.cong_lists.Goals as goal
 
+pub returns-then-not-good : goal.returns-then-not-good
+unfolding passed
+returns-then-not-good c = rw (
+  ← c.term_field-left_kind.ensures,
+  ← c.term_field-right_kind.ensures,
+  ← c.term_field-left_symbol.ensures,
+  ← c.term_field-right_symbol.ensures,
+) c.if-not-good.true
+
 pub returns : goal.returns
 unfolding passed
 returns c =
@@ -12,7 +21,7 @@ returns c =
         ← c.term_field-right_kind.ensures,
         ← c.term_field-left_symbol.ensures,
         ← c.term_field-right_symbol.ensures,
-      );
+      ) c.if-not-good.false;
       body = refl;
       context = refl;
       lefts = c.term_field-lefts.ensures;

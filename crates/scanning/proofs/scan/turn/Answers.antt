@@ -1,25 +1,34 @@
 -- `scan::turn` meets its contract.
 use native.Mathlib.Omega.{arith}
-use mathlib.Core.Path.{sym, ◌∙◌}
+use mathlib.Core.Path.{refl, sym, ◌∙◌}
+use Rattle.std.specs.Prelude.{Ok, Err}
+use Rattle.std.proofs.lemmas.Result.{err_from_is_err_and}
 use Rattle.spots.specs.Judgement.{declared_by}
 use Rattle.spots.proofs.RunLaws.{run_fits}
 use Rattle.spots.proofs.ScanLaws.{lettered, turned_run, turned_inside, turned_closed, turned_not_inside, turned_not_closed, turned_stray}
 use Rattle.spots.proofs.ScanLaws.{first_cell, scanning_low, scanning_fits, scanning_some}
 use Rattle.scanning.proofs.scan.turn.Goals as goal
 
-pub word-m-requires : goal.word-m-requires
-word-m-requires c =
+pub word-requires : goal.word-requires
+word-requires c =
     let f = run_fits _ _ _ c.requires.inside c.run_end-end.ensures in
     (scanning_low (declared_by c.args.symbols c.args.variables) _ _ c.args.p _ c.requires.scanning, f.0, f.1, c.requires.symbols, c.requires.variables)
 
 pub lexeme_from-next-requires : goal.lexeme_from-next-requires
 lexeme_from-next-requires c = (run_fits _ _ _ c.requires.inside c.run_end-end.ensures).1
 
+pub returns-in_err-after : goal.returns-in_err-after
+returns-in_err-after c = λ held st.
+    let p = err_from_is_err_and c.from_residual.result c.from_residual.ensures.1 in
+    rw (p.1, p.2)
+    (turned_run (declared_by c.args.symbols c.args.variables) _ _ c.args.p _ c.requires.inside held st
+    (sym c.class_code-class.ensures ∙ c.if-class-eq6.true) _ c.run_end-end.ensures _ refl (Err _) (sym c.in_err-after.was ∙ c.word.ensures))
+
 pub returns-then-class-eq6 : goal.returns-then-class-eq6
 returns-then-class-eq6 c = λ held st.
     turned_run (declared_by c.args.symbols c.args.variables) _ _ c.args.p _ c.requires.inside held st
     (sym c.class_code-class.ensures ∙ c.if-class-eq6.true) _ c.run_end-end.ensures _
-    c.lexeme_from-next.ensures _ c.word-m.ensures
+    c.lexeme_from-next.ensures (Ok _) (sym c.in_ok-after.was ∙ c.word.ensures)
 
 pub overflow_mul-spot : goal.overflow_mul-spot
 overflow_mul-spot c =
@@ -31,8 +40,8 @@ cell-requires c =
     let l = scanning_low (declared_by c.args.symbols c.args.variables) _ _ c.args.p _ c.requires.scanning in
     omega (arith, l)
 
-pub push-q-requires : goal.push-q-requires
-push-q-requires c =
+pub push-place-requires : goal.push-place-requires
+push-place-requires c =
     let f = scanning_fits (declared_by c.args.symbols c.args.variables) _ _ c.args.p _ c.requires.scanning in (
       scanning_low (declared_by c.args.symbols c.args.variables) _ _ c.args.p _ c.requires.scanning,
       f.0,
@@ -49,7 +58,7 @@ returns-then-inside-lt20 c = λ held st.
     (first_cell c.args.p.spot _ (c.from-inside.ensures
     ∙ c.cell.ensures)) c.if-inside-lt20.true
     (omega (arith, c.requires.room)) _
-    c.lexeme_from-next-then-inside-lt20.ensures _ c.push-q.ensures.placed _ c.push-q.ensures.stored
+    c.lexeme_from-next-then-inside-lt20.ensures _ c.push-place.ensures.placed _ c.push-place.ensures.stored
 
 pub returns-then-class-eq3 : goal.returns-then-class-eq3
 returns-then-class-eq3 c = λ held st.
@@ -72,8 +81,8 @@ cell-requires-then-class-eq4 c =
     let l = scanning_low (declared_by c.args.symbols c.args.variables) _ _ c.args.p _ c.requires.scanning in
     omega (arith, l)
 
-pub pop-q-requires : goal.pop-q-requires
-pop-q-requires c =
+pub pop-place-requires : goal.pop-place-requires
+pop-place-requires c =
     let f = scanning_fits (declared_by c.args.symbols c.args.variables) _ _ c.args.p _ c.requires.scanning in
     let b = c.from-back.ensures ∙ c.cell-then-class-eq4.ensures in
     record {
@@ -93,7 +102,7 @@ returns-then-back-lt99 c = λ held st.
     ∙ c.if-class-eq4.true) (lettered c.args.symbols c.args.variables) _
     (c.from-back.ensures ∙ c.cell-then-class-eq4.ensures)
     c.if-back-lt99.true _
-    c.lexeme_from-next-then-back-lt99.ensures _ _ c.pop-q.ensures
+    c.lexeme_from-next-then-back-lt99.ensures _ _ c.pop-place.ensures
 
 pub returns-then-class-eq4 : goal.returns-then-class-eq4
 returns-then-class-eq4 c = λ held st.

@@ -17,24 +17,24 @@ cell-requires c =
     let r = word_range (word_of (part c.args.text.now c.args.start c.args.end)) in
     omega (arith, c.word_code-code.ensures, r.1, c.requires.0)
 
-pub returns-then-known_as : goal.returns-then-known_as
-returns-then-known_as c =
-    met_name _ _ _ _ _ c.word_code-code.result c.word_code-code.ensures _ (c.from-next.ensures ∙ c.cell.ensures) _
-    (c.from-kind.ensures ∙ c.cell-then-code-eq9.ensures) _ c.known_as.ensures
-    c.if-next-lt20.true c.if-code-eq9.true c.if-known_as.true
-
-pub returns-then-code-eq9 : goal.returns-then-code-eq9
-returns-then-code-eq9 c =
-    met_unknown _ _ _ _ _ c.word_code-code.result c.word_code-code.ensures _ (c.from-next.ensures ∙ c.cell.ensures) _
-    (c.from-kind.ensures ∙ c.cell-then-code-eq9.ensures) _ c.known_as.ensures
-    c.if-next-lt20.true c.if-code-eq9.true c.if-known_as.false
-
-pub returns-then-next-lt20 : goal.returns-then-next-lt20
-returns-then-next-lt20 c =
-    met_word _ _ _ _ _ c.word_code-code.result c.word_code-code.ensures _ (c.from-next.ensures ∙ c.cell.ensures)
-    c.if-next-lt20.true c.if-code-eq9.false
-
-pub returns : goal.returns
-returns c =
+pub returns-then-next-ge20 : goal.returns-then-next-ge20
+returns-then-next-ge20 c =
     met_refused _ _ _ _ _ c.word_code-code.result c.word_code-code.ensures _ (c.from-next.ensures ∙ c.cell.ensures)
-    c.if-next-lt20.false _ c.viable_bytes-viable.ensures.0
+    c.if-next-ge20.true _ c.viable_bytes-viable.ensures.0
+
+pub returns-then-not-known : goal.returns-then-not-known
+returns-then-not-known c =
+    met_unknown _ _ _ _ _ c.word_code-code.result c.word_code-code.ensures _ (c.from-next.ensures ∙ c.cell.ensures) _
+    (c.from-kind.ensures ∙ c.cell-then-code-eq9.ensures) _ c.known_as-known.ensures
+    c.if-next-ge20.false c.if-code-eq9.true c.if-not-known.true
+
+pub returns-else-not-known : goal.returns-else-not-known
+returns-else-not-known c =
+    met_name _ _ _ _ _ c.word_code-code.result c.word_code-code.ensures _ (c.from-next.ensures ∙ c.cell.ensures) _
+    (c.from-kind.ensures ∙ c.cell-then-code-eq9.ensures) _ c.known_as-known.ensures
+    c.if-next-ge20.false c.if-code-eq9.true c.if-not-known.false
+
+pub returns-else-code-eq9 : goal.returns-else-code-eq9
+returns-else-code-eq9 c =
+    met_word _ _ _ _ _ c.word_code-code.result c.word_code-code.ensures _ (c.from-next.ensures ∙ c.cell.ensures)
+    c.if-next-ge20.false c.if-code-eq9.false

@@ -8,7 +8,8 @@ use Rattle.bundle.proofs.LinkNotes.{noted_none, lower_up}
 use Rattle.logic.specs.Rules.{steps_fault, last_pairs}
 use Rattle.logic.proofs.Firsts.{rest_start, rest_on, rest_here, rest_end}
 use Rattle.images.proofs.ReadingRight.{fault_right, pairs_right, lent_right}
-use Rattle.steps.proofs.Verdicts.{number_some, last_later}
+use Rattle.steps.proofs.Verdicts.{last_later}
+use Rattle.logic.proofs.CheckNumbers.{number_some}
 use Rattle.steps.proofs.steps.steps_fault_in.Goals as goal
 
 pub loop-k-init : goal.loop-k-init

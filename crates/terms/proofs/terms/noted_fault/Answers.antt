@@ -9,7 +9,7 @@ use Rattle.bundle.proofs.Filed.{filed_none}
 use Rattle.bundle.proofs.LinkNotes.{zeros, noted_none, lower_up}
 use Rattle.logic.specs.Checks.{terms_fault}
 use Rattle.logic.proofs.Firsts.{rest_start, rest_on, rest_here, rest_end}
-use Rattle.declarations.proofs.Failing.{number_not}
+use Rattle.logic.proofs.CheckNumbers.{number_some}
 use Rattle.duplicates.specs.Digests.{term_digest}
 use Rattle.sorting.specs.Notes.{SortsFit}
 use Rattle.duplicates.proofs.Digests.{term_filed}
@@ -33,7 +33,7 @@ loop-i-init c =
 
 pub returns-in-Err : goal.returns-in-Err
 returns-in-Err c =
-    sym (c.loop-i.invariant.3 ∙ rest_here _ _ _ c.in-Err.ensures.0 (omega arith) (number_not c.in-Err.check))
+    sym (c.loop-i.invariant.3 ∙ rest_here _ _ _ c.in-Err.ensures.0 (omega arith) (number_some c.in-Err.check))
 
 pub loop-i-preserved : goal.loop-i-preserved
 loop-i-preserved c =

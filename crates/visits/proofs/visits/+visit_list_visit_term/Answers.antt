@@ -1,29 +1,37 @@
-use Prim.Native.Nat.{ℕ, ◌+◌}
-use native.Mathlib.Omega.{arith}
-use borrow.Author.Rules.{rules}
-use mathlib.Core.Path.{◌≡◌, sym, ◌∙◌}
+-- Each answer cites a law of ListTurns or TermTurns; here their arguments are only fetched from `c`.
+use mathlib.Core.Path.{◌≡◌, sym, ap, subst, ◌∙◌}
 use mathlib.Core.Bool.{true, false}
-use mir.Syntax.{w32}
-use mir.Val.{Fits}
-use lib.ListN.{get_or, set, length-set}
+use Prim.Native.Nat.{ℕ}
+use native.Mathlib.Omega.{arith}
+use Rattle.std.proofs.lemmas.Bool.Decides.{nat_tests}
 use Rattle.bundle.specs.Bundle.{Bundle, link_of, term_of}
-use Rattle.scratch.specs.Stack.{halves, half_of}
+use Rattle.bundle.specs.File.{own_counts}
+use Rattle.bundle.specs.declared.Counts.{Counts}
+use Rattle.bundle.specs.Limits.{Within}
+use Rattle.bundle.specs.declared.records.TermWords.{TermWords}
+use Rattle.bundle.specs.RecordWords.{as_term}
+use Rattle.scratch.specs.Stack.{half_of}
+use Rattle.expansion.specs.File.{counts_in}
+use Rattle.placing.specs.Outcomes.{VisitFits}
 use Rattle.placing.proofs.Pairs.{Pair}
-use Rattle.visits.proofs.ListTurns.{left_le, LinkReads, list_none, first_asks, first_full, first_words, first_height, rest_asks, list_more}
-use Rattle.visits.proofs.TermTurns.{Reads, quantified, term_words_lem, term_variable, scope_closed, scope_asks, scope_full, scope_ready, scope_done}
-use Rattle.visits.proofs.TermTurns.{args_asks, args_full, args_ready, apply_done, let_closed, body_asks, body_full, body_words, body_ready, body_done}
-use Rattle.placing.proofs.Indexes.{list_holds, full_visit, full_list, step_indexed, leaf_indexed, let_indexed}
+use Rattle.visits.proofs.ListTurns.{left_le, LinkReads, list_none, first_asks, first_full, first_height, rest_asks, list_more}
+use Rattle.visits.proofs.TermTurns.{Reads, term_words_lem, term_variable, scope_closed, scope_asks, scope_word, scope_full, scope_done}
+use Rattle.visits.proofs.TermTurns.{args_asks, args_full, args_ready, apply_done, let_closed, body_asks, body_full, body_ready, body_done}
 use Rattle.visits.proofs.visits.+visit_list_visit_term.Goals as goal
 
--- the list's first link
-link_reads : {b : Bundle} {l value next : ℕ} → (l ≡ 0 → ⊥) → value ≡ (link_of b l).value → next ≡ (link_of b l).next → LinkReads b l value next
-link_reads some value next = record { some = some; value_is = value; next_is = next }
+-- what the scratch s of the filed b says of its counts, of a link, of a term
+within : {s b : Bundle} {k : Counts} → s ≡ b → (k ≡ own_counts s) × Within k → Within (counts_in b)
+within e k = subst (λ (x : Bundle). Within (own_counts x)) e (subst Within k.0 k.1)
 
--- the term's record
-term_reads : {b : Bundle} {t kind first second third : ℕ}
-    → kind ≡ (term_of b t).kind → first ≡ (term_of b t).a → second ≡ (term_of b t).b → third ≡ (term_of b t).c
-    → Reads b t kind first second third
-term_reads k f s h = record { kind_is = k; first_is = f; second_is = s; third_is = h }
+link_reads : {s b : Bundle} {l value next : ℕ} → s ≡ b → (l ≡ 0 → ⊥) → value ≡ (link_of s l).value → next ≡ (link_of s l).next → LinkReads b l value next
+link_reads {s} {b} {l} e some v n = record {
+  some = some;
+  value_is = v ∙ ap (λ (x : Bundle). (link_of x l).value) e;
+  next_is = n ∙ ap (λ (x : Bundle). (link_of x l).next) e;
+}
+
+term_reads : {s b : Bundle} {t : ℕ} {w : TermWords} → s ≡ b → as_term w ≡ term_of s t → Reads b t w
+term_reads {s} {b} {t} e r = record { is = r ∙ ap (λ (x : Bundle). term_of x t) e }
 
 -- the word that holds a result and a step
 pair : {p x y : ℕ} → half_of true p ≡ x → half_of false p ≡ y → Pair p x y
@@ -32,317 +40,177 @@ pair upper lower = record { upper = upper; lower = lower }
 -- ---- the visit to a list
 
 pub visit_list-returns-then-list-eq0 : goal.visit_list-returns-then-list-eq0
-visit_list-returns-then-list-eq0 t c = (list_none c.requires.0 c.if-list-eq0.true, list_holds c.requires.1)
+visit_list-returns-then-list-eq0 t c =
+    list_none (within c.scratch.ensures c.counts.ensures) c.if-list-eq0.true
 
-pub visit_list-visit_term-visited-requires : goal.visit_list-visit_term-visited-requires
-visit_list-visit_term-visited-requires t c =
-    let k = first_asks c.requires.0
-    (link_reads c.if-list-eq0.false c.link_field-value.ensures.0 c.link_field-next.ensures.0) in (
-      omega (arith, c.decreases, k.1),
-      (k.0, c.requires.1),
-    )
+pub visit_list-visit_term-requires : goal.visit_list-visit_term-requires
+visit_list-visit_term-requires t c =
+    let reads = link_reads c.scratch-scratch.ensures c.if-list-eq0.false c.link_field-value.ensures.0 c.link_field-next.ensures.0 in
+    let k = first_asks c.requires reads in
+    (omega (arith, c.decreases, k.1), k.0)
 
-pub visit_list-pack-pair-requires : goal.visit_list-pack-pair-requires
-visit_list-pack-pair-requires t c =
-    first_words c.requires.0
-    (link_reads c.if-list-eq0.false c.link_field-value.ensures.0 c.link_field-next.ensures.0) c.visit_term-visited.ensures.0 c.in-Done.is
-    (λ i. omega (arith, c.type_inv.words i))
+pub visit_list-returns-in_err-visited : goal.visit_list-returns-in_err-visited
+visit_list-returns-in_err-visited t c =
+    let reads = link_reads c.scratch-scratch.ensures c.if-list-eq0.false c.link_field-value.ensures.0 c.link_field-next.ensures.0 in
+    rw c.from_residual.ensures (first_full c.requires reads c.visit_term.ensures c.in_err-visited.was)
 
 -- a place for the pair
-pub visit_list-offset_bounds-stack-height : goal.visit_list-offset_bounds-stack-height
-visit_list-offset_bounds-stack-height t c =
-    let k = first_height c.requires.0 (link_reads c.if-list-eq0.false c.link_field-value.ensures.0 c.link_field-next.ensures.0)
-    c.visit_term-visited.ensures.0 c.in-Done.is in
-    omega (arith, k.1)
-
-pub visit_list-bounds-stack-height : goal.visit_list-bounds-stack-height
-visit_list-bounds-stack-height t c =
-    let k = first_height c.requires.0 (link_reads c.if-list-eq0.false c.link_field-value.ensures.0 c.link_field-next.ensures.0)
-    c.visit_term-visited.ensures.0 c.in-Done.is in
-    k.2
-
-pub visit_list-overflow_add-height : goal.visit_list-overflow_add-height
-visit_list-overflow_add-height t c =
-    let k = first_height c.requires.0 (link_reads c.if-list-eq0.false c.link_field-value.ensures.0 c.link_field-next.ensures.0)
-    c.visit_term-visited.ensures.0 c.in-Done.is in
-    omega (arith, k.1)
+pub visit_list-prove-unreachable-requires-2 : goal.visit_list-prove-unreachable-requires-2
+visit_list-prove-unreachable-requires-2 t c =
+    let reads = link_reads c.scratch-scratch.ensures c.if-list-eq0.false c.link_field-value.ensures.0 c.link_field-next.ensures.0 in
+    let k = first_height c.requires reads c.visit_term.ensures c.in_ok-visited.was in
+    omega (arith, k.2)
 
 pub visit_list-visit_list-requires : goal.visit_list-visit_list-requires
 visit_list-visit_list-requires t c =
-    let k = rest_asks c.requires.0
-    (link_reads c.if-list-eq0.false c.link_field-value.ensures.0 c.link_field-next.ensures.0) c.visit_term-visited.ensures.0 c.in-Done.is
-    (pair c.pack-pair.ensures.0 c.pack-pair.ensures.1) in (
-      omega (arith, c.decreases, k.1),
-      (k.0, c.visit_term-visited.ensures.1.held _ _ _ c.in-Done.is),
-    )
+    let reads = link_reads c.scratch-scratch.ensures c.if-list-eq0.false c.link_field-value.ensures.0 c.link_field-next.ensures.0 in
+    let k = rest_asks c.requires reads c.visit_term.ensures c.in_ok-visited.was (pair c.pack.ensures.0 c.pack.ensures.1) in
+    (omega (arith, c.decreases, k.1), k.0)
 
-pub visit_list-returns-in-Full : goal.visit_list-returns-in-Full
-visit_list-returns-in-Full t c = (
-  first_full c.requires.0
-      (link_reads c.if-list-eq0.false c.link_field-value.ensures.0 c.link_field-next.ensures.0) c.visit_term-visited.ensures.0 c.in-Full.is,
-  full_list,
-)
-
-pub visit_list-returns-in-Done : goal.visit_list-returns-in-Done
-visit_list-returns-in-Done t c = (
-  list_more c.requires.0
-      (link_reads c.if-list-eq0.false c.link_field-value.ensures.0 c.link_field-next.ensures.0) c.visit_term-visited.ensures.0
-      c.in-Done.is
-      (pair c.pack-pair.ensures.0 c.pack-pair.ensures.1) c.visit_list.ensures.0,
-  c.visit_list.ensures.1,
-)
+pub visit_list-returns : goal.visit_list-returns
+visit_list-returns t c =
+    let reads = link_reads c.scratch-scratch.ensures c.if-list-eq0.false c.link_field-value.ensures.0 c.link_field-next.ensures.0 in
+    list_more c.requires reads c.visit_term.ensures c.in_ok-visited.was (pair c.pack.ensures.0 c.pack.ensures.1) c.visit_list.ensures
 
 -- ---- the visit to a term
 
 -- ---- a variable
 
 pub visit_term-close_variable-requires : goal.visit_term-close_variable-requires
-visit_term-close_variable-requires t c =
-    let k = term_words_lem c.requires.0 in
-    (c.requires.0.ready, k.0, k.1)
+visit_term-close_variable-requires t c = term_words_lem c.requires (within c.scratch-scratch.ensures c.counts.ensures)
 
 pub visit_term-returns-then-kind-eq-VARIABLE : goal.visit_term-returns-then-kind-eq-VARIABLE
-visit_term-returns-then-kind-eq-VARIABLE t c = (
-  term_variable c.requires.0
-      (term_reads c.term_field-kind.ensures.0 c.term_field-first.ensures.0 c.term_field-second.ensures.0 c.term_field-third.ensures.0) c.if-kind-eq-VARIABLE.true c.close_variable.ensures.0 c.close_variable.ensures.1,
-  leaf_indexed
-      c.requires.1
-      c.args.term
-      c.term_field-first.result
-      c.args.context
-      c.close_variable.ensures.1,
-)
+visit_term-returns-then-kind-eq-VARIABLE t c =
+    let reads = term_reads c.scratch-scratch.ensures c.term_words-words.ensures.0 in
+    term_variable c.requires reads c.if-kind-eq-VARIABLE.true c.close_variable.ensures.0 c.close_variable.ensures.1
 
 -- ---- a quantifier
 
-pub visit_term-open_quantifier-opened-requires : goal.visit_term-open_quantifier-opened-requires
-visit_term-open_quantifier-opened-requires t c = (
-  c.requires.0.ready,
-  c.term_field-first.ensures.1,
-  (term_words_lem
-      c.requires.0).0,
-  c.requires.1,
-)
+pub visit_term-open_quantifier-requires : goal.visit_term-open_quantifier-requires
+visit_term-open_quantifier-requires t c =
+    let k = term_words_lem c.requires (within c.scratch-scratch.ensures c.counts.ensures) in
+    (c.term_words-words.ensures.1.first, k.0)
 
-pub visit_term-visit_term-visited-requires : goal.visit_term-visit_term-visited-requires
-visit_term-visit_term-visited-requires t c =
-    let k = scope_asks c.requires.0 (term_reads c.term_field-kind.ensures.0 c.term_field-first.ensures.0 c.term_field-second.ensures.0 c.term_field-third.ensures.0)
-    (sym c.is_binder.ensures ∙ c.if-is_binder.true) c.open_quantifier-opened.ensures.0 c.open_quantifier-opened.ensures.1
-    c.in-Done.is in (
-      omega (arith, c.decreases, k.1),
-      (k.0, c.open_quantifier-opened.ensures.2.held _ _ _ c.in-Done.is),
-    )
+pub visit_term-returns-in_err-opened : goal.visit_term-returns-in_err-opened
+visit_term-returns-in_err-opened t c =
+    let reads = term_reads c.scratch-scratch.ensures c.term_words-words.ensures.0 in
+    rw c.from_residual.ensures (scope_closed c.requires reads (sym c.is_binder.ensures ∙ c.if-is_binder.true) c.open_quantifier.ensures c.in_err-opened.was)
+
+pub visit_term-visit_term-requires : goal.visit_term-visit_term-requires
+visit_term-visit_term-requires t c =
+    let reads = term_reads c.scratch-scratch.ensures c.term_words-words.ensures.0 in
+    let k = scope_asks c.requires reads (sym c.is_binder.ensures ∙ c.if-is_binder.true) c.open_quantifier.ensures c.in_ok-opened.was in
+    (omega (arith, c.decreases, k.1), k.0)
+
+pub visit_term-returns-in_err-body : goal.visit_term-returns-in_err-body
+visit_term-returns-in_err-body t c =
+    let reads = term_reads c.scratch-scratch.ensures c.term_words-words.ensures.0 in
+    rw c.from_residual-in_err-body.ensures
+    (scope_full c.requires reads (sym c.is_binder.ensures ∙ c.if-is_binder.true) c.open_quantifier.ensures c.in_ok-opened.was c.visit_term.ensures
+    c.in_err-body.was)
 
 pub visit_term-close_quantifier-requires : goal.visit_term-close_quantifier-requires
 visit_term-close_quantifier-requires t c =
+    let reads = term_reads c.scratch-scratch.ensures c.term_words-words.ensures.0 in
     let q = sym c.is_binder.ensures ∙ c.if-is_binder.true in
-    let word : (i : ℕ) → Fits w32 (get_or c.visit_term-visited.new.words i 0) = search rules in
-    let k = scope_ready c.requires.0 (term_reads c.term_field-kind.ensures.0 c.term_field-first.ensures.0 c.term_field-second.ensures.0 c.term_field-third.ensures.0) q
-    c.open_quantifier-opened.ensures.0 c.open_quantifier-opened.ensures.1 c.in-Done.is
-    c.visit_term-visited.ensures.0 c.in-Done-visited.is
-    (λ i. omega (arith, word i)) in
-    let n = term_words_lem c.requires.0 in
-    let range = quantified c.term_field-kind.result q in
-    (k.0, n.0, n.1, q, omega (arith, range.1), k.1, k.2, k.3, c.visit_term-visited.ensures.1.held _ _ _ c.in-Done-visited.is)
+    let w = within c.scratch-scratch.ensures c.counts.ensures in
+    let k = term_words_lem c.requires w in
+    let fits = subst VisitFits c.in_ok-body.was c.visit_term.ensures.words in (
+      k.0,
+      k.1,
+      q,
+      c.term_words-words.ensures.1.kind,
+      scope_word c.requires reads q c.open_quantifier.ensures c.in_ok-opened.was w,
+      fits.0,
+      fits.1,
+    )
 
-pub visit_term-returns-in-Full : goal.visit_term-returns-in-Full
-visit_term-returns-in-Full t c = (
-  scope_closed c.requires.0 (term_reads c.term_field-kind.ensures.0 c.term_field-first.ensures.0 c.term_field-second.ensures.0 c.term_field-third.ensures.0)
-      (sym c.is_binder.ensures ∙ c.if-is_binder.true) c.open_quantifier-opened.ensures.0 c.open_quantifier-opened.ensures.1 c.in-Full.is,
-  full_visit,
-)
-
-pub visit_term-returns-in-Full-visited : goal.visit_term-returns-in-Full-visited
-visit_term-returns-in-Full-visited t c = (
-  scope_full c.requires.0 (term_reads c.term_field-kind.ensures.0 c.term_field-first.ensures.0 c.term_field-second.ensures.0 c.term_field-third.ensures.0)
-      (sym c.is_binder.ensures ∙ c.if-is_binder.true) c.open_quantifier-opened.ensures.0 c.open_quantifier-opened.ensures.1
-      c.in-Done.is c.visit_term-visited.ensures.0 c.in-Full-visited.is,
-  full_visit,
-)
-
-pub visit_term-returns-in-Done-visited : goal.visit_term-returns-in-Done-visited
-visit_term-returns-in-Done-visited t c = (
-  scope_done c.requires.0 (term_reads c.term_field-kind.ensures.0 c.term_field-first.ensures.0 c.term_field-second.ensures.0 c.term_field-third.ensures.0)
-      (sym c.is_binder.ensures ∙ c.if-is_binder.true) c.open_quantifier-opened.ensures.0 c.open_quantifier-opened.ensures.1
-      c.in-Done.is c.visit_term-visited.ensures.0
-      c.in-Done-visited.is c.close_quantifier.ensures.0
-      c.close_quantifier.ensures.1,
-  c.close_quantifier.ensures.2,
-)
+pub visit_term-returns-then-is_binder : goal.visit_term-returns-then-is_binder
+visit_term-returns-then-is_binder t c =
+    let reads = term_reads c.scratch-scratch.ensures c.term_words-words.ensures.0 in
+    scope_done c.requires reads (sym c.is_binder.ensures ∙ c.if-is_binder.true) c.open_quantifier.ensures c.in_ok-opened.was c.visit_term.ensures
+    c.in_ok-body.was c.close_quantifier.ensures.0 c.close_quantifier.ensures.1
 
 -- ---- the list of arguments, or of bound terms
 
-pub visit_term-visit_list-listed-requires : goal.visit_term-visit_list-listed-requires
-visit_term-visit_list-listed-requires t c = (
-  omega (
-    arith,
-    c.decreases,
-    left_le
-        c.term_field-second.result,
-  ),
-  (
-    args_asks c.requires.0 (term_reads c.term_field-kind.ensures.0 c.term_field-first.ensures.0 c.term_field-second.ensures.0 c.term_field-third.ensures.0)
-        c.if-kind-eq-VARIABLE.false (sym c.is_binder.ensures ∙ c.if-is_binder.false),
-    c.requires.1,
-  ),
-)
+pub visit_term-visit_list-requires : goal.visit_term-visit_list-requires
+visit_term-visit_list-requires t c =
+    let reads = term_reads c.scratch-scratch.ensures c.term_words-words.ensures.0 in (
+      omega (arith, c.decreases, left_le c.term_words-words.result.second),
+      args_asks c.requires reads c.if-kind-eq-VARIABLE.false (sym c.is_binder.ensures ∙ c.if-is_binder.false),
+    )
 
-pub visit_term-returns-in-Full-listed : goal.visit_term-returns-in-Full-listed
-visit_term-returns-in-Full-listed t c = (
-  args_full c.requires.0 (term_reads c.term_field-kind.ensures.0 c.term_field-first.ensures.0 c.term_field-second.ensures.0 c.term_field-third.ensures.0)
-      c.if-kind-eq-VARIABLE.false (sym c.is_binder.ensures ∙ c.if-is_binder.false) c.visit_list-listed.ensures.0
-      c.in-Full-listed.is,
-  full_visit,
-)
+pub visit_term-returns-in_err-top : goal.visit_term-returns-in_err-top
+visit_term-returns-in_err-top t c =
+    let reads = term_reads c.scratch-scratch.ensures c.term_words-words.ensures.0 in
+    rw c.from_residual-in_err-top.ensures
+    (args_full c.requires reads c.if-kind-eq-VARIABLE.false (sym c.is_binder.ensures ∙ c.if-is_binder.false) c.visit_list.ensures c.in_err-top.was)
+
+-- the pairs are on the stack
+pub visit_term-prove-unreachable-requires-2 : goal.visit_term-prove-unreachable-requires-2
+visit_term-prove-unreachable-requires-2 t c =
+    let reads = term_reads c.scratch-scratch.ensures c.term_words-words.ensures.0 in
+    let k = args_ready c.requires reads c.if-kind-eq-VARIABLE.false (sym c.is_binder.ensures ∙ c.if-is_binder.false) c.visit_list.ensures c.in_ok-top.was in
+    grind (arith, nat_tests)
 
 -- ---- an application
 
 pub visit_term-close_application-requires : goal.visit_term-close_application-requires
 visit_term-close_application-requires t c =
-    let k = args_ready c.requires.0 (term_reads c.term_field-kind.ensures.0 c.term_field-first.ensures.0 c.term_field-second.ensures.0 c.term_field-third.ensures.0)
-    c.if-kind-eq-VARIABLE.false (sym c.is_binder.ensures ∙ c.if-is_binder.false) c.visit_list-listed.ensures.0
-    c.in-Done-listed.is in
-    let n = term_words_lem c.requires.0 in (
-      k.0,
-      n.0,
-      n.1,
-      c.term_field-first.ensures.1,
-      k.1,
-      k.3,
-      c.visit_list-listed.ensures.1.held _ _
-          c.in-Done-listed.is,
-    )
+    let k = term_words_lem c.requires (within c.scratch-scratch.ensures c.counts.ensures) in
+    (k.0, k.1, c.term_words-words.ensures.1.first)
 
 pub visit_term-returns-then-kind-eq-APPLICATION : goal.visit_term-returns-then-kind-eq-APPLICATION
-visit_term-returns-then-kind-eq-APPLICATION t c = (
-  apply_done c.requires.0 (term_reads c.term_field-kind.ensures.0 c.term_field-first.ensures.0 c.term_field-second.ensures.0 c.term_field-third.ensures.0)
-      c.if-kind-eq-VARIABLE.false (sym c.is_binder.ensures ∙ c.if-is_binder.false) c.visit_list-listed.ensures.0
-      c.in-Done-listed.is
-      c.if-kind-eq-APPLICATION.true
-      c.close_application.ensures.0 c.close_application.ensures.1,
-  c.close_application.ensures.2,
-)
+visit_term-returns-then-kind-eq-APPLICATION t c =
+    let reads = term_reads c.scratch-scratch.ensures c.term_words-words.ensures.0 in
+    apply_done c.requires reads c.if-kind-eq-VARIABLE.false (sym c.is_binder.ensures ∙ c.if-is_binder.false) c.visit_list.ensures c.in_ok-top.was
+    c.if-kind-eq-APPLICATION.true c.close_application.ensures.0 c.close_application.ensures.1
 
 -- ---- a let
 
-pub visit_term-open_let-opened-requires : goal.visit_term-open_let-opened-requires
-visit_term-open_let-opened-requires t c =
-    let k = args_ready c.requires.0 (term_reads c.term_field-kind.ensures.0 c.term_field-first.ensures.0 c.term_field-second.ensures.0 c.term_field-third.ensures.0)
-    c.if-kind-eq-VARIABLE.false (sym c.is_binder.ensures ∙ c.if-is_binder.false) c.visit_list-listed.ensures.0
-    c.in-Done-listed.is in (
-      k.0,
-      c.term_field-first.ensures.1,
-      (term_words_lem
-          c.requires.0).0,
-      k.1,
-      k.3,
-    )
+pub visit_term-open_let-requires : goal.visit_term-open_let-requires
+visit_term-open_let-requires t c =
+    let k = term_words_lem c.requires (within c.scratch-scratch.ensures c.counts.ensures) in
+    (c.term_words-words.ensures.1.first, k.0)
 
-pub visit_term-visit_term-visited-requires-in-Done-opened : goal.visit_term-visit_term-visited-requires-in-Done-opened
-visit_term-visit_term-visited-requires-in-Done-opened t c =
-    let k = body_asks c.requires.0 (term_reads c.term_field-kind.ensures.0 c.term_field-first.ensures.0 c.term_field-second.ensures.0 c.term_field-third.ensures.0)
-    c.if-kind-eq-VARIABLE.false (sym c.is_binder.ensures ∙ c.if-is_binder.false) c.visit_list-listed.ensures.0
-    c.in-Done-listed.is c.if-kind-eq-APPLICATION.false c.open_let-opened.ensures.0
-    c.open_let-opened.ensures.1 c.in-Done-opened.is in
-    let indexed = (let_indexed (c.visit_list-listed.ensures.1.held _ _ c.in-Done-listed.is)
-    c.term_field-first.result
-    c.args.context
-    (halves true c.visit_list-listed.new.stack c.args.height
-    c.in-Done-listed.top) c.open_let-opened.ensures.1).held _ _
-    c.in-Done-opened.is in
-    (omega (arith, c.decreases, k.1), (k.0, indexed))
+pub visit_term-returns-in_err-inner : goal.visit_term-returns-in_err-inner
+visit_term-returns-in_err-inner t c =
+    let reads = term_reads c.scratch-scratch.ensures c.term_words-words.ensures.0 in
+    rw c.from_residual-in_err-inner.ensures
+    (let_closed c.requires reads c.if-kind-eq-VARIABLE.false (sym c.is_binder.ensures ∙ c.if-is_binder.false) c.visit_list.ensures c.in_ok-top.was
+    c.if-kind-eq-APPLICATION.false c.open_let.ensures c.in_err-inner.was)
 
--- numbers for the body's pair
-pub visit_term-pack-pair-requires : goal.visit_term-pack-pair-requires
-visit_term-pack-pair-requires t c =
-    body_words c.requires.0 (term_reads c.term_field-kind.ensures.0 c.term_field-first.ensures.0 c.term_field-second.ensures.0 c.term_field-third.ensures.0)
-    c.if-kind-eq-VARIABLE.false (sym c.is_binder.ensures ∙ c.if-is_binder.false) c.visit_list-listed.ensures.0
-    c.in-Done-listed.is c.if-kind-eq-APPLICATION.false c.open_let-opened.ensures.0
-    c.open_let-opened.ensures.1 c.in-Done-opened.is c.visit_term-visited-in-Done-opened.ensures.0 c.in-Done-visited-2.is
-    (λ i. omega (arith, c.type_inv.words i))
+pub visit_term-visit_term-requires-2 : goal.visit_term-visit_term-requires-2
+visit_term-visit_term-requires-2 t c =
+    let reads = term_reads c.scratch-scratch.ensures c.term_words-words.ensures.0 in
+    let k = body_asks c.requires reads c.if-kind-eq-VARIABLE.false (sym c.is_binder.ensures ∙ c.if-is_binder.false) c.visit_list.ensures c.in_ok-top.was
+    c.if-kind-eq-APPLICATION.false c.open_let.ensures c.in_ok-inner.was in
+    (omega (arith, c.decreases, k.1), k.0)
+
+pub visit_term-returns-in_err-body-2 : goal.visit_term-returns-in_err-body-2
+visit_term-returns-in_err-body-2 t c =
+    let reads = term_reads c.scratch-scratch.ensures c.term_words-words.ensures.0 in
+    rw c.from_residual-in_err-body-2.ensures
+    (body_full c.requires reads c.if-kind-eq-VARIABLE.false (sym c.is_binder.ensures ∙ c.if-is_binder.false) c.visit_list.ensures c.in_ok-top.was
+    c.if-kind-eq-APPLICATION.false c.open_let.ensures c.in_ok-inner.was c.visit_term-2.ensures c.in_err-body-2.was)
 
 -- a place for the body's pair
-pub visit_term-offset_bounds-stack-top : goal.visit_term-offset_bounds-stack-top
-visit_term-offset_bounds-stack-top t c = omega (
-  arith,
-  (body_ready c.requires.0 (term_reads c.term_field-kind.ensures.0 c.term_field-first.ensures.0 c.term_field-second.ensures.0 c.term_field-third.ensures.0)
-      c.if-kind-eq-VARIABLE.false (sym c.is_binder.ensures ∙ c.if-is_binder.false) c.visit_list-listed.ensures.0
-      c.in-Done-listed.is c.if-kind-eq-APPLICATION.false c.open_let-opened.ensures.0
-      c.open_let-opened.ensures.1 c.in-Done-opened.is c.visit_term-visited-in-Done-opened.ensures.0 c.in-Done-visited-2.is).1,
-)
-
-pub visit_term-bounds-stack-top : goal.visit_term-bounds-stack-top
-visit_term-bounds-stack-top t c = (body_ready c.requires.0 (term_reads c.term_field-kind.ensures.0 c.term_field-first.ensures.0 c.term_field-second.ensures.0 c.term_field-third.ensures.0)
-    c.if-kind-eq-VARIABLE.false (sym c.is_binder.ensures ∙ c.if-is_binder.false) c.visit_list-listed.ensures.0
-    c.in-Done-listed.is c.if-kind-eq-APPLICATION.false c.open_let-opened.ensures.0
-    c.open_let-opened.ensures.1 c.in-Done-opened.is c.visit_term-visited-in-Done-opened.ensures.0 c.in-Done-visited-2.is).2
-
-pub visit_term-overflow_add-top : goal.visit_term-overflow_add-top
-visit_term-overflow_add-top t c = omega (
-  arith,
-  (body_ready c.requires.0 (term_reads c.term_field-kind.ensures.0 c.term_field-first.ensures.0 c.term_field-second.ensures.0 c.term_field-third.ensures.0)
-      c.if-kind-eq-VARIABLE.false (sym c.is_binder.ensures ∙ c.if-is_binder.false) c.visit_list-listed.ensures.0
-      c.in-Done-listed.is c.if-kind-eq-APPLICATION.false c.open_let-opened.ensures.0
-      c.open_let-opened.ensures.1 c.in-Done-opened.is c.visit_term-visited-in-Done-opened.ensures.0 c.in-Done-visited-2.is).1,
-)
+pub visit_term-prove-unreachable-requires-3 : goal.visit_term-prove-unreachable-requires-3
+visit_term-prove-unreachable-requires-3 t c =
+    let reads = term_reads c.scratch-scratch.ensures c.term_words-words.ensures.0 in
+    let k = body_ready c.requires reads c.if-kind-eq-VARIABLE.false (sym c.is_binder.ensures ∙ c.if-is_binder.false) c.visit_list.ensures c.in_ok-top.was
+    c.if-kind-eq-APPLICATION.false c.open_let.ensures c.in_ok-inner.was c.visit_term-2.ensures c.in_ok-body-2.was in
+    omega (arith, k)
 
 pub visit_term-conclude-requires : goal.visit_term-conclude-requires
 visit_term-conclude-requires t c =
-    let k = body_ready c.requires.0 (term_reads c.term_field-kind.ensures.0 c.term_field-first.ensures.0 c.term_field-second.ensures.0 c.term_field-third.ensures.0)
-    c.if-kind-eq-VARIABLE.false (sym c.is_binder.ensures ∙ c.if-is_binder.false) c.visit_list-listed.ensures.0
-    c.in-Done-listed.is c.if-kind-eq-APPLICATION.false c.open_let-opened.ensures.0
-    c.open_let-opened.ensures.1 c.in-Done-opened.is c.visit_term-visited-in-Done-opened.ensures.0 c.in-Done-visited-2.is in
-    let n = term_words_lem
-    c.requires.0 in
-    let h = (args_ready c.requires.0 (term_reads c.term_field-kind.ensures.0 c.term_field-first.ensures.0 c.term_field-second.ensures.0 c.term_field-third.ensures.0)
-    c.if-kind-eq-VARIABLE.false (sym c.is_binder.ensures ∙ c.if-is_binder.false) c.visit_list-listed.ensures.0
-    c.in-Done-listed.is).1 in (
-      k.0,
-      omega arith,
-      n.0,
-      n.1,
-      omega (arith, c.pack-pair.ensures.0),
-      omega (arith, h),
-      omega (
-        arith,
-        k.2,
-        length-set c.visit_term-visited-in-Done-opened.new.stack
-            c.in-Done-listed.top c.pack-pair.result,
-      ),
-    )
+    let k = term_words_lem c.requires (within c.scratch-scratch.ensures c.counts.ensures) in
+    let fits = subst VisitFits c.in_ok-body-2.was c.visit_term-2.ensures.words in
+    (omega arith, k.0, k.1, fits.0)
 
-pub visit_term-returns-in-Full-opened : goal.visit_term-returns-in-Full-opened
-visit_term-returns-in-Full-opened t c = (
-  let_closed c.requires.0 (term_reads c.term_field-kind.ensures.0 c.term_field-first.ensures.0 c.term_field-second.ensures.0 c.term_field-third.ensures.0)
-      c.if-kind-eq-VARIABLE.false (sym c.is_binder.ensures ∙ c.if-is_binder.false) c.visit_list-listed.ensures.0
-      c.in-Done-listed.is c.if-kind-eq-APPLICATION.false c.open_let-opened.ensures.0
-      c.open_let-opened.ensures.1 c.in-Full-opened.is,
-  full_visit,
-)
-
-pub visit_term-returns-in-Full-visited-2 : goal.visit_term-returns-in-Full-visited-2
-visit_term-returns-in-Full-visited-2 t c = (
-  body_full c.requires.0 (term_reads c.term_field-kind.ensures.0 c.term_field-first.ensures.0 c.term_field-second.ensures.0 c.term_field-third.ensures.0)
-      c.if-kind-eq-VARIABLE.false (sym c.is_binder.ensures ∙ c.if-is_binder.false) c.visit_list-listed.ensures.0
-      c.in-Done-listed.is c.if-kind-eq-APPLICATION.false c.open_let-opened.ensures.0
-      c.open_let-opened.ensures.1 c.in-Done-opened.is c.visit_term-visited-in-Done-opened.ensures.0 c.in-Full-visited-2.is,
-  full_visit,
-)
-
-pub visit_term-returns-in-Done-visited-2 : goal.visit_term-returns-in-Done-visited-2
-visit_term-returns-in-Done-visited-2 t c =
-    let top = c.in-Done-listed.top in (
-      body_done c.requires.0 (term_reads c.term_field-kind.ensures.0 c.term_field-first.ensures.0 c.term_field-second.ensures.0 c.term_field-third.ensures.0)
-          c.if-kind-eq-VARIABLE.false (sym c.is_binder.ensures ∙ c.if-is_binder.false) c.visit_list-listed.ensures.0
-          c.in-Done-listed.is c.if-kind-eq-APPLICATION.false c.open_let-opened.ensures.0
-          c.open_let-opened.ensures.1 c.in-Done-opened.is c.visit_term-visited-in-Done-opened.ensures.0
-          c.in-Done-visited-2.is (pair c.pack-pair.ensures.0 c.pack-pair.ensures.1)
-          c.conclude.ensures.0 c.conclude.ensures.1,
-      step_indexed (c.visit_term-visited-in-Done-opened.ensures.1.held _ _ _ c.in-Done-visited-2.is) 5
-          c.args.context
-          c.args.term
-          c.in-Done-visited-2.result
-          (halves false (set c.visit_term-visited-in-Done-opened.new.stack top c.pack-pair.result)
-          c.args.height (top + 1))
-          c.conclude.ensures.1,
-    )
+pub visit_term-returns : goal.visit_term-returns
+visit_term-returns t c =
+    let reads = term_reads c.scratch-scratch.ensures c.term_words-words.ensures.0 in
+    body_done c.requires reads c.if-kind-eq-VARIABLE.false (sym c.is_binder.ensures ∙ c.if-is_binder.false) c.visit_list.ensures c.in_ok-top.was
+    c.if-kind-eq-APPLICATION.false c.open_let.ensures c.in_ok-inner.was c.visit_term-2.ensures c.in_ok-body-2.was (pair c.pack.ensures.0 c.pack.ensures.1)
+    c.conclude.ensures.0 c.conclude.ensures.1

@@ -1,6 +1,5 @@
 -- The cycle of calls {visit_list, visit_term}. The measure is the term's number first and the links left second, of which there are at most L, the
 -- limit of links: a term has L + 2 times its number and L + 1 more, a list of the term o has L + 2 times o and the links left from it on.
--- Each answer cites a law of ListTurns or TermTurns, over words, stack and counts; here their arguments are only fetched from `c`.
 use Prim.Native.Nat.{◌+◌, ◌*◌}
 use Rattle.bundle.specs.Limits.{limits}
 use Rattle.visits.proofs.ListTurns.{left}

@@ -1,10 +1,7 @@
 -- `jobs::is_closed` meets its contract. The invariant: the variables so far are not in the set.
-use Prim.Native.Nat.{ℕ, ◌+◌, ◌<◌}
 use native.Mathlib.Omega.{arith}
-use mathlib.Core.Path.{◌≡◌, sym}
-use mathlib.Core.Bool.{true, not}
+use mathlib.Core.Path.{sym}
 use borrow.Author.Count.{below_none, below_more}
-use Rattle.sets.specs.Sets.{member}
 use Rattle.writer.proofs.JobTests.{all_pass, one_fails}
 use Rattle.writer.proofs.jobs.is_closed.Goals as goal
 

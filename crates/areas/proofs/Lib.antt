@@ -1,3 +1,0 @@
--- Laws that the functions' proofs share.
---     Zeros   zeros in the lent areas
-pub mod Zeros

@@ -1,8 +1,0 @@
--- `filing::root_digest` meets its contract: the definition.
-use Rattle.filing.proofs.filing.root_digest.Goals as goal
-
-pub mixed-requires : goal.mixed-requires
-mixed-requires c = c.mixed-d.ensures.1
-
-pub returns : goal.returns
-returns c = (rw (← c.mixed-d.ensures.0) c.mixed.ensures.0, c.mixed.ensures.1)
