@@ -8,7 +8,7 @@ use scratch::Scratch;
 
 // Copies the header and every section of the job into its place in the words, where each section has room for its limit.
 pub fn copy_job<'a>(job: &Bundle<'_>, words: &'a mut [u32]) -> Scratch<'a>
-    requires { (job.now.version ≡ 1) × (words_of limits ≤ length words.old) }
+    requires { words_of limits ≤ length words.old }
     ensures { result ≡ job.now }
 {
     let counts = job.counts();

@@ -30,7 +30,8 @@ fn header(c: Counts, left: usize, right: usize) -> [u32; Bundle::HEADER]
 
 // Stores the file of the bundle in the scratch, with the claim that `left` is `right`, at the start of the output. Its length in bytes.
 pub fn store_file(scratch: &Scratch<'_>, left: usize, right: usize, out: &mut [u8]) -> usize
-    requires { (left ≤ largest_word) × (right ≤ largest_word) × (bytes_of limits ≤ length out.old) }
+    requires { (left ≤ largest_word) × (right ≤ largest_word) × (bytes_of limits ≤ length out.old)
+        × (scratch.now.version ≤ largest_word) }
     ensures { (length out.new ≡ length out.old) × Within (own_counts scratch.now) × (result ≡ bytes_of (own_counts scratch.now))
         × (take result out.new ≡ file_of (claiming scratch.now left right)) }
 {

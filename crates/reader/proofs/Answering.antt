@@ -5,7 +5,7 @@
 --     answer_is, refused_text                 the answer by what is read of the text; 19, 20 or 8
 --     Settled, settled, read_as               none of them: the text is read as φ
 --     refused_records                         16
---     Held, held_done                         the records are in the scratch
+--     Held, held_done, held_version                         the records are in the scratch
 --     stored_read                             the job: what is left before the zeros are written
 use Prim.Native.Nat.{ℕ, zero, suc, ◌≤◌}
 use native.Mathlib.Omega.{arith}
@@ -16,6 +16,7 @@ use lib.ListN.{length, take}
 use Rattle.std.specs.Prelude.{Option, Some, None}
 use lib.Dec.{eqb}
 use borrow.Author.Tests.{eqb-true}
+use Rattle.bundle.specs.Words.{largest_word}
 use Rattle.bundle.specs.Bundle.{Bundle}
 use Rattle.bundle.specs.Limits.{limits, bytes_of, Within}
 use Rattle.bundle.specs.File.{bundle_of, own_counts}
@@ -27,6 +28,7 @@ use Rattle.logic.specs.WellFormed.{TablesFormed}
 use Rattle.logic.proofs.Tests.{and_left, and_right}
 use Rattle.endings.specs.declared.ReadTerm.{ReadTerm}
 use Rattle.formulas.specs.ReadGives.{TooLarge, TextOutcome, done, full as tooLarge, ReadsText}
+use Rattle.formulas.proofs.Sizes.{file_longer}
 use Rattle.formulas.proofs.TextTurns.{too_large_never_fits}
 use Rattle.expansion.specs.Answer.{Written, Refused}
 use Rattle.expansion.specs.Visit.{claiming}
@@ -209,6 +211,12 @@ module _ {D : Bundle} {text : List ℕ} {φ : Formula} (s : Settled D text φ) {
       go : TextOutcome D φ D B r → Held D φ B x.term
       go (done h b e i) = record { bundle = b; term = cc }
       go (tooLarge h i) = absurd (cc)
+
+-- its version is a word, as that of the declarations
+pub held_version : {D B : Bundle} {φ : Formula} {t : ℕ} → Held D φ B t → D.version ≡ 1 → B.version ≤ largest_word
+held_version {D} {B} {φ} h d =
+    let e : B.version ≡ 1 = ap (λ (b : Bundle). b.version) h.bundle ∙ (file_longer (plain D φ) D).version ∙ d in
+    omega (arith, e)
 
 -- the scratch is S, and the file was stored, n bytes long
 pub stored_read : {D S B : Bundle} {φ : Formula} {t : ℕ} {text : List ℕ} → Held D φ B t → Settled D text φ → S ≡ B

@@ -17,7 +17,7 @@ use Rattle.bundle.specs.Limits.{limits, Within, symbols_at, variables_at, terms_
 use Rattle.bundle.specs.File.{tab, record_by, symbol_from, link_from, term_from, context_from, step_from, bundle_by}
 use Rattle.bundle.proofs.Fields.{symbol_same, variable_same, term_same, link_same, context_same, step_same, section_same, section_more}
 use Rattle.logic.specs.Longer.{with_variables, with_terms, with_links, with_contexts, with_steps}
-use Rattle.scratch.specs.Scratch.{word_in, bundle_in, Ready}
+use Rattle.scratch.specs.Scratch.{word_in, bundle_in, Roomy}
 
 -- v is w with the words vs from place p on
 pub record Written (w v : List ℕ) (p : ℕ) (vs : List ℕ) : Type 0 where
@@ -126,35 +126,35 @@ counted c v t l x s = record {
   steps = s;
 }
 
--- what an append leaves: words and counts, ready, of the bundle b
+-- what an append leaves: words and counts of the bundle b
 abbrev pub Grows : List ℕ → Counts → Bundle → Type 0
-Grows v r b = Ready v r × (bundle_in v r ≡ b)
+Grows v r b = Roomy v r × (bundle_in v r ≡ b)
 
 -- the words of a new record at the end of its section, and all else as it was
-module _ {w v : List ℕ} {c : Counts} (g : Ready w c) where
-  ready_more : {r : Counts} → Within r → r.version ≡ c.version → length v ≡ length w → Ready v r
-  ready_more h e l = record { room = record { within = h; long = omega (arith, g.room.long) }; version = e ∙ g.version }
+module _ {w v : List ℕ} {c : Counts} (g : Roomy w c) where
+  roomy_more : {r : Counts} → Within r → length v ≡ length w → Roomy v r
+  roomy_more h l = record { within = h; long = omega (arith, g.long) }
 
   pub variable_appended : {x : ℕ} → c.variables < limits.variables → Written w v (variables_at limits + c.variables) (x ∷ [])
       → Grows v (counted c (c.variables + 1) c.terms c.links c.contexts c.steps) (with_variables (bundle_in w c) (x ∷ []))
   unfolding bundle_by
   variable_appended {x} l u =
       let o : Written w v (variables_at limits + 1 * c.variables) (x ∷ []) = subst (λ n. Written w v (variables_at limits + n) (x ∷ [])) (omega arith) u in (
-        ready_more (record {
-          symbols = g.room.within.symbols;
+        roomy_more (record {
+          symbols = g.within.symbols;
           variables = omega arith;
-          terms = g.room.within.terms;
-          links = g.room.within.links;
-          contexts = g.room.within.contexts;
-          steps = g.room.within.steps;
-        }) refl o.long,
+          terms = g.within.terms;
+          links = g.within.links;
+          contexts = g.within.contexts;
+          steps = g.within.steps;
+        }) o.long,
         bundle_path
-            (symbols_kept w v c (λ j f t. o.below j (omega (arith, g.room.within))))
+            (symbols_kept w v c (λ j f t. o.below j (omega (arith, g.within))))
             (rows_more (λ u. u 0) 1 variable_same w v (variables_at limits) c.variables (λ j f t. o.below j (omega arith)) (x ∷ []) o.new)
-            (terms_kept w v c (λ j f t. o.above j (omega (arith, g.room.within))))
-            (links_kept w v c (λ j f t. o.above j (omega (arith, g.room.within))))
-            (contexts_kept w v c (λ j f t. o.above j (omega (arith, g.room.within))))
-            (steps_kept w v c (λ j f t. o.above j (omega (arith, g.room.within))))
+            (terms_kept w v c (λ j f t. o.above j (omega (arith, g.within))))
+            (links_kept w v c (λ j f t. o.above j (omega (arith, g.within))))
+            (contexts_kept w v c (λ j f t. o.above j (omega (arith, g.within))))
+            (steps_kept w v c (λ j f t. o.above j (omega (arith, g.within))))
             (o.below 7 (omega arith))
             (o.below 8 (omega arith)),
       )
@@ -163,21 +163,21 @@ module _ {w v : List ℕ} {c : Counts} (g : Ready w c) where
       → Grows v (counted c c.variables (c.terms + 1) c.links c.contexts c.steps) (with_terms (bundle_in w c) ((record { kind = kind; a = a; b = b; c = d }) ∷ []))
   unfolding bundle_by
   term_appended {kind} {a} {b} {d} l o = (
-    ready_more (record {
-      symbols = g.room.within.symbols;
-      variables = g.room.within.variables;
+    roomy_more (record {
+      symbols = g.within.symbols;
+      variables = g.within.variables;
       terms = omega arith;
-      links = g.room.within.links;
-      contexts = g.room.within.contexts;
-      steps = g.room.within.steps;
-    }) refl o.long,
+      links = g.within.links;
+      contexts = g.within.contexts;
+      steps = g.within.steps;
+    }) o.long,
     bundle_path
-        (symbols_kept w v c (λ j f t. o.below j (omega (arith, g.room.within))))
-        (variables_kept w v c (λ j f t. o.below j (omega (arith, g.room.within))))
+        (symbols_kept w v c (λ j f t. o.below j (omega (arith, g.within))))
+        (variables_kept w v c (λ j f t. o.below j (omega (arith, g.within))))
         (rows_more term_from 4 term_same w v (terms_at limits) c.terms (λ j f t. o.below j (omega arith)) (kind ∷ a ∷ b ∷ d ∷ []) o.new)
-        (links_kept w v c (λ j f t. o.above j (omega (arith, g.room.within))))
-        (contexts_kept w v c (λ j f t. o.above j (omega (arith, g.room.within))))
-        (steps_kept w v c (λ j f t. o.above j (omega (arith, g.room.within))))
+        (links_kept w v c (λ j f t. o.above j (omega (arith, g.within))))
+        (contexts_kept w v c (λ j f t. o.above j (omega (arith, g.within))))
+        (steps_kept w v c (λ j f t. o.above j (omega (arith, g.within))))
         (o.below 7 (omega arith))
         (o.below 8 (omega arith)),
   )
@@ -186,21 +186,21 @@ module _ {w v : List ℕ} {c : Counts} (g : Ready w c) where
       → Grows v (counted c c.variables c.terms (c.links + 1) c.contexts c.steps) (with_links (bundle_in w c) ((record { value = value; next = next }) ∷ []))
   unfolding bundle_by
   link_appended {value} {next} l o = (
-    ready_more (record {
-      symbols = g.room.within.symbols;
-      variables = g.room.within.variables;
-      terms = g.room.within.terms;
+    roomy_more (record {
+      symbols = g.within.symbols;
+      variables = g.within.variables;
+      terms = g.within.terms;
       links = omega arith;
-      contexts = g.room.within.contexts;
-      steps = g.room.within.steps;
-    }) refl o.long,
+      contexts = g.within.contexts;
+      steps = g.within.steps;
+    }) o.long,
     bundle_path
-        (symbols_kept w v c (λ j f t. o.below j (omega (arith, g.room.within))))
-        (variables_kept w v c (λ j f t. o.below j (omega (arith, g.room.within))))
-        (terms_kept w v c (λ j f t. o.below j (omega (arith, g.room.within))))
+        (symbols_kept w v c (λ j f t. o.below j (omega (arith, g.within))))
+        (variables_kept w v c (λ j f t. o.below j (omega (arith, g.within))))
+        (terms_kept w v c (λ j f t. o.below j (omega (arith, g.within))))
         (rows_more link_from 2 link_same w v (links_at limits) c.links (λ j f t. o.below j (omega arith)) (value ∷ next ∷ []) o.new)
-        (contexts_kept w v c (λ j f t. o.above j (omega (arith, g.room.within))))
-        (steps_kept w v c (λ j f t. o.above j (omega (arith, g.room.within))))
+        (contexts_kept w v c (λ j f t. o.above j (omega (arith, g.within))))
+        (steps_kept w v c (λ j f t. o.above j (omega (arith, g.within))))
         (o.below 7 (omega arith))
         (o.below 8 (omega arith)),
   )
@@ -209,21 +209,21 @@ module _ {w v : List ℕ} {c : Counts} (g : Ready w c) where
       → Grows v (counted c c.variables c.terms c.links (c.contexts + 1) c.steps) (with_contexts (bundle_in w c) ((record { kind = kind; a = a; b = b; parent = parent }) ∷ []))
   unfolding bundle_by
   context_appended {kind} {a} {b} {parent} l o = (
-    ready_more (record {
-      symbols = g.room.within.symbols;
-      variables = g.room.within.variables;
-      terms = g.room.within.terms;
-      links = g.room.within.links;
+    roomy_more (record {
+      symbols = g.within.symbols;
+      variables = g.within.variables;
+      terms = g.within.terms;
+      links = g.within.links;
       contexts = omega arith;
-      steps = g.room.within.steps;
-    }) refl o.long,
+      steps = g.within.steps;
+    }) o.long,
     bundle_path
-        (symbols_kept w v c (λ j f t. o.below j (omega (arith, g.room.within))))
-        (variables_kept w v c (λ j f t. o.below j (omega (arith, g.room.within))))
-        (terms_kept w v c (λ j f t. o.below j (omega (arith, g.room.within))))
-        (links_kept w v c (λ j f t. o.below j (omega (arith, g.room.within))))
+        (symbols_kept w v c (λ j f t. o.below j (omega (arith, g.within))))
+        (variables_kept w v c (λ j f t. o.below j (omega (arith, g.within))))
+        (terms_kept w v c (λ j f t. o.below j (omega (arith, g.within))))
+        (links_kept w v c (λ j f t. o.below j (omega (arith, g.within))))
         (rows_more context_from 4 context_same w v (contexts_at limits) c.contexts (λ j f t. o.below j (omega arith)) (kind ∷ a ∷ b ∷ parent ∷ []) o.new)
-        (steps_kept w v c (λ j f t. o.above j (omega (arith, g.room.within))))
+        (steps_kept w v c (λ j f t. o.above j (omega (arith, g.within))))
         (o.below 7 (omega arith))
         (o.below 8 (omega arith)),
   )
@@ -232,20 +232,20 @@ module _ {w v : List ℕ} {c : Counts} (g : Ready w c) where
       → Grows v (counted c c.variables c.terms c.links c.contexts (c.steps + 1)) (with_steps (bundle_in w c) ((record { rule = rule; context = context; left = left; right = right; premises = premises }) ∷ []))
   unfolding bundle_by
   step_appended {rule} {context} {left} {right} {premises} l o = (
-    ready_more (record {
-      symbols = g.room.within.symbols;
-      variables = g.room.within.variables;
-      terms = g.room.within.terms;
-      links = g.room.within.links;
-      contexts = g.room.within.contexts;
+    roomy_more (record {
+      symbols = g.within.symbols;
+      variables = g.within.variables;
+      terms = g.within.terms;
+      links = g.within.links;
+      contexts = g.within.contexts;
       steps = omega arith;
-    }) refl o.long,
+    }) o.long,
     bundle_path
-        (symbols_kept w v c (λ j f t. o.below j (omega (arith, g.room.within))))
-        (variables_kept w v c (λ j f t. o.below j (omega (arith, g.room.within))))
-        (terms_kept w v c (λ j f t. o.below j (omega (arith, g.room.within))))
-        (links_kept w v c (λ j f t. o.below j (omega (arith, g.room.within))))
-        (contexts_kept w v c (λ j f t. o.below j (omega (arith, g.room.within))))
+        (symbols_kept w v c (λ j f t. o.below j (omega (arith, g.within))))
+        (variables_kept w v c (λ j f t. o.below j (omega (arith, g.within))))
+        (terms_kept w v c (λ j f t. o.below j (omega (arith, g.within))))
+        (links_kept w v c (λ j f t. o.below j (omega (arith, g.within))))
+        (contexts_kept w v c (λ j f t. o.below j (omega (arith, g.within))))
         (rows_more step_from 5 step_same w v (steps_at limits) c.steps (λ j f t. o.below j (omega arith)) (rule ∷ context ∷ left ∷ right ∷ premises ∷ []) o.new)
         (o.below 7 (omega arith))
         (o.below 8 (omega arith)),

@@ -1,5 +1,5 @@
 -- The bundle that lent words of 32 bits stand for.
-use Rattle.std.specs.Prelude.{ℕ, ◌≤◌, ◌≡◌, List, length, get_or}
+use Rattle.std.specs.Prelude.{ℕ, ◌≤◌, List, length, get_or}
 use Rattle.bundle.specs.declared.Counts.{Counts}
 use Rattle.bundle.specs.Bundle.{Bundle}
 use Rattle.bundle.specs.Limits.{limits, words_of, Within}
@@ -17,8 +17,3 @@ bundle_in w c = bundle_by (word_in w) limits c
 pub record Roomy (w : List ℕ) (c : Counts) : Type 0 where
   pub within : Within c
   pub long : words_of limits ≤ length w
-
--- the words and counts of a bundle of version 1
-pub record Ready (w : List ℕ) (c : Counts) : Type 0 where
-  pub room : Roomy w c
-  pub version : c.version ≡ 1

@@ -4,7 +4,7 @@
 ghost use Rattle.std.specs.Prelude.{◌≡◌, ◌≤◌, length};
 ghost use Rattle.bundle.specs.Limits.{limits, Within};
 ghost use Rattle.bundle.specs.File.{own_counts};
-ghost use Rattle.scratch.specs.Scratch.{bundle_in, Ready};
+ghost use Rattle.scratch.specs.Scratch.{bundle_in, Roomy};
 
 pub mod records; // records.rt: the fields of a record
 pub mod lists; // lists.rt: lists of links
@@ -15,7 +15,7 @@ pub mod pairs; // pairs.rt: pairs of words
 use bundle::Counts;
 use std::marker::Model;
 
-// A bundle of version 1 in lent words. A clause sees the bundle.
+// A bundle in lent words. A clause sees the bundle.
 #[derive(Drop)]
 pub struct Scratch<'a> {
     words: &'a mut [u32],
@@ -24,19 +24,19 @@ pub struct Scratch<'a> {
 
 impl<'a> Model for Scratch<'a> {
     ghost use Rattle.bundle.specs.Bundle.{Bundle};
-    ghost use Rattle.scratch.specs.Scratch.{bundle_in, Ready};
+    ghost use Rattle.scratch.specs.Scratch.{bundle_in, Roomy};
 
     ghost Value = { Bundle };
 
     ghost view = { λ s. bundle_in s.words.now s.counts };
 
-    ghost invariant = { λ s. Ready s.words.now s.counts };
+    ghost invariant = { λ s. Roomy s.words.now s.counts };
 }
 
 impl<'a> Scratch<'a> {
     // The bundle that the words hold, by its counts.
     pub fn of(words: &'a mut [u32], counts: Counts) -> Scratch<'a>
-        requires { Ready words.old counts }
+        requires { Roomy words.old counts }
         ensures { result ≡ bundle_in words.old counts }
     {
         Scratch { words, counts }
@@ -44,7 +44,7 @@ impl<'a> Scratch<'a> {
 
     // The words, and the counts.
     pub fn words(&self) -> &[u32]
-        ensures { Ready result.now (own_counts self.now) × (bundle_in result.now (own_counts self.now) ≡ self.now) }
+        ensures { Roomy result.now (own_counts self.now) × (bundle_in result.now (own_counts self.now) ≡ self.now) }
     {
         let words = &*self.words;
         words

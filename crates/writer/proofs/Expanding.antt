@@ -2,6 +2,7 @@
 --     refused_early, refused_late             a check of 1 to 9 fails; 18, 15 or 17 does
 --     Begun                                   none of those does, and the job is in the scratch
 --     tables_formed, visit_asks, visit_is     what filing and the visit to the rule ask for then, and what the visit gives
+--     version_kept                            the version after the visit
 --     refused_full, written                   16 fails; no check does
 --     stored_expanded                         what is left before the zeros are written
 use Prim.Native.Nat.{ℕ, zero, suc, ◌≤◌, ◌<◌}
@@ -13,6 +14,7 @@ use native.Mathlib.Omega.{arith}
 use lib.ListN.{length, take}
 use lib.Dec.{ltb}
 use borrow.Author.Tests.{ltb-true}
+use Rattle.bundle.specs.Words.{largest_word}
 use Rattle.bundle.specs.Bundle.{Bundle}
 use Rattle.bundle.specs.Limits.{bytes_of, Within, within_of}
 use Rattle.bundle.specs.File.{bundle_of, own_counts}
@@ -29,6 +31,7 @@ use Rattle.expansion.specs.Answer.{Written, Refused}
 use Rattle.placing.specs.declared.Visited.{Visited}
 use Rattle.expansion.specs.Nodes.{Node, node_at}
 use Rattle.expansion.specs.Visit.{visit, visited, expanded, claiming}
+use Rattle.expansion.proofs.Grown.{visit_longer}
 use Rattle.expansion.specs.File.{counts_in, file_of}
 use Rattle.expansion.specs.Expansion.{long_enough, early_tests, job_tests, job_fault, writes, outcome_of, expansion}
 use Rattle.expansion.specs.Demands.{LongEnough}
@@ -154,6 +157,13 @@ module _ {f : List ℕ} {out words sets : ℕ} {B : Bundle} {left : ℕ} (b : Be
       → VisitOutcome (visited (bundle_of f)) B' r
   unfolding visited
   visit_is B' r o = rw (b.copied, b.read) at (o (node_at B left) visit_stands)
+
+-- the version after the visit is a word, as that of the job
+pub version_kept : (b : Bundle) {B' : Bundle} → B' ≡ (visited b).bundle → b.version ≡ 1 → B'.version ≤ largest_word
+unfolding visited
+version_kept b {B'} e one =
+    let kept : B'.version ≡ 1 = ap (λ (b : Bundle). b.version) e ∙ (visit_longer (node_at b b.left) 0 b).version ∙ one in
+    omega (arith, kept)
 
 -- ---- what is left before the zeros are written
 

@@ -25,7 +25,7 @@ use Rattle.expansion.proofs.AreasAfter.{stored_refused}
 use Rattle.placing.proofs.OutcomeFacts.{visit_done, outcome_full}
 use Rattle.logic.proofs.CheckNumbers.{number_some}
 use Rattle.writer.proofs.Expanding.{header_formed, areas_long, tables_formed, refused_early, refused_late, refused_full, stored_expanded}
-use Rattle.writer.proofs.Expanding.{Begun, visit_asks, visit_is}
+use Rattle.writer.proofs.Expanding.{Begun, visit_asks, visit_is, version_kept}
 use Rattle.writer.proofs.store_job.Goals as goal
 
 -- the job f; k says whether the areas are long enough, and the checks 1 to 9 find nothing: the job is opened as b
@@ -44,10 +44,10 @@ module _ (f : List ℕ) (out words sets : ℕ) {k : ℕ} (enough : k ≡ long_en
       let terms : length b.terms ≡ (counts_of f).terms = ap (λ (b : Bundle). length b.terms) (opened ∙ sym (bundle_is f refl)) ∙ terms_length f (counts_of f) in
       omega (arith, terms, formed.whole.within.terms, areas.stack)
 
-  version : b.version ≡ 1
+  version : (bundle_of f).version ≡ 1
   version =
       let formed = header_formed f out words sets none in
-      ap (λ (b : Bundle). b.version) (opened ∙ sym (bundle_is f refl)) ∙ ap (λ (k : Counts). k.version) (own_counts_are f (counts_of f)) ∙ formed.version
+      ap (λ (b : Bundle). b.version) (sym (bundle_is f refl)) ∙ ap (λ (k : Counts). k.version) (own_counts_are f (counts_of f)) ∙ formed.version
 
   -- B is the bundle in the scratch
   formed : {B : Bundle} → B ≡ b → TablesFormed B
@@ -98,10 +98,8 @@ returns-in_err-job_fault c =
 pub copy_job-requires : goal.copy_job-requires
 copy_job-requires c =
     let a = c.args in
-    let t = c.in_ok-bundle.ensures in (
-      version a.job.now (length a.out.now) (length a.words.now) (length a.sets.now) c.long_enough-enough.ensures t.fault t.bundle,
-      (areas a.job.now (length a.out.now) (length a.words.now) (length a.sets.now) c.long_enough-enough.ensures t.fault t.bundle).scratch,
-    )
+    let t = c.in_ok-bundle.ensures in
+    (areas a.job.now (length a.out.now) (length a.words.now) (length a.sets.now) c.long_enough-enough.ensures t.fault t.bundle).scratch
 
 pub of-filed-requires : goal.of-filed-requires
 of-filed-requires c =
@@ -122,10 +120,16 @@ store_file-requires c =
     let a = c.args in
     let t = c.in_ok-bundle.ensures in
     let some : c.visit_term.result ≡ Some c.in_ok-visited.visited = grind arith in
-    let words = rw some at c.visit_term.ensures.words in (
+    let words = rw some at c.visit_term.ensures.words in
+    let b = begun a.job.now (length a.out.now) (length a.words.now) (length a.sets.now) c.long_enough-enough.ensures t.fault t.bundle
+    c.in_ok-job_fault.ensures.1 c.claim_left-left.ensures.0 (c.of-filed.ensures ∙ c.copy_job.ensures) in
+    let told = visit_done (visit_is b _ _ c.visit_term.ensures.outcome) some in (
       c.claim_left-left.ensures.1,
       words.0,
       (areas a.job.now (length a.out.now) (length a.words.now) (length a.sets.now) c.long_enough-enough.ensures t.fault t.bundle).output,
+      rw c.scratch.ensures
+          (version_kept (bundle_of a.job.now) told.bundle
+          (version a.job.now (length a.out.now) (length a.words.now) (length a.sets.now) c.long_enough-enough.ensures t.fault t.bundle)),
     )
 
 pub returns-in_err-visited : goal.returns-in_err-visited

@@ -5,7 +5,6 @@ use Prim.Native.Nat.{◌≤◌}
 use native.Mathlib.Numerals.{add-one}
 use native.Mathlib.Omega.{arith}
 use lib.ListN.{length}
-use Rattle.bundle.specs.declared.Counts.{Counts}
 use Rattle.bundle.specs.Limits.{limits, header_words, symbols_at, sections, place_of}
 use Rattle.bundle.specs.File.{Whole, bundle_at}
 use Rattle.bundle.proofs.Limits.{within_words, section_fits}
@@ -14,7 +13,7 @@ use Rattle.files.proofs.copies.copy_job.Goals as goal
 
 pub copy_section-requires : goal.copy_section-requires
 unfolding header_words
-copy_section-requires c = (omega (arith, c.file-file.ensures.0.exact), omega (arith, c.requires.1))
+copy_section-requires c = (omega (arith, c.file-file.ensures.0.exact), omega (arith, c.requires))
 
 pub loop-s-init : goal.loop-s-init
 unfolding place_of
@@ -32,7 +31,7 @@ copy_section-requires-in-loop-s c =
     let whole : Whole c.file-file.result.now c.counts-counts.result = rw c.counts-counts.ensures.0 c.file-file.ensures.0 in
     let fits = section_fits c.counts-counts.result whole.within l.s (omega arith) in (
       rw (l.invariant.0, n) (omega (arith, fits.0, whole.exact)),
-      rw (l.invariant.1, n) (omega (arith, fits.1, fits.2, c.requires.1, c.copy_section.auto.words, l.auto.words)),
+      rw (l.invariant.1, n) (omega (arith, fits.1, fits.2, c.requires, c.copy_section.auto.words, l.auto.words)),
     )
 
 pub overflow_add-from : goal.overflow_add-from
@@ -57,7 +56,7 @@ loop-s-preserved c =
     let k = c.counts-counts in
     let n = c.extent-count.ensures in
     let fits = section_fits k.result k.ensures.1 l.s (omega arith) in
-    let room : place_of limits l.s ≤ length l.words = omega (arith, fits.2, c.requires.1, c.copy_section.auto.words, l.auto.words) in (
+    let room : place_of limits l.s ≤ length l.words = omega (arith, fits.2, c.requires, c.copy_section.auto.words, l.auto.words) in (
       rw (l.invariant.0, n, add-one l.s),
       rw (l.invariant.1, c.extent-most.ensures, c.largest-room.ensures, add-one l.s),
       rw (c.copy_section-in-loop-s.ensures, l.invariant.0, l.invariant.1, n, add-one l.s)
@@ -66,11 +65,7 @@ loop-s-preserved c =
 
 pub of-requires : goal.of-requires
 of-requires c =
-    let k = c.counts-counts in
-    record {
-      room = record { within = k.ensures.1; long = omega (arith, c.requires.1, c.loop-s.auto.words, c.copy_section.auto.words) };
-      version = ap (λ (k : Counts). k.version) k.ensures.0 ∙ c.requires.0;
-    }
+    record { within = c.counts-counts.ensures.1; long = omega (arith, c.requires, c.loop-s.auto.words, c.copy_section.auto.words) }
 
 pub returns : goal.returns
 returns c =

@@ -11,14 +11,14 @@ use Rattle.bundle.specs.Bundle.{Bundle}
 use Rattle.bundle.specs.Limits.{header_words, symbols_at, bytes_of, sections, place_of, Within}
 use Rattle.bundle.specs.File.{own_counts}
 use Rattle.bundle.proofs.Limits.{within_words, section_fits}
-use Rattle.scratch.specs.Scratch.{bundle_in, Ready}
+use Rattle.scratch.specs.Scratch.{bundle_in, Roomy}
 use Rattle.expansion.specs.Visit.{claiming}
 use Rattle.expansion.specs.File.{file_of}
 use Rattle.files.proofs.FileStored.{header_stored, section_stored, file_stored}
 use Rattle.files.proofs.stores.store_file.Goals as goal
 
--- the counts k are those of the bundle b, and the words w are ready by those
-ready_by : (b : Bundle) {w : List ℕ} {k : Counts} → k ≡ own_counts b → Ready w (own_counts b) → Ready w k
+-- the counts k are those of the bundle b, and the words w have room by those
+ready_by : (b : Bundle) {w : List ℕ} {k : Counts} → k ≡ own_counts b → Roomy w (own_counts b) → Roomy w k
 ready_by b counted ready = rw counted ready
 
 pub loop-s-init : goal.loop-s-init
@@ -37,7 +37,7 @@ store_section-requires-in-loop-s c =
     let ready = ready_by c.args.scratch.now k.ensures.0 c.words-words.ensures.0 in
     let long = l.invariant.2.long ∙ c.store_section.auto.out in
     let fits = section_fits k.result k.ensures.1 l.s (omega arith) in (
-      rw (l.invariant.0, n) (omega (arith, fits.1, fits.2, ready.room.long)),
+      rw (l.invariant.0, n) (omega (arith, fits.1, fits.2, ready.long)),
       rw (l.invariant.1, n) (omega (arith, fits.0, within_words k.result k.ensures.1, c.requires.2, long)),
     )
 
@@ -65,7 +65,7 @@ loop-s-preserved c =
     let ready = ready_by c.args.scratch.now k.ensures.0 c.words-words.ensures.0 in (
       rw (l.invariant.0, c.extent-most.ensures, c.largest-room.ensures, add-one l.s),
       rw (l.invariant.1, n, add-one l.s),
-      rw (add-one l.s) (section_stored c.words-words.result.now k.result c.args.left c.args.right ready.room l.s l.invariant.2
+      rw (add-one l.s) (section_stored c.words-words.result.now k.result c.args.left c.args.right ready l.s l.invariant.2
           (rw (l.invariant.0, l.invariant.1, n) at c.store_section-in-loop-s.ensures)),
     )
 

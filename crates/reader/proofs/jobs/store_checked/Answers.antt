@@ -8,7 +8,7 @@ use Rattle.logic.specs.declared.checks.Check.{Check}
 use Rattle.logic.specs.Failures.{check_number}
 use Rattle.logic.proofs.CheckNumbers.{number_some}
 use Rattle.expansion.proofs.AreasAfter.{stored_refused}
-use Rattle.reader.proofs.Answering.{areas_long, declared_version, copied_formed, refused_text, settled, refused_records, held_done, stored_read}
+use Rattle.reader.proofs.Answering.{areas_long, declared_version, copied_formed, refused_text, settled, refused_records, held_done, held_version, stored_read}
 use Rattle.reader.proofs.jobs.store_checked.Goals as goal
 
 pub text_fault-requires : goal.text_fault-requires
@@ -24,7 +24,7 @@ returns-in_err-text_fault c =
     (refused_text d c.args.text.now (fault (check_number k.check) k.«record») c.in_err-text_fault.ensures (number_some k.check)))
 
 pub copy_job-requires : goal.copy_job-requires
-copy_job-requires c = let d = c.requires.2 in (declared_version d, (areas_long d).scratch)
+copy_job-requires c = let d = c.requires.2 in (areas_long d).scratch
 
 pub of-filed-requires : goal.of-filed-requires
 of-filed-requires c = copied_formed c.requires.2 c.copy_job.ensures
@@ -33,7 +33,13 @@ pub store_file-requires : goal.store_file-requires
 store_file-requires c =
     let some : c.read_records.result ≡ Some c.in_ok-read.read = grind arith in
     let word = rw some at c.read_records.ensures.1 in
-    (word, omega arith, omega (arith, (areas_long c.requires.2).output, c.text_fault.auto.area))
+    let reads = settled c.args.bundle.now c.args.text.now (fault 0 0) c.in_ok-text_fault.ensures refl in
+    let held = held_done reads.1 (c.of-filed.ensures ∙ c.copy_job.ensures) c.read_records.ensures some in (
+      word,
+      omega arith,
+      omega (arith, (areas_long c.requires.2).output, c.text_fault.auto.area),
+      rw c.scratch.ensures (held_version held (declared_version c.requires.2)),
+    )
 
 -- `reads` is the formula of the text, which nothing refuses
 pub returns-in_err-read : goal.returns-in_err-read

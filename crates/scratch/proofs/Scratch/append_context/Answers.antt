@@ -12,7 +12,7 @@ invariant_of-self c =
     let l : s.counts.contexts < limits.contexts = omega (arith, (sized_as _ _ c.self.view_is).contexts) in
     rw (c.contexts_at.ensures.0, c.largest.ensures)
     (context_appended c.self.invariant l
-    (written_4 s.words.now (contexts_at limits + 4 * s.counts.contexts) _ _ _ _ (omega (arith, c.self.invariant.room.long)))).0
+    (written_4 s.words.now (contexts_at limits + 4 * s.counts.contexts) _ _ _ _ (omega (arith, c.self.invariant.long)))).0
 
 pub returns : goal.returns
 returns c =
@@ -20,4 +20,4 @@ returns c =
     let l : s.counts.contexts < limits.contexts = omega (arith, (sized_as _ _ c.self.view_is).contexts) in
     rw (c.as_word.ensures, c.as_word-2.ensures, c.as_word-3.ensures, c.as_word-4.ensures, c.contexts_at.ensures.0, c.largest.ensures, ← c.self.view_is)
     (context_appended c.self.invariant l
-    (written_4 s.words.now (contexts_at limits + 4 * s.counts.contexts) _ _ _ _ (omega (arith, c.self.invariant.room.long)))).1
+    (written_4 s.words.now (contexts_at limits + 4 * s.counts.contexts) _ _ _ _ (omega (arith, c.self.invariant.long)))).1

@@ -12,7 +12,7 @@ invariant_of-self c =
     let l : s.counts.links < limits.links = omega (arith, (sized_as _ _ c.self.view_is).links) in
     rw (c.links_at.ensures.0, c.largest.ensures)
     (link_appended c.self.invariant l
-    (written_2 s.words.now (links_at limits + 2 * s.counts.links) _ _ (omega (arith, c.self.invariant.room.long)))).0
+    (written_2 s.words.now (links_at limits + 2 * s.counts.links) _ _ (omega (arith, c.self.invariant.long)))).0
 
 pub returns : goal.returns
 returns c =
@@ -20,4 +20,4 @@ returns c =
     let l : s.counts.links < limits.links = omega (arith, (sized_as _ _ c.self.view_is).links) in
     rw (c.as_word.ensures, c.as_word-2.ensures, c.links_at.ensures.0, c.largest.ensures, ← c.self.view_is)
     (link_appended c.self.invariant l
-    (written_2 s.words.now (links_at limits + 2 * s.counts.links) _ _ (omega (arith, c.self.invariant.room.long)))).1
+    (written_2 s.words.now (links_at limits + 2 * s.counts.links) _ _ (omega (arith, c.self.invariant.long)))).1

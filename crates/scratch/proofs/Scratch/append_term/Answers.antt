@@ -12,7 +12,7 @@ invariant_of-self c =
     let l : s.counts.terms < limits.terms = omega (arith, (sized_as _ _ c.self.view_is).terms) in
     rw (c.terms_at.ensures.0, c.largest.ensures)
     (term_appended c.self.invariant l
-    (written_4 s.words.now (terms_at limits + 4 * s.counts.terms) _ _ _ _ (omega (arith, c.self.invariant.room.long)))).0
+    (written_4 s.words.now (terms_at limits + 4 * s.counts.terms) _ _ _ _ (omega (arith, c.self.invariant.long)))).0
 
 pub returns : goal.returns
 returns c =
@@ -20,4 +20,4 @@ returns c =
     let l : s.counts.terms < limits.terms = omega (arith, (sized_as _ _ c.self.view_is).terms) in
     rw (c.as_word.ensures, c.as_word-2.ensures, c.as_word-3.ensures, c.as_word-4.ensures, c.terms_at.ensures.0, c.largest.ensures, ← c.self.view_is)
     (term_appended c.self.invariant l
-    (written_4 s.words.now (terms_at limits + 4 * s.counts.terms) _ _ _ _ (omega (arith, c.self.invariant.room.long)))).1
+    (written_4 s.words.now (terms_at limits + 4 * s.counts.terms) _ _ _ _ (omega (arith, c.self.invariant.long)))).1

@@ -12,7 +12,7 @@ invariant_of-self c =
     let l : s.counts.variables < limits.variables = omega (arith, (sized_as _ _ c.self.view_is).variables) in
     rw (c.variables_at.ensures.0, c.largest.ensures)
     (variable_appended c.self.invariant l
-    (written_1 s.words.now (variables_at limits + s.counts.variables) _ (omega (arith, c.self.invariant.room.long)))).0
+    (written_1 s.words.now (variables_at limits + s.counts.variables) _ (omega (arith, c.self.invariant.long)))).0
 
 pub returns : goal.returns
 returns c =
@@ -20,4 +20,4 @@ returns c =
     let l : s.counts.variables < limits.variables = omega (arith, (sized_as _ _ c.self.view_is).variables) in
     rw (c.as_word.ensures, c.variables_at.ensures.0, c.largest.ensures, ← c.self.view_is)
     (variable_appended c.self.invariant l
-    (written_1 s.words.now (variables_at limits + s.counts.variables) _ (omega (arith, c.self.invariant.room.long)))).1
+    (written_1 s.words.now (variables_at limits + s.counts.variables) _ (omega (arith, c.self.invariant.long)))).1

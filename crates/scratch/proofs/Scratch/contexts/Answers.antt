@@ -4,4 +4,4 @@ use Rattle.scratch.proofs.ScratchFields.{sized_as}
 use Rattle.scratch.proofs.Scratch.contexts.Goals as goal
 
 pub returns : goal.returns
-returns c = (sym (sized_as _ _ c.self.view_is).contexts, c.self.invariant.room.within.contexts)
+returns c = (sym (sized_as _ _ c.self.view_is).contexts, c.self.invariant.within.contexts)

@@ -3,4 +3,4 @@ use Rattle.scratch.proofs.ScratchFields.{own_counts_as}
 use Rattle.scratch.proofs.Scratch.counts.Goals as goal
 
 pub returns : goal.returns
-returns c = (own_counts_as _ _ c.self.view_is, c.self.invariant.room.within)
+returns c = (own_counts_as _ _ c.self.view_is, c.self.invariant.within)

@@ -4,4 +4,4 @@ use Rattle.scratch.proofs.ScratchFields.{sized_as}
 use Rattle.scratch.proofs.Scratch.links.Goals as goal
 
 pub returns : goal.returns
-returns c = (sym (sized_as _ _ c.self.view_is).links, c.self.invariant.room.within.links)
+returns c = (sym (sized_as _ _ c.self.view_is).links, c.self.invariant.within.links)

@@ -4,4 +4,4 @@ use Rattle.scratch.proofs.ScratchFields.{sized_as}
 use Rattle.scratch.proofs.Scratch.steps.Goals as goal
 
 pub returns : goal.returns
-returns c = (sym (sized_as _ _ c.self.view_is).steps, c.self.invariant.room.within.steps)
+returns c = (sym (sized_as _ _ c.self.view_is).steps, c.self.invariant.within.steps)

@@ -4,4 +4,4 @@ use Rattle.scratch.proofs.ScratchFields.{sized_as}
 use Rattle.scratch.proofs.Scratch.terms.Goals as goal
 
 pub returns : goal.returns
-returns c = (sym (sized_as _ _ c.self.view_is).terms, c.self.invariant.room.within.terms)
+returns c = (sym (sized_as _ _ c.self.view_is).terms, c.self.invariant.within.terms)

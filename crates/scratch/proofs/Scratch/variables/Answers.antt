@@ -4,4 +4,4 @@ use Rattle.scratch.proofs.ScratchFields.{sized_as}
 use Rattle.scratch.proofs.Scratch.variables.Goals as goal
 
 pub returns : goal.returns
-returns c = (sym (sized_as _ _ c.self.view_is).variables, c.self.invariant.room.within.variables)
+returns c = (sym (sized_as _ _ c.self.view_is).variables, c.self.invariant.within.variables)
