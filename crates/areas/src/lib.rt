@@ -1,7 +1,7 @@
 // Lent areas: how many are long enough, zeros, and how every call leaves them.
 #![tactic(auto)]
 
-ghost use Rattle.std.specs.Prelude.{◌≡◌, ◌++◌, ◌-◌, ◌≤◌, length, take, replicate};
+ghost use Rattle.std.specs.Prelude.{◌≡◌, ◌≤◌, length};
 ghost use Rattle.expansion.specs.Answer.{answer_in};
 ghost use Rattle.expansion.specs.Expansion.{long_enough};
 ghost use Rattle.expansion.specs.AreasAfter.{kept, Zeroed};
@@ -22,21 +22,8 @@ pub fn long_enough(out: usize, words: usize, sets: usize) -> usize
     output + scratch + stack
 }
 
-pub fn zero_words(words: &mut [u32])
-    ensures { words.new ≡ replicate (length words.old) 0 }
-{
-    words.fill(0);
-}
-
-// Zeros from place `from` on.
-pub fn zero_bytes(out: &mut [u8], from: usize)
-    requires { from ≤ length out.old }
-    ensures { out.new ≡ take from out.old ++ replicate (length out.old - from) 0 }
-{
-    out[from..].fill(0);
-}
-
 // The end of every call that writes a file: zeros after the file, or in all of the output where there is none, and in the scratch and the stack.
+// The three areas are no struct: C lends them apart, and each has its own use inside, where a struct would be taken apart again.
 pub fn close(
     answer: Result<usize, Failure>,
     out: &mut [u8],
@@ -47,8 +34,9 @@ pub fn close(
     ensures { (result ≡ answer) × Zeroed (answer_in answer) out.old words.old sets.old out.new words.new
         sets.new }
 {
-    zero_words(words);
+    let end = answer.unwrap_or(0);
+    words.fill(0);
     sets::clear(sets, 0, sets.len());
-    zero_bytes(out, answer.unwrap_or(0));
+    out[end..].fill(0);
     answer
 }

@@ -1,71 +1,66 @@
 // Brackets counted: what follows a lexeme, what follows a formula.
-ghost use Rattle.std.specs.Prelude.{◌≡◌, ◌≤◌, ◌<◌, length};
-ghost use Rattle.lexing.specs.Lexes.{lexemes_at};
-ghost use Rattle.bracketing.specs.Brackets.{rest_of, after_formula, starts_part};
-ghost use Rattle.bracketing.specs.Places.{Reaches, open_by};
+ghost use Rattle.std.specs.Prelude.{◌≡◌, ◌<◌};
+ghost use Rattle.lexing.specs.Words.{lexeme_in};
+ghost use Rattle.lexing.specs.Lexes.{lexemes_of};
+ghost use Rattle.bracketing.specs.Brackets.{rest_of, open_after, after_formula, starts_part};
+ghost use Rattle.bracketing.specs.Texts.{Leaves};
 
-use lexing::lexemes::next_lexeme;
+use lexing::lexemes::{Lexeme, next_lexeme};
 
-// How many brackets are open after a lexeme of this number, where n were before it.
-fn open_after(code: usize, n: usize) -> usize
+// How many brackets are open after a lexeme, where n were before it.
+#[tactic(auto, using(crate::proofs::TextLaws::less_one), unfolding(crate::specs::Brackets::open_after))]
+fn open_after(lexeme: Lexeme, n: usize) -> usize
     requires { n < 18446744073709551615 }
-    ensures { result ≡ open_by code n }
+    ensures { result ≡ open_after (lexeme_in lexeme.entry) n }
 {
-    if code == 0 {
-        return n + 1;
+    match lexeme {
+        Lexeme::Opens => n + 1,
+        Lexeme::Closes => n.saturating_sub(1),
+        Lexeme::Stray | Lexeme::Word(_) => n,
     }
-    if code != 1 {
-        return n;
+}
+
+// What follows the first lexeme.
+pub fn after_lexeme<'a>(text: &'a [u8]) -> &'a [u8]
+    ensures { Leaves text.now (rest_of (lexemes_of text.now)) result.now }
+{
+    match next_lexeme(text) {
+        Some(l) => l.rest,
+        None => text,
     }
-    if n == 0 { 0 } else { n - 1 }
 }
 
-// What follows the lexeme at byte i.
-pub fn after_lexeme(text: &[u8], i: usize) -> usize
-    requires { i ≤ length text.now }
-    ensures { Reaches text.now i result (rest_of (lexemes_at text.now i)) }
+// What follows a bracket and a name.
+pub fn after_name<'a>(text: &'a [u8]) -> &'a [u8]
+    ensures { Leaves text.now (rest_of (rest_of (lexemes_of text.now))) result.now }
 {
-    let l = next_lexeme(text, i);
-    if l.code == 10 {
-        return text.len();
+    after_lexeme(after_lexeme(text))
+}
+
+// Whether a part of a bracket starts here: a lexeme that does not close the bracket.
+#[tactic(auto, using(crate::proofs::TextLaws::starts_not, crate::proofs::TextLaws::starts_next), unfolding(crate::specs::Brackets::starts_part))]
+pub fn part_at(text: &[u8]) -> bool
+    ensures { result ≡ starts_part (lexemes_of text.now) }
+{
+    match next_lexeme(text) {
+        Some(l) => !matches!(l.lexeme, Lexeme::Closes),
+        None => false,
     }
-    l.end
 }
 
-// What follows the bracket and the name at byte i.
-pub fn after_name(text: &[u8], i: usize) -> usize
-    requires { i ≤ length text.now }
-    ensures { Reaches text.now i result (rest_of (rest_of (lexemes_at text.now i))) }
+// What follows the first formula, or list.
+pub fn after_formula<'a>(text: &'a [u8]) -> &'a [u8]
+    ensures { Leaves text.now (after_formula (lexemes_of text.now)) result.now }
 {
-    let j = after_lexeme(text, i);
-    after_lexeme(text, j)
-}
-
-// Whether a part of a bracket starts at byte i.
-pub fn part_at(text: &[u8], i: usize) -> bool
-    requires { i ≤ length text.now }
-    ensures { result ≡ starts_part (lexemes_at text.now i) }
-{
-    let l = next_lexeme(text, i);
-    (l.code != 1) & (l.code != 10)
-}
-
-// What follows the formula, or the list, at byte i.
-pub fn after_formula(text: &[u8], i: usize) -> usize
-    requires { i ≤ length text.now }
-    ensures { Reaches text.now i result (after_formula (lexemes_at text.now i)) }
-{
-    let mut n = 0;
-    let mut at = i;
-    loop {
-        let l = next_lexeme(text, at);
-        if l.code == 10 {
-            return text.len();
-        }
-        n = open_after(l.code, n);
-        at = l.end;
-        if n == 0 {
-            return at;
+    let mut open = 0;
+    let mut rest = text;
+    // No `for`: what is left behind the last lexeme is handed on.
+    while let Some(l) = next_lexeme(rest) {
+        open = open_after(l.lexeme, open);
+        rest = l.rest;
+        if open == 0 {
+            return rest;
         }
     }
+    rest
 }

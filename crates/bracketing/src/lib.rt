@@ -2,4 +2,4 @@
 #![tactic(auto)]
 
 pub mod brackets; // brackets.rt: what follows a lexeme, what follows a formula
-pub mod sorts; // sorts.rt: what a lexeme names, the sort of the formula at a place
+pub mod sorts; // sorts.rt: what a word names, the sort of the formula at the front

@@ -1,109 +1,99 @@
-// What a lexeme names, and the sort of the formula at a place.
-ghost use Rattle.std.specs.Prelude.{◌≡◌, ◌≤◌, length};
+// What a word names, and the sort of the formula at the front of a text.
+ghost use Rattle.std.specs.Prelude.{IfSome, ◌≡◌, ◌≤◌};
 ghost use Rattle.bundle.specs.Limits.{limits};
-ghost use Rattle.lexing.specs.Counted.{variable_among, symbol_among};
-ghost use Rattle.lexing.specs.Lexes.{lexemes_at};
-ghost use Rattle.bracketing.specs.Places.{Lies, name_here, named_sort, named_result};
-ghost use Rattle.bracketing.specs.Brackets.{front_of, rest_of};
-ghost use Rattle.bracketing.specs.Nodes.{name_in, sort_in, sort_from};
+ghost use Rattle.lexing.specs.Counted.{Numbered};
+ghost use Rattle.lexing.specs.Words.{word_in};
+ghost use Rattle.lexing.specs.Lexes.{lexemes_of};
+ghost use Rattle.bracketing.specs.Brackets.{front_of};
+ghost use Rattle.bracketing.specs.Nodes.{variable_in, word_sort, result_of, sort_from};
+ghost use Rattle.bracketing.specs.Texts.{Worded, Says};
 
 use super::brackets::{after_formula, after_lexeme};
 use bundle::Bundle;
-use lexing::lexemes::{Lexed, next_lexeme};
+use lexing::lexemes::{Lexeme, next_lexeme};
 use lexing::names::{symbol_called, variable_called};
-use lexing::runs::is_word;
+use lexing::words::{SortWord, Word};
 use sorting::sorts::{result_sort, signature_of};
 
-// The variable that a lexeme names, 0 for none.
-pub fn variable_here(bundle: &Bundle, text: &[u8], l: Lexed) -> usize
-    requires { Lies text.now l }
-    ensures { (result ≡ variable_among (length bundle.now.variables) (name_here text.now l)) × (result ≤ limits.variables) }
+// The word at the front.
+fn word_at<'a>(text: &'a [u8]) -> Option<Word<'a>>
+    ensures { Worded (front_of (lexemes_of text.now)) result }
 {
-    let start = l.start;
-    let end = l.end;
-    if l.code != 9 {
-        return 0;
+    match next_lexeme(text)?.lexeme {
+        Lexeme::Word(word) => Some(word),
+        Lexeme::Opens | Lexeme::Closes | Lexeme::Stray => None,
     }
-    variable_called(bundle.variables(), &text[start..end])
 }
 
-// The symbol that a lexeme names, 0 for none.
-pub fn symbol_here(bundle: &Bundle, text: &[u8], l: Lexed) -> usize
-    requires { Lies text.now l }
-    ensures { result ≡ symbol_among (length bundle.now.symbols) (name_here text.now l) }
+// The variable after the bracket at the front.
+pub fn variable_at(bundle: &Bundle, text: &[u8]) -> Option<usize>
+    ensures called { Numbered (variable_in bundle.now (lexemes_of text.now)) result }
+    ensures small { IfSome result (λ x. x ≤ limits.variables) }
 {
-    let start = l.start;
-    let end = l.end;
-    if l.code != 9 {
-        return 0;
+    match word_at(after_lexeme(text))? {
+        Word::Name(name) => variable_called(bundle.variables(), name),
+        _ => None,
     }
-    symbol_called(bundle.symbols(), &text[start..end])
 }
 
-// The variable after the bracket at byte i, 0 for none.
-pub fn variable_at(bundle: &Bundle, text: &[u8], i: usize) -> usize
-    requires { i ≤ length text.now }
-    ensures { (result ≡ variable_among (length bundle.now.variables) (name_in (front_of (rest_of (lexemes_at text.now i)))))
-        × (result ≤ limits.variables) }
+// The word for a sort at the front.
+pub fn said_at(text: &[u8]) -> Option<SortWord>
+    ensures { Says (front_of (lexemes_of text.now)) result }
 {
-    let j = after_lexeme(text, i);
-    let l = next_lexeme(text, j);
-    variable_here(bundle, text, l)
+    match word_at(text)? {
+        Word::Sort(sort) => Some(sort),
+        _ => None,
+    }
 }
 
-// The sort that the word at byte i says.
-pub fn said_at(text: &[u8], i: usize) -> usize
-    requires { i ≤ length text.now }
-    ensures { result ≡ sort_in (front_of (lexemes_at text.now i)) }
+// The sort of a bracket with this head, a let apart: all but a declared symbol make truths.
+fn result_of(bundle: &Bundle, head: Word) -> usize
+    ensures { result ≡ result_of bundle.now (word_in head.entry) }
 {
-    let l = next_lexeme(text, i);
-    let start = l.start;
-    let end = l.end;
-    if l.code != 8 {
-        return 0;
-    }
-    if is_word(&text[start..end], b"Item") {
-        return 1;
+    if let Word::Name(name) = head {
+        if let Some(f) = symbol_called(bundle.symbols(), name) {
+            return result_sort(bundle, signature_of(bundle, f));
+        }
     }
     0
 }
 
-// The sort of a bracket with this head, a let apart.
-fn result_here(bundle: &Bundle, text: &[u8], l: Lexed) -> usize
-    requires { Lies text.now l }
-    ensures { result ≡ named_result bundle.now (name_here text.now l) }
-{
-    let f = symbol_here(bundle, text, l);
-    result_sort(bundle, signature_of(bundle, f))
-}
-
 // The sort of a word alone.
-fn sort_here(bundle: &Bundle, text: &[u8], l: Lexed) -> usize
-    requires { Lies text.now l }
-    ensures { result ≡ named_sort bundle.now (name_here text.now l) }
+fn word_sort(bundle: &Bundle, word: Word) -> usize
+    ensures { result ≡ word_sort bundle.now (word_in word.entry) }
 {
-    let x = variable_here(bundle, text, l);
-    if x == 0 {
-        return result_here(bundle, text, l);
+    if let Word::Name(name) = word {
+        if let Some(x) = variable_called(bundle.variables(), name) {
+            return bundle.variable_sort(x);
+        }
     }
-    bundle.variable_sort(x)
+    result_of(bundle, word)
 }
 
-// The sort of the formula at byte i: a let's is its body's.
-pub fn sort_at(bundle: &Bundle, text: &[u8], i: usize) -> usize
-    requires { i ≤ length text.now }
-    ensures { result ≡ sort_from bundle.now (lexemes_at text.now i) }
+// The sort of the formula at the front: a let's is its body's.
+pub fn sort_at(bundle: &Bundle, text: &[u8]) -> usize
+    ensures { result ≡ sort_from bundle.now (lexemes_of text.now) }
 {
-    let mut at = i;
+    let mut rest = text;
+    // No `for`: a turn goes on behind the bindings of a let.
     loop {
-        let l = next_lexeme(text, at);
-        if l.code != 0 {
-            return sort_here(bundle, text, l);
+        let Some(l) = next_lexeme(rest) else {
+            return 0;
+        };
+        match l.lexeme {
+            Lexeme::Opens => {}
+            Lexeme::Word(word) => return word_sort(bundle, word),
+            Lexeme::Closes | Lexeme::Stray => return 0,
         }
-        let h = next_lexeme(text, l.end);
-        if h.code != 7 {
-            return result_here(bundle, text, h);
-        }
-        at = after_formula(text, h.end);
+        let Some(h) = next_lexeme(l.rest) else {
+            return 0;
+        };
+        let Lexeme::Word(head) = h.lexeme else {
+            return 0;
+        };
+        let Word::Let = head else {
+            return result_of(bundle, head);
+        };
+        rest = after_formula(h.rest);
     }
 }

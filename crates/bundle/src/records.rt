@@ -9,7 +9,7 @@ ghost use Rattle.bundle.specs.RecordWords.{as_term, as_step};
 use super::Bundle;
 use super::words::word_at;
 
-// The words of a term, of a context and of a step.
+// The words of a term, of a context and of a step as they stand in a file, where any number may stand for a kind or a rule: so numbers, not names.
 #[derive(Clone, Copy)]
 pub struct TermWords {
     pub kind: usize,

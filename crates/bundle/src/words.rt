@@ -13,14 +13,14 @@ fn joined(a: u8, b: u8, c: u8, d: u8) -> u32
     a as u32 + 256 * (b as u32) + 65536 * (c as u32) + 16777216 * (d as u32)
 }
 
-// A word as a number that can be an index.
+// A word as a number that can be an index: the library has no `From<u32> for usize`.
 pub fn wide(x: u32) -> usize
     ensures { (result ≡ x) × (result ≤ 4294967295) }
 {
     x as usize
 }
 
-// A number that fits as a word.
+// A number that fits as a word, which `TryFrom` would ask again at each use.
 pub fn as_word(x: usize) -> u32
     requires { x ≤ 4294967295 }
     ensures { result ≡ x }

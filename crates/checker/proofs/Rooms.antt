@@ -12,11 +12,10 @@ use Rattle.images.proofs.ContextRows.{images_none, scopes_none}
 
 module _ (b : Bundle) (n : ℕ) (bits : length b.variables ≤ 64 * n) (few : n ≤ set_words) where
   -- a room of p places and q words holds what is known of the empty context, and has a row and two sets for each context
-  pub asks : (p q : ℕ) {A B : Type 0} → A → B → length b.variables * (length b.contexts + 1) ≤ p → 2 * n * (length b.contexts + 1) ≤ q
-      → A × B × (length b.variables ≤ 64 * n) × (length b.variables * (length b.contexts + 1) ≤ length {A = ℕ} (replicate p 0))
+  pub asks : (p q : ℕ) {A : Type 0} → A → length b.variables * (length b.contexts + 1) ≤ p → 2 * n * (length b.contexts + 1) ≤ q
+      → A × (length b.variables ≤ 64 * n) × (length b.variables * (length b.contexts + 1) ≤ length {A = ℕ} (replicate p 0))
       × (2 * n * (length b.contexts + 1) ≤ length {A = ℕ} (replicate q 0)) × Images b (replicate p 0) 1 × Scopes b (replicate q 0) n 1 × (n ≤ set_words)
-  asks p q sorts free row set = (
-    sorts,
+  asks p q free row set = (
     free,
     bits,
     omega (arith, length-replicate {A = ℕ} p 0),

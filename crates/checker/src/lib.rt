@@ -8,7 +8,6 @@ ghost use Rattle.logic.specs.Failures.{number_in, fault_in};
 ghost use Rattle.logic.specs.Tests.{first_failing, or_next};
 ghost use Rattle.logic.specs.Checks.{sections_fault};
 ghost use Rattle.logic.specs.Free.{free_area};
-ghost use Rattle.sorting.specs.Notes.{Sorted};
 ghost use Rattle.free_variables.specs.FreeSets.{FreeSets};
 ghost use Rattle.images.specs.ContextRows.{Images, Scopes};
 ghost use Rattle.steps.specs.Verdicts.{Found};
@@ -19,10 +18,13 @@ use bundle::Bundle;
 use bundle::words::word_at;
 use declarations::header::opened;
 use free_variables::spread::spread;
+use free_variables::term_sets::TermSets;
 use free_variables::words_for;
+use images::Known;
+use images::rows::Rows;
 use judgement::Acceptance;
 use logic::checks::{Check, Failure};
-use sorting::notes::note_sorts;
+use sorting::sorted_bundle::SortedBundle;
 
 // The words that a file's terms ask for: nothing of a file that is too short to say.
 fn lent_for(file: &[u8]) -> usize
@@ -52,93 +54,95 @@ fn claim_fault(bundle: &Bundle) -> Result<(), Check>
 }
 
 // The first of the checks 10 to 15 that fails, where the area holds the free sets, n words each, and there is room for what is known of contexts.
-fn late_fault_in(
-    bundle: &Bundle,
-    sorts: &[usize],
-    free: &[u64],
+// The area and n come beside each other, and are made `TermSets` here alone: so the compiler knows that the sets, the rows and the contexts are those of one
+// bundle, and reads its records once.
+fn late_fault_in<'a>(
+    sorted: &'a SortedBundle<'a>,
+    free: &'a [u64],
     n: usize,
-    images: &mut [u16],
-    scopes: &mut [u64],
+    images: &'a mut [u16],
+    scopes: &'a mut [u64],
 ) -> Result<usize, Failure>
-    requires { Sorted bundle.now sorts.now × FreeSets free.now n bundle.now × (length bundle.now.variables ≤ 64 * n) × (length bundle.now.variables * (length bundle.now.contexts + 1) ≤
-        length images.old) × (2 * n * (length bundle.now.contexts + 1) ≤ length scopes.old) × Images bundle.now images.old 1 × Scopes bundle.now scopes.old n 1 × (n ≤ set_words) }
-    ensures { Found (late_fault bundle.now) bundle.now result }
+    requires { FreeSets (record { bundle = sorted.now; words = free.now; n = n }) × (length sorted.now.variables ≤ 64 * n) × (length sorted.now.variables * (length sorted.now.contexts + 1) ≤
+        length images.old) × (2 * n * (length sorted.now.contexts + 1) ≤ length scopes.old) × Images sorted.now images.old 1 × Scopes sorted.now scopes.old n 1 × (n ≤ set_words) }
+    ensures { Found (late_fault sorted.now) sorted.now result }
 {
-    contexts::contexts::contexts_fault(bundle, sorts, free, n, images, scopes)?;
-    let pairs = steps::steps::steps_fault(bundle, free, n, images, scopes)?;
+    let bundle = sorted.bundle();
+    let sets = TermSets::of(bundle, free, n);
+    let mut rows = Rows::of(bundle, images, scopes, n);
+    contexts::contexts::contexts_fault(sorted, &sets, &mut rows)?;
+    let known = Known::of(&sets, rows.images(), rows.scopes());
+    let pairs = steps::steps::steps_fault(&known)?;
     claim_fault(bundle)?;
     Ok(pairs)
 }
 
 // The same with room of its own, for files with many variables. Two places call this: so the compiler keeps it, and its room, apart, and no other file pays
 // for so much stack.
-fn late_fault_wide(
-    bundle: &Bundle,
-    sorts: &[usize],
-    free: &[u64],
-    n: usize,
-) -> Result<usize, Failure>
-    requires { Sorted bundle.now sorts.now × FreeSets free.now n bundle.now × (n ≤ set_words) × (length bundle.now.variables ≤ 64
-        * n) }
-    ensures { Found (late_fault bundle.now) bundle.now result }
+fn late_fault_wide(sorted: &SortedBundle, free: &[u64], n: usize) -> Result<usize, Failure>
+    requires { FreeSets (record { bundle = sorted.now; words = free.now; n = n }) × (n ≤ set_words) × (length sorted.now.variables ≤ 64 * n) }
+    ensures { Found (late_fault sorted.now) sorted.now result }
 {
-    if bundle.contexts() < 8 {
+    let bundle = sorted.bundle();
+    let contexts = bundle.contexts();
+    if contexts < 8 {
         let mut few_images = [0u16; Bundle::VARIABLES * 8];
         let mut few_scopes = [0u64; 2 * Bundle::SET_WORDS * 8];
-        return late_fault_in(bundle, sorts, free, n, &mut few_images, &mut few_scopes);
+        return late_fault_in(sorted, free, n, &mut few_images, &mut few_scopes);
     }
-    if bundle.contexts() < 32 {
+    if contexts < 32 {
         let mut some_images = [0u16; Bundle::VARIABLES * 32];
         let mut some_scopes = [0u64; 2 * Bundle::SET_WORDS * 32];
-        return late_fault_in(bundle, sorts, free, n, &mut some_images, &mut some_scopes);
+        return late_fault_in(sorted, free, n, &mut some_images, &mut some_scopes);
     }
     let mut images = [0u16; Bundle::VARIABLES * (Bundle::CONTEXTS + 1)];
     let mut scopes = [0u64; 2 * Bundle::SET_WORDS * (Bundle::CONTEXTS + 1)];
-    late_fault_in(bundle, sorts, free, n, &mut images, &mut scopes)
+    late_fault_in(sorted, free, n, &mut images, &mut scopes)
 }
 
 // The same with room of one of three sizes, the last for 64 variables in all contexts, or as above. The room is cleared first, so a file with few variables
 // and contexts gets little.
-fn late_fault(bundle: &Bundle, sorts: &[usize], free: &[u64], n: usize) -> Result<usize, Failure>
-    requires { Sorted bundle.now sorts.now × FreeSets free.now n bundle.now × (n ≤ set_words) × (length bundle.now.variables ≤ 64
-        * n) }
-    ensures { Found (late_fault bundle.now) bundle.now result }
+fn late_fault(sorted: &SortedBundle, free: &[u64], n: usize) -> Result<usize, Failure>
+    requires { FreeSets (record { bundle = sorted.now; words = free.now; n = n }) × (n ≤ set_words) × (length sorted.now.variables ≤ 64 * n) }
+    ensures { Found (late_fault sorted.now) sorted.now result }
 {
+    let bundle = sorted.bundle();
     let rows = bundle.contexts() + 1;
     let places = bundle.variables() * rows;
     let words = n * rows;
     if (places <= 512) & (words <= 40) {
         let mut few_images = [0u16; 512];
         let mut few_scopes = [0u64; 80];
-        return late_fault_in(bundle, sorts, free, n, &mut few_images, &mut few_scopes);
+        return late_fault_in(sorted, free, n, &mut few_images, &mut few_scopes);
     }
     if (places <= 8192) & (words <= 257) {
         let mut some_images = [0u16; 8192];
         let mut some_scopes = [0u64; 514];
-        return late_fault_in(bundle, sorts, free, n, &mut some_images, &mut some_scopes);
+        return late_fault_in(sorted, free, n, &mut some_images, &mut some_scopes);
     }
     if places > 16448 {
-        return late_fault_wide(bundle, sorts, free, n);
+        return late_fault_wide(sorted, free, n);
     }
     if words > 257 {
-        return late_fault_wide(bundle, sorts, free, n);
+        return late_fault_wide(sorted, free, n);
     }
     let mut more_images = [0u16; 16448];
     let mut more_scopes = [0u64; 514];
-    late_fault_in(bundle, sorts, free, n, &mut more_images, &mut more_scopes)
+    late_fault_in(sorted, free, n, &mut more_images, &mut more_scopes)
 }
 
 // What is wrong past the header, where the sorts of all terms are noted. Where nothing is, the area holds the free sets. While the file is checked they have
 // as many words as its variables ask for.
-fn sorted_fault(bundle: &Bundle, sorts: &[usize], free: &mut [u64]) -> Result<usize, Failure>
-    requires { Sorted bundle.now sorts.now × (set_words * length bundle.now.terms ≤ length free.old) }
-    ensures fact { Found (or_next (sections_fault bundle.now) (late_fault bundle.now)) bundle.now result }
-    ensures free_after { IfOk result (λ _. free.new ≡ free_area bundle.now set_words (length free.old)) }
+fn sorted_fault(sorted: &SortedBundle, free: &mut [u64]) -> Result<usize, Failure>
+    requires { set_words * length sorted.now.terms ≤ length free.old }
+    ensures fact { Found (or_next (sections_fault sorted.now) (late_fault sorted.now)) sorted.now result }
+    ensures free_after { IfOk result (λ _. free.new ≡ free_area sorted.now set_words (length free.old)) }
 {
-    terms::sections_fault(bundle, sorts)?;
+    terms::sections_fault(sorted)?;
+    let bundle = sorted.bundle();
     let n = words_for(bundle.variables());
     free_variables::free_sets(bundle, free, n);
-    let pairs = late_fault(bundle, sorts, free, n)?;
+    let pairs = late_fault(sorted, free, n)?;
     spread(free, n, bundle.terms());
     Ok(pairs)
 }
@@ -151,12 +155,10 @@ fn noted_fault(bundle: &Bundle, free: &mut [u64]) -> Result<usize, Failure>
 {
     if bundle.terms() < 256 {
         let mut few = [0usize; 256];
-        note_sorts(bundle, &mut few);
-        return sorted_fault(bundle, &few, free);
+        return sorted_fault(&SortedBundle::noted(bundle, &mut few), free);
     }
     let mut sorts = [0usize; Bundle::TERMS + 1];
-    note_sorts(bundle, &mut sorts);
-    sorted_fault(bundle, &sorts, free)
+    sorted_fault(&SortedBundle::noted(bundle, &mut sorts), free)
 }
 
 // What is said of a file of which no check fails; the area then holds the free sets.

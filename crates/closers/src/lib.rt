@@ -3,7 +3,7 @@
 
 ghost use Rattle.std.specs.Prelude.{◌≡◌, true, false, [], ◌∷◌, ◌≤◌};
 ghost use Rattle.bundle.specs.Words.{largest_word};
-ghost use Rattle.logic.specs.Terms.{Binder, binder, number_of, is_binder};
+ghost use Rattle.logic.specs.Named.{binder_in};
 ghost use Rattle.scratch.specs.Stack.{halves_of};
 ghost use Rattle.expansion.specs.Nodes.{leaf};
 ghost use Rattle.expansion.specs.Visit.{visit, concluded, replacing, renaming, open_binder, close_application, close_binder};
@@ -12,62 +12,15 @@ ghost use Rattle.placing.specs.Outcomes.{VisitOutcome, VisitFits, OpenOutcome, B
 use bundle::records::{ContextWords, StepWords};
 use filing::Filed;
 use logic::Image;
-use logic::kinds::{FIXES, REPLACES};
-use logic::rules::{BIND, CONG, REFL};
+use logic::kinds::{Binder, Entry};
+use logic::rules::Rule;
 use placing::{
     Opened, Visited, add_context, add_halves, add_step, add_value, place_application, place_binder,
     place_fresh,
 };
 
-// ---- A list, and then a record
-
-// The step of a visit with no premises.
-fn conclude_alone(
-    filed: &mut Filed<'_>,
-    rule: usize,
-    context: usize,
-    left: usize,
-    right: usize,
-) -> Option<Visited>
-    requires { (rule ≤ 5) × (context ≤ largest_word) × (left ≤ largest_word) × (right ≤ largest_word) }
-    ensures { VisitOutcome (concluded filed.old rule context left right []) filed.new result × VisitFits result }
-{
-    add_step(
-        filed,
-        StepWords {
-            rule,
-            context,
-            left,
-            right,
-            premises: 0,
-        },
-    )
-}
-
-// The step of a visit with one premise.
-fn conclude_one(
-    filed: &mut Filed<'_>,
-    rule: usize,
-    context: usize,
-    left: usize,
-    right: usize,
-    premise: usize,
-) -> Option<Visited>
-    requires { (rule ≤ 5) × (context ≤ largest_word) × (left ≤ largest_word) × (right ≤ largest_word) × (premise ≤ largest_word) }
-    ensures { VisitOutcome (concluded filed.old rule context left right (premise ∷ [])) filed.new result × VisitFits result }
-{
-    let premises = add_value(filed, premise)?;
-    add_step(
-        filed,
-        StepWords {
-            rule,
-            context,
-            left,
-            right,
-            premises,
-        },
-    )
-}
+// ---- A list, and then a record. Words are `usize` (see crate `scratch`, appends.rt). Context and term are no struct: they stand in the order of the
+// definitions, and each call would take one apart again for the step's words.
 
 // The step of a visit whose premises are the lower halves of pairs.
 pub fn conclude(
@@ -108,7 +61,7 @@ pub fn open_let(
     add_context(
         filed,
         ContextWords {
-            kind: REPLACES,
+            kind: Entry::Replaces.number(),
             first: variables,
             second,
             parent,
@@ -125,7 +78,7 @@ fn open_one(filed: &mut Filed<'_>, variables: usize, parent: usize, term: usize)
     add_context(
         filed,
         ContextWords {
-            kind: REPLACES,
+            kind: Entry::Replaces.number(),
             first: variables,
             second,
             parent,
@@ -149,7 +102,16 @@ pub fn close_variable(
         Image::Own => term,
         Image::Gives(t) => t,
     };
-    conclude_alone(filed, REFL, context, term, right)
+    add_step(
+        filed,
+        StepWords {
+            rule: Rule::Refl.number(),
+            context,
+            left: term,
+            right,
+            premises: 0,
+        },
+    )
 }
 
 pub fn close_application(
@@ -166,7 +128,7 @@ pub fn close_application(
         × VisitFits result }
 {
     let right = place_application(filed, symbol, pairs)?;
-    conclude(filed, CONG, context, term, right, pairs)
+    conclude(filed, Rule::Cong.number(), context, term, right, pairs)
 }
 
 // The contexts of a quantifier over x whose new variable is y, with the term t: y fixed, then x replaced by t.
@@ -183,7 +145,7 @@ fn open_renaming(
     let context = add_context(
         filed,
         ContextWords {
-            kind: FIXES,
+            kind: Entry::Fixes.number(),
             first: y,
             second: 0,
             parent,
@@ -209,16 +171,26 @@ pub fn close_quantifier(
     filed: &mut Filed<'_>,
     context: usize,
     term: usize,
-    kind: usize,
+    q: Binder,
     y: usize,
     body: Visited,
 ) -> Option<Visited>
-    requires { (context ≤ largest_word) × (term ≤ largest_word) × (is_binder kind ≡ true) × (kind ≤ largest_word) × (y ≤ largest_word)
-        × (body.result ≤ largest_word) × (body.step ≤ largest_word) }
-    ensures { ((q : Binder) → kind ≡ number_of (binder q) → VisitOutcome
-        (close_binder context term q y (record { bundle = filed.old; result = body.result; step = body.step })) filed.new result)
+    requires { (context ≤ largest_word) × (term ≤ largest_word) × (y ≤ largest_word) × (body.result ≤ largest_word)
+        × (body.step ≤ largest_word) }
+    ensures { VisitOutcome
+        (close_binder context term (binder_in q) y (record { bundle = filed.old; result = body.result; step = body.step })) filed.new result
         × VisitFits result }
 {
-    let right = place_binder(filed, kind, y, body.result)?;
-    conclude_one(filed, BIND, context, term, right, body.step)
+    let right = place_binder(filed, q, y, body.result)?;
+    let premises = add_value(filed, body.step)?;
+    add_step(
+        filed,
+        StepWords {
+            rule: Rule::Bind.number(),
+            context,
+            left: term,
+            right,
+            premises,
+        },
+    )
 }

@@ -1,24 +1,25 @@
-// Checks 10 and 11 of a context.
+// Checks 10 and 11 of a context. The functions of one context take the bundle besides: so the compiler knows that no write to the rows changes it, and
+// reads a record once for all of them.
 ghost use Rattle.std.specs.Prelude.{◌≡◌, true, ◌+◌, ◌*◌, ◌≤◌, length, IfOk};
 ghost use Rattle.bundle.specs.Links.{items};
 ghost use Rattle.bundle.specs.Lists.{each};
 ghost use Rattle.logic.specs.Failures.{number_in, fault_in};
 ghost use Rattle.logic.specs.Contexts.{settled, context_refers, replacements_settled, context_fault, contexts_fault};
-ghost use Rattle.sorting.specs.Notes.{Sorted};
 ghost use Rattle.free_variables.specs.FreeSets.{FreeSets};
 ghost use Rattle.images.specs.ContextRows.{Images, Scopes};
 
 use bundle::Bundle;
-use images::images::is_settled;
-use images::known::enter;
+use free_variables::term_sets::TermSets;
+use images::rows::Rows;
 use logic::checks::{Check, Failure};
-use logic::kinds::{FIXES, REPLACES};
-use sorting::sorts::{some_different, variables_fit};
+use logic::kinds::Entry;
+use sorting::sorted_bundle::SortedBundle;
+use sorting::sorts::some_different;
 
 // 10: whether the kind of context i is one, its unused field is zero, its lists agree, and it refers to variables, terms and a lower context.
-fn context_refers(bundle: &Bundle, sorts: &[usize], i: usize) -> bool
-    requires { Sorted bundle.now sorts.now }
-    ensures { result ≡ context_refers bundle.now i }
+fn context_refers(bundle: &Bundle, sorted: &SortedBundle, i: usize) -> bool
+    requires { bundle.now ≡ sorted.now }
+    ensures { result ≡ context_refers sorted.now i }
 {
     let kind = bundle.context_field(i, 0);
     let first = bundle.context_field(i, 1);
@@ -27,38 +28,33 @@ fn context_refers(bundle: &Bundle, sorts: &[usize], i: usize) -> bool
     let links = bundle.links();
     let variables = bundle.variables();
     let terms = bundle.terms();
-    if kind == FIXES {
-        return (0 < first) & (first <= variables) & (second == 0) & (parent < i);
+    match Entry::of(kind) {
+        Some(Entry::Fixes) => { (0 < first) & (first <= variables) & (second == 0) & (parent < i) }
+        Some(Entry::Replaces) => {
+            let replaced = bundle.all_numbers(first, variables);
+            let replacing = bundle.all_numbers(second, terms);
+            let distinct = some_different(bundle, first);
+            let fit = sorted.variables_fit(first, second);
+            (first <= links)
+                & replaced
+                & (second <= links)
+                & replacing
+                & (distinct & fit)
+                & (parent < i)
+        }
+        None => false,
     }
-    if kind == REPLACES {
-        let replaced = bundle.all_numbers(first, variables);
-        let replacing = bundle.all_numbers(second, terms);
-        let distinct = some_different(bundle, first);
-        let fit = variables_fit(bundle, sorts, first, second);
-        return (first <= links)
-            & replaced
-            & (second <= links)
-            & replacing
-            & (distinct & fit)
-            & (parent < i);
-    }
-    false
 }
 
 // Whether each term of a list is settled in a context.
-fn all_settled(
-    bundle: &Bundle,
-    area: &[u64],
-    n: usize,
-    scopes: &[u64],
-    context: usize,
-    terms: usize,
-) -> bool
-    requires { FreeSets area.now n bundle.now × Scopes bundle.now scopes.now n (context + 1) }
-    ensures { result ≡ each (settled bundle.now context) (items bundle.now terms) }
+fn all_settled(sets: &TermSets, scopes: &[u64], context: usize, terms: usize) -> bool
+    requires { FreeSets sets.now × Scopes sets.now.bundle scopes.now sets.now.n (context + 1) }
+    ensures { result ≡ each (settled sets.now.bundle context) (items sets.now.bundle terms) }
 {
-    for t in bundle.items(terms) {
-        if !is_settled(bundle, area, n, scopes, 2 * n * context, t) {
+    let _words = sets.words(); // each of 64 bits
+    let moved = 2 * sets.n() * context;
+    for t in sets.bundle().items(terms) {
+        if !sets.is_settled(scopes, moved, t) {
             return false;
         }
     }
@@ -66,35 +62,35 @@ fn all_settled(
 }
 
 // 11: whether the terms of context i, if it replaces, are settled in its parent.
-fn replacements_settled(bundle: &Bundle, area: &[u64], n: usize, scopes: &[u64], i: usize) -> bool
-    requires { FreeSets area.now n bundle.now × Scopes bundle.now scopes.now n i × (context_refers bundle.now i ≡ true) }
-    ensures { result ≡ replacements_settled bundle.now i }
+fn replacements_settled(bundle: &Bundle, sets: &TermSets, scopes: &[u64], i: usize) -> bool
+    requires { (bundle.now ≡ sets.now.bundle) × FreeSets sets.now × Scopes sets.now.bundle scopes.now sets.now.n i × (context_refers sets.now.bundle i ≡ true) }
+    ensures { result ≡ replacements_settled sets.now.bundle i }
 {
     let kind = bundle.context_field(i, 0);
     let terms = bundle.context_field(i, 2);
     let parent = bundle.context_field(i, 3);
-    if kind == REPLACES {
-        return all_settled(bundle, area, n, scopes, parent, terms);
+    match Entry::of(kind) {
+        Some(Entry::Replaces) => all_settled(sets, scopes, parent, terms),
+        Some(Entry::Fixes) => true,
+        None => true,
     }
-    true
 }
 
 // What is wrong with context i.
 fn context_fault(
     bundle: &Bundle,
-    sorts: &[usize],
-    area: &[u64],
-    n: usize,
+    sorted: &SortedBundle,
+    sets: &TermSets,
     scopes: &[u64],
     i: usize,
 ) -> Result<(), Check>
-    requires { Sorted bundle.now sorts.now × FreeSets area.now n bundle.now × Scopes bundle.now scopes.now n i }
-    ensures { number_in result ≡ context_fault bundle.now i }
+    requires { (bundle.now ≡ sorted.now) × (sets.now.bundle ≡ sorted.now) × FreeSets sets.now × Scopes sorted.now scopes.now sets.now.n i }
+    ensures { number_in result ≡ context_fault sorted.now i }
 {
-    if !context_refers(bundle, sorts, i) {
+    if !context_refers(bundle, sorted, i) {
         return Err(Check::Context);
     }
-    if !replacements_settled(bundle, area, n, scopes, i) {
+    if !replacements_settled(bundle, sets, scopes, i) {
         return Err(Check::Settled);
     }
     Ok(())
@@ -102,24 +98,24 @@ fn context_fault(
 
 // The first bad context. Where there is none, all that is to be known of contexts is written.
 pub fn contexts_fault(
-    bundle: &Bundle,
-    sorts: &[usize],
-    area: &[u64],
-    n: usize,
-    images: &mut [u16],
-    scopes: &mut [u64],
+    sorted: &SortedBundle,
+    sets: &TermSets,
+    rows: &mut Rows,
 ) -> Result<(), Failure>
-    requires { Sorted bundle.now sorts.now × FreeSets area.now n bundle.now × (length bundle.now.variables ≤ 64 * n) × (length bundle.now.variables * (length bundle.now.contexts + 1)
-        ≤ length images.old) × (2 * n * (length bundle.now.contexts + 1) ≤ length scopes.old) × Images bundle.now images.old 1 × Scopes bundle.now scopes.old n 1 }
-    ensures value { fault_in result ≡ contexts_fault bundle.now }
-    ensures fact { IfOk result (λ _. Images bundle.now images.new (length bundle.now.contexts + 1) × Scopes bundle.now scopes.new n (length bundle.now.contexts + 1)) }
+    requires same { (sets.now.bundle ≡ sorted.now) × (rows.old.bundle ≡ sorted.now) × (rows.old.n ≡ sets.now.n) }
+    requires fact { FreeSets sets.now × (length sorted.now.variables ≤ 64 * sets.now.n)
+        × (length sorted.now.variables * (length sorted.now.contexts + 1) ≤ length rows.old.images)
+        × (2 * sets.now.n * (length sorted.now.contexts + 1) ≤ length rows.old.scopes)
+        × Images sorted.now rows.old.images 1 × Scopes sorted.now rows.old.scopes sets.now.n 1 }
+    ensures value { fault_in result ≡ contexts_fault sorted.now }
+    ensures fact { IfOk result (λ _. Images sorted.now rows.new.images (length sorted.now.contexts + 1) × Scopes sorted.now rows.new.scopes sets.now.n (length sorted.now.contexts + 1)) }
 {
-    let contexts = bundle.contexts();
-    for i in 1..contexts + 1 {
-        if let Err(check) = context_fault(bundle, sorts, area, n, scopes, i) {
+    let bundle = sorted.bundle();
+    for i in 1..bundle.contexts() + 1 {
+        if let Err(check) = context_fault(bundle, sorted, sets, rows.scopes(), i) {
             return Err(Failure { check, record: i });
         }
-        enter(bundle, images, scopes, n, i);
+        rows.enter(i);
     }
     Ok(())
 }

@@ -4,12 +4,12 @@ use mathlib.Core.Path.{◌≡◌, refl, sym, ◌∙◌}
 use mathlib.Core.Bool.{Bool, true, false, cond, not, ◌&&◌, false≢true}
 use mathlib.Core.List.{List}
 use Prim.Native.Nat.{ℕ, ◌+◌, ◌*◌, ◌-◌, ◌^◌, ◌<◌}
-use lib.ListN.{get_or}
+use lib.ListN.{length, get_or}
 use Rattle.bundle.specs.Lists.{numbers, each, has}
 use Rattle.sets.specs.Sets.{member, disjoint_of}
 use Rattle.sets.proofs.Members.{disjoint_none, none_disjoint}
 use Rattle.logic.proofs.Tests.{both_ways, each_has, has_each}
-use Rattle.images.specs.LentReading.{free_in, settled_in}
+use Rattle.free_variables.specs.TermSets.{TermSets, Words, free_in, settled_in}
 
 module _ (w : List ℕ) (first : ℕ) (m : List ℕ) (n : ℕ) (ys : List ℕ) (known : (y : ℕ) → member m 0 n y ≡ has y ys)
     (small : (k : ℕ) → get_or w (first + k) 0 < 2 ^ 64) where
@@ -36,11 +36,11 @@ module _ (w : List ℕ) (first : ℕ) (m : List ℕ) (n : ℕ) (ys : List ℕ) (
           go true = refl
           go false = refl
 
-module _ (terms : ℕ) (w m : List ℕ) (n t : ℕ) (ys : List ℕ) (known : (y : ℕ) → member m 0 n y ≡ has y ys) (small : (k : ℕ) → get_or w k 0 < 2 ^ 64) where
-  pub no_captures : {p : Bool} → p ≡ settled_in terms w m n 0 t → p ≡ each (λ y. not (free_in terms w n t y)) ys
+module _ (s : TermSets) (m : List ℕ) (t : ℕ) (ys : List ℕ) (known : (y : ℕ) → member m 0 s.n y ≡ has y ys) (small : Words s.words) where
+  pub no_captures : {p : Bool} → p ≡ settled_in s m 0 t → p ≡ each (λ y. not (free_in s t y)) ys
   unfolding settled_in free_in
-  no_captures d = d ∙ go (numbers terms t)
+  no_captures d = d ∙ go (numbers (length s.bundle.terms) t)
     where
-      go : (p : Bool) → cond p (disjoint_of w (n * (t - 1)) m 0 n) true ≡ each (λ y. not (cond p (member w (n * (t - 1)) n y) false)) ys
-      go true = none_common w (n * (t - 1)) m n ys known (λ k. small (n * (t - 1) + k))
+      go : (p : Bool) → cond p (disjoint_of s.words (s.n * (t - 1)) m 0 s.n) true ≡ each (λ y. not (cond p (member s.words (s.n * (t - 1)) s.n y) false)) ys
+      go true = none_common s.words (s.n * (t - 1)) m s.n ys known (λ k. small (s.n * (t - 1) + k))
       go false = sym (has_each (λ y. true) ys (λ y h. refl))

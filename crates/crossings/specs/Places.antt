@@ -1,8 +1,9 @@
 -- What the walk of whole-term REFL knows of the binders that it has crossed, in two arrays: the places of the variables among them, so that a crossed
 -- variable is looked up by one load, and the set of the variables that are bound on the right.
-use Rattle.std.specs.Prelude.{ℕ, suc, ◌+◌, ◌-◌, ◌≤◌, ◌≡◌, cond, List, [], ◌∷◌, length, get_or, eqb}
+use Rattle.std.specs.Prelude.{ℕ, suc, ◌+◌, ◌*◌, ◌-◌, ◌≤◌, ◌≡◌, cond, List, [], ◌∷◌, length, get_or, eqb}
 use Rattle.bundle.specs.Lists.{has}
 use Rattle.sets.specs.Sets.{member}
+use Rattle.free_variables.specs.TermSets.{TermSets, Words}
 use Rattle.logic.specs.Lists.{All, Number}
 use Rattle.logic.specs.ReflWalk.{Crossed, lefts, rights}
 
@@ -22,3 +23,20 @@ pub record Places (variables n : ℕ) (w m : List ℕ) (ps : Crossed) : Type 0 w
   pub bound : (y : ℕ) → member m 0 n y ≡ has y (rights ps)
   pub lefts_known : All (Number variables) (lefts ps)
   pub rights_known : All (Number variables) (rights ps)
+
+-- ---- the arrays, with the sets of the file's terms
+
+pub record Binders : Type 0 where
+  pub sets : TermSets
+  pub places : List ℕ
+  pub bound : List ℕ
+
+-- there is room for each variable, in the sets too, which are of words
+pub record BindersFit (sets : TermSets) (w m : List ℕ) : Type 0 where
+  pub long : length sets.bundle.variables + length sets.bundle.variables ≤ length w
+  pub words : sets.n ≤ length m
+  pub bits : length sets.bundle.variables ≤ 64 * sets.n
+  pub small : Words sets.words
+
+abbrev pub HaveCrossed : Binders → Crossed → Type 0
+HaveCrossed b ps = Places (length b.sets.bundle.variables) b.sets.n b.places b.bound ps

@@ -5,7 +5,7 @@ ghost use Rattle.bundle.specs.Links.{items};
 ghost use Rattle.logic.specs.ReflWalk.{application_meets, sorts_meet, all_sorts_meet, binder_meets, let_meets};
 
 use bundle::Bundle;
-use logic::kinds::{APPLICATION, LET};
+use logic::kinds::Kind;
 
 pub fn application_meets(bundle: &Bundle, l: usize, r: usize) -> bool
     ensures { result ≡ application_meets bundle.now (term_of bundle.now l) r }
@@ -13,11 +13,11 @@ pub fn application_meets(bundle: &Bundle, l: usize, r: usize) -> bool
     let symbol = bundle.term_field(l, 1);
     let kind = bundle.term_field(r, 0);
     let other = bundle.term_field(r, 1);
-    (kind == APPLICATION) & (symbol == other)
+    (kind == Kind::Application.number()) & (symbol == other)
 }
 
 // Whether x and y are variables of one sort.
-fn sorts_meet(bundle: &Bundle, x: usize, y: usize) -> bool
+pub fn sorts_meet(bundle: &Bundle, x: usize, y: usize) -> bool
     ensures { result ≡ sorts_meet bundle.now x y }
 {
     let count = bundle.variables();
@@ -38,7 +38,7 @@ pub fn binder_meets(bundle: &Bundle, l: usize, r: usize) -> bool
 }
 
 // Whether two lists of variables have the same sorts, one by one.
-fn all_sorts_meet(bundle: &Bundle, first: usize, second: usize) -> bool
+pub fn all_sorts_meet(bundle: &Bundle, first: usize, second: usize) -> bool
     ensures { result ≡ all_sorts_meet bundle.now (items bundle.now first) (items bundle.now second) }
 {
     let mut others = bundle.items(second);
@@ -70,7 +70,7 @@ pub fn let_meets(bundle: &Bundle, l: usize, r: usize) -> bool
     ensures { result ≡ let_meets bundle.now (term_of bundle.now l) r }
 {
     let kind = bundle.term_field(r, 0);
-    if kind != LET {
+    if kind != Kind::Let.number() {
         return false;
     }
     let variables = bundle.term_field(l, 1);

@@ -5,49 +5,60 @@
 ghost use Rattle.std.specs.Prelude.{◌≡◌, ◌<◌, length};
 ghost use Rattle.bundle.specs.Bundle.{term_of};
 ghost use Rattle.bundle.specs.Links.{items};
-ghost use Rattle.bundle.specs.Filed.{digests};
-ghost use Rattle.logic.specs.Checks.{same_field, same_term, is_new};
+ghost use Rattle.logic.specs.Checks.{first_is_list, second_is_list, same_field, same_term, is_new};
 ghost use Rattle.duplicates.specs.Digests.{mix_items, mix_field, term_digest, FiledBelow};
 ghost use Rattle.bundle.specs.RecordWords.{as_term};
 
 use bundle::Bundle;
-use bundle::digests::{DIGESTS, mixed};
+use bundle::digests::{DIGESTS, Digest};
 use bundle::records::TermWords;
-use logic::kinds::{APPLICATION, LET};
+use logic::kinds::Kind;
+
+// Whether the first field of a term is a list, by its kind; and the second.
+fn lists_of(kind: usize) -> (bool, bool)
+    ensures { (result.0 ≡ first_is_list kind) × (result.1 ≡ second_is_list kind) }
+{
+    match Kind::of(kind) {
+        Some(Kind::Application) => (false, true),
+        Some(Kind::Let) => (true, true),
+        Some(Kind::Variable) => (false, false),
+        Some(Kind::Binder(_)) => (false, false),
+        None => (false, false),
+    }
+}
 
 // A digest and the first items of a list.
-fn mixed_items(bundle: &Bundle, d: usize, list: usize) -> usize
-    requires { (d < digests) }
-    ensures { (result ≡ mix_items 8 d (items bundle.now list)) × (result < digests) }
+fn mixed_items(bundle: &Bundle, d: Digest, list: usize) -> Digest
+    ensures { result ≡ mix_items 8 d (items bundle.now list) }
 {
     let mut sum = d;
     for x in bundle.items(list).take(8) {
-        sum = mixed(sum, x);
+        sum = sum.mixed(x);
     }
     sum
 }
 
 // A digest and a field.
-fn mixed_field(bundle: &Bundle, list: bool, d: usize, x: usize) -> usize
-    requires { (d < digests) }
-    ensures { (result ≡ mix_field bundle.now list d x) × (result < digests) }
+fn mixed_field(bundle: &Bundle, list: bool, d: Digest, x: usize) -> Digest
+    ensures { result ≡ mix_field bundle.now list d x }
 {
     if list {
         mixed_items(bundle, d, x)
     } else {
-        mixed(d, x)
+        d.mixed(x)
     }
 }
 
 // The digest of a term's record, by its words.
-pub fn digest(bundle: &Bundle, w: TermWords) -> usize
-    ensures { (result ≡ term_digest bundle.now (as_term w)) × (result < digests) }
+pub fn digest(bundle: &Bundle, w: TermWords) -> Digest
+    ensures { result ≡ term_digest bundle.now (as_term w) }
 {
     let kind = w.kind;
-    let d = mixed(0, kind);
-    let d1 = mixed_field(bundle, kind == LET, d, w.first);
-    let d2 = mixed_field(bundle, (kind == APPLICATION) | (kind == LET), d1, w.second);
-    mixed(d2, w.third)
+    let d = Digest::empty().mixed(kind);
+    let (first, second) = lists_of(kind);
+    let d1 = mixed_field(bundle, first, d, w.first);
+    let d2 = mixed_field(bundle, second, d1, w.second);
+    d2.mixed(w.third)
 }
 
 // Whether two fields are the same: as lists, item by item, or as numbers.
@@ -65,15 +76,16 @@ pub fn same_term(bundle: &Bundle, i: usize, j: usize) -> bool
     if kind != bundle.term_field(j, 0) {
         return false;
     }
+    let (lists, more_lists) = lists_of(kind);
     let first = same_field(
         bundle,
-        kind == LET,
+        lists,
         bundle.term_field(i, 1),
         bundle.term_field(j, 1),
     );
     let second = same_field(
         bundle,
-        (kind == APPLICATION) | (kind == LET),
+        more_lists,
         bundle.term_field(i, 2),
         bundle.term_field(j, 2),
     );
@@ -81,12 +93,12 @@ pub fn same_term(bundle: &Bundle, i: usize, j: usize) -> bool
 }
 
 // 9: whether no earlier term has the same record, where the terms below i are filed, and d is its digest.
-pub fn is_new(bundle: &Bundle, heads: &[u16; DIGESTS], next: &[u16], i: usize, d: usize) -> bool
-    requires { FiledBelow bundle.now heads.now next.now i × (i < length next.now) × (d < digests) × (d ≡ term_digest bundle.now (term_of bundle.now
+pub fn is_new(bundle: &Bundle, heads: &[u16; DIGESTS], next: &[u16], i: usize, d: Digest) -> bool
+    requires { FiledBelow bundle.now heads.now next.now i × (i < length next.now) × (d ≡ term_digest bundle.now (term_of bundle.now
         i)) }
     ensures { result ≡ is_new bundle.now i }
 {
-    let mut j = usize::from(heads[d]);
+    let mut j = usize::from(heads[d.place()]);
     // Down the chain of the digest, which has no iterator.
     while j != 0 {
         if same_term(bundle, j, i) {

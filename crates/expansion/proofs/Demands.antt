@@ -13,14 +13,14 @@ use native.Mathlib.Omega.{arith}
 use lib.ListN.{length, get_or}
 use Rattle.bundle.specs.Bundle.{Bundle}
 use Rattle.bundle.specs.Limits.{header_words, set_words, Within}
-use Rattle.bundle.specs.File.{counts_of, bundle_by, bundle_of}
+use Rattle.bundle.specs.File.{counts_of, bundle_by, bundle_of, own_counts}
 use Rattle.judgement.specs.Answer.{Accepted}
 use Rattle.judgement.specs.Judge.{acceptance, judge}
 use Rattle.judgement.specs.Demands.{Acceptable}
 use Rattle.judgement.proofs.Order.{first_fails, fails_first, failing_number}
 use Rattle.judgement.proofs.Demands.{accepted_exactly, accepted_sound}
 use Rattle.expansion.specs.Visit.{expanded}
-use Rattle.expansion.specs.File.{counts_in, file_of}
+use Rattle.expansion.specs.File.{file_of}
 use Rattle.expansion.specs.JobOrder.{all_job_checks}
 use Rattle.expansion.specs.Demands.{Bytes, BytesExactly, JobFormed, RefusedJobExactly, WrittenExactly, AreasLeft, WrittenWell, ExpansionRight}
 use Rattle.expansion.proofs.SmallNumbers.{SmallBundle}
@@ -57,7 +57,7 @@ pub areas_left : AreasLeft
 areas_left = zeros_left
 
 -- f is the job, B the bundle that is written
-module _ (f : List ℕ) (B : Bundle) (fit : Within (counts_in B)) (small : SmallBundle B) (theorem : Derived (bundle_of f) B)
+module _ (f : List ℕ) (B : Bundle) (fit : Within (own_counts B)) (small : SmallBundle B) (theorem : Derived (bundle_of f) B)
     (one : (bundle_of f).version ≡ 1) where
   same : B ≡ bundle_of (file_of B)
   same = sym (file_bundle B fit small)

@@ -16,7 +16,7 @@ use lib.Seq.{drop-append_seam}
 use borrow.Author.Tests.{eqb-true, eq-eqb, leb-true, le-leb}
 use Rattle.bundle.specs.Bundle.{Bundle}
 use Rattle.bundle.specs.Limits.{header_words, Within}
-use Rattle.bundle.specs.File.{bundle_of}
+use Rattle.bundle.specs.File.{bundle_of, own_counts}
 use Rattle.bundle.proofs.Limits.{within_all, within_true}
 use Rattle.logic.specs.Tests.{Fault}
 use Rattle.logic.specs.Lists.{All}
@@ -35,7 +35,7 @@ use Rattle.judgement.proofs.Order.{none_fails, all_hold}
 use Rattle.logic.proofs.Headers.{header_exactly}
 use Rattle.expansion.specs.Answer.{Written, Refused}
 use Rattle.expansion.specs.Visit.{visited, expanded}
-use Rattle.expansion.specs.File.{counts_in, file_of}
+use Rattle.expansion.specs.File.{file_of}
 use Rattle.expansion.specs.Expansion.{long_enough, is_bare, rule_closed, job_fault, Outcome, outcome_of, expansion}
 use Rattle.expansion.specs.JobOrder.{last_checks}
 use Rattle.expansion.specs.Demands.{JobFormed, Fits, LongEnough, ZerosLeft}
@@ -128,7 +128,7 @@ module _ (f : List ℕ) (out words sets : ℕ) where
               left = (number_exactly (length b.terms) b.left).0 last.1.0;
             },
             (closed_exactly b formed).0 last.1.1.0,
-            within_all (counts_in (visited b).bundle) last.1.1.1.0,
+            within_all (own_counts (visited b).bundle) last.1.1.1.0,
             (long_exactly out words sets).0 good.1,
           )
 
@@ -138,7 +138,7 @@ module _ (f : List ℕ) (out words sets : ℕ) where
             (bare_exactly b).1 (formed.contexts, formed.steps, formed.right),
             (
               (number_exactly (length b.terms) b.left).1 formed.left,
-              ((closed_exactly b formed.tables).1 closed, (within_true (counts_in (visited b).bundle) fits, tt)),
+              ((closed_exactly b formed.tables).1 closed, (within_true (own_counts (visited b).bundle) fits, tt)),
             ),
           ) in
           both_next (tables_fault f m 3) (last_fault b)
@@ -203,7 +203,7 @@ module _ (f : List ℕ) (out words sets : ℕ) where
     unfolding expanded header_words
     job_room =
         let h = (job_exactly f out words sets).0 passes in
-        let fits : Within (counts_in (visited (bundle_of f)).bundle) = h.2 in
+        let fits : Within (own_counts (visited (bundle_of f)).bundle) = h.2 in
         let long : LongEnough out words sets = h.3 in
         omega (arith, file_length (expanded (bundle_of f)))
 

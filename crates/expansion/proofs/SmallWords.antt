@@ -18,7 +18,7 @@ use Rattle.bundle.specs.Bundle.{Bundle, Link, TermRecord, Context, Step, at, no_
 use Rattle.bundle.specs.Words.{word_at}
 use Rattle.bundle.specs.Limits.{Within}
 use Rattle.bundle.specs.Links.{rest, lists, chain, items}
-use Rattle.bundle.specs.File.{bundle_by, counts_of, bundle_of}
+use Rattle.bundle.specs.File.{bundle_by, counts_of, bundle_of, own_counts}
 use Rattle.logic.specs.Lists.{All}
 use Rattle.logic.specs.declared.Image.{Image}
 use Rattle.logic.specs.declared.Image.TheVariants.{Own, Gives}
@@ -35,7 +35,7 @@ use Rattle.logic.specs.Lookup.{after, seek, same_variable, same_application, sam
 use Rattle.expansion.specs.Placed.{PlacedTerm, placed, place_application, place_binder}
 use Rattle.expansion.specs.Visit.{Visit, Visits, concluded, OpenedContext, replacing, fixing}
 use Rattle.expansion.specs.Visit.{image_term, new_variable, fresh, renaming, OpenedBinder, open_binder, visit, visit_all, visited, expanded}
-use Rattle.expansion.specs.File.{counts_in, symbol_words, variable_words, term_words, link_words, context_words, step_words}
+use Rattle.expansion.specs.File.{symbol_words, variable_words, term_words, link_words, context_words, step_words}
 use Rattle.expansion.specs.Demands.{Bytes}
 use Rattle.expansion.proofs.SmallNumbers.{Word, SmallBundle, all_append, all_snoc, all_get_d, all_at, all_tab}
 use Rattle.expansion.proofs.Grown.{variable_longer, application_longer, binder_longer, concluded_longer, replacing_longer, fixing_longer, listed_longer}
@@ -237,7 +237,7 @@ node_as_lem b (binder q) f r h w = (w.0, w.1.1.0, h r.term.b)
 node_as_lem b letting f r h w = (w.0, w.1.1.0, gather_small f h (items b r.term.b), h r.term.c)
 node_as_lem b other f r h w = (omega arith, omega arith, tt)
 
-pub node_small : (b : Bundle) → SmallBundle b → Within (counts_in b) → (t : ℕ) → SmallNode (node_at b t)
+pub node_small : (b : Bundle) → SmallBundle b → Within (own_counts b) → (t : ℕ) → SmallNode (node_at b t)
 unfolding node_at node_by
 node_small b small fit t =
     table_all (node_by b) no_node SmallNode (omega arith, omega arith, tt) none (numbered 1 b.terms)
@@ -306,7 +306,7 @@ binder_word forAll = omega arith
 binder_word exists = omega arith
 
 -- `end` is the last bundle, and within the limits.
-module _ {end : Bundle} (fit : Within (counts_in end)) where
+module _ {end : Bundle} (fit : Within (own_counts end)) where
   list_room : (b : Bundle) (vs : List ℕ) → Longer (add_list b vs) end → suc (length b.links) + length vs ≤ 2 ^ 32
   list_room b vs e =
       let new : List Link = consecutive (suc (length b.links)) vs in
@@ -450,11 +450,11 @@ module _ {end : Bundle} (fit : Within (counts_in end)) where
         record { bundle = ss.bundle; results = (sv.result, ss.results); steps = (sv.step, ss.steps) }
 
 -- THE LAW
-pub expanded_small : (b : Bundle) → SmallBundle b → Within (counts_in (visited b).bundle) → SmallBundle (expanded b)
+pub expanded_small : (b : Bundle) → SmallBundle b → Within (own_counts (visited b).bundle) → SmallBundle (expanded b)
 unfolding visited expanded
 expanded_small b small fit =
     let e : Longer b (visited b).bundle = visit_longer (node_at b b.left) 0 b in
-    let begins : Within (counts_in b) = record {
+    let begins : Within (own_counts b) = record {
       symbols = omega (arith, fit.symbols, (sizes e).symbols);
       variables = omega (arith, fit.variables, (sizes e).variables);
       terms = omega (arith, fit.terms, (sizes e).terms);

@@ -1,7 +1,7 @@
 -- THE DEMANDS on the writer, as types. proofs/ has each under the same name.
 use Rattle.std.specs.Prelude.{ℕ, ◌-◌, ◌*◌, ◌≤◌, ◌<◌, ◌≡◌, ◌↔◌, false, List, [], length, get_or, take, drop, replicate}
 use Rattle.bundle.specs.Limits.{limits, set_words, words_of, bytes_of, Within}
-use Rattle.bundle.specs.File.{counts_of, bundle_of}
+use Rattle.bundle.specs.File.{counts_of, bundle_of, own_counts}
 use Rattle.logic.specs.Lists.{All, Number}
 use Rattle.logic.specs.Terms.{tree}
 use Rattle.logic.specs.Free.{Closed}
@@ -14,7 +14,6 @@ use Rattle.judgement.specs.Judge.{acceptance, judge}
 use Rattle.judgement.specs.Order.{FirstFailing}
 use Rattle.expansion.specs.Answer.{Written, Refused}
 use Rattle.expansion.specs.Visit.{visited}
-use Rattle.expansion.specs.File.{counts_in}
 use Rattle.expansion.specs.Expansion.{stack_words, Outcome, expansion}
 use Rattle.expansion.specs.JobOrder.{all_job_checks}
 
@@ -37,7 +36,7 @@ pub record JobFormed (f : List ℕ) : Type 0 where
 
 -- Its derivation fits the limits if no section passes its limit with the old records and all that the visit to its left, in context 0, appends.
 abbrev pub Fits : List ℕ → Type 0
-Fits f = Within (counts_in (visited (bundle_of f)).bundle)
+Fits f = Within (own_counts (visited (bundle_of f)).bundle)
 
 -- Areas are long enough if none is shorter than required.
 pub record LongEnough (out words sets : ℕ) : Type 0 where

@@ -3,14 +3,14 @@ use Rattle.std.specs.Prelude.{ℕ, zero, suc, ◌+◌, ◌-◌, ◌*◌, Bool, c
 use Rattle.bundle.specs.Bundle.{Bundle}
 use Rattle.bundle.specs.Lists.{numbers}
 use Rattle.bundle.specs.Limits.{set_words, limits, words_of, bytes_of, header_words, within_of}
-use Rattle.bundle.specs.File.{bundle_of}
+use Rattle.bundle.specs.File.{bundle_of, own_counts}
 use Rattle.logic.specs.Tests.{Fault}
 use Rattle.logic.specs.Tests.{passed, up_to, Test, test, first_failing, fault, or_else, or_next}
 use Rattle.logic.specs.Free.{free_at}
 use Rattle.logic.specs.Checks.{tables_fault}
 use Rattle.expansion.specs.Answer.{Answer, Written, Refused}
 use Rattle.expansion.specs.Visit.{visited, expanded}
-use Rattle.expansion.specs.File.{counts_in, file_of}
+use Rattle.expansion.specs.File.{file_of}
 
 -- ---- areas
 
@@ -43,7 +43,7 @@ rule_closed b = up_to (length b.variables) (λ x. not (free_at b b.left x))
 
 -- 16 where a section would pass its limit
 abbrev pub derivation_fits : Bundle → Bool
-derivation_fits b = within_of (counts_in (visited b).bundle)
+derivation_fits b = within_of (own_counts (visited b).bundle)
 
 -- those before the visit
 abbrev pub early_tests : Bundle → List Test

@@ -1,5 +1,7 @@
 -- Terms filed by their digests, and the walk down the chain of a digest.
 --     variable_digest, application_digest, binder_digest, let_digest_lem     whatever is looked up has the digest that it is looked up by
+--     plain_digest                           the digest of a term with no list, by its kind
+--     binder_kind                            the number of a binder
 --     plain_digested, application_digested, let_digested, formed_digested     digests that stay where the bundle grows: of a term with no list,
 --                                                  of an application or a let whose lists were just appended, of a term of well-formed tables
 --     filed_none, filed_on, term_indexed           nothing is filed at first; then one term more is; the index after a term was appended and filed
@@ -24,7 +26,7 @@ use Rattle.bundle.specs.Lists.{same_list}
 use Rattle.bundle.specs.Filed.{digests, mix, Filed}
 use Rattle.bundle.proofs.Filed.{mix_small, Sought, sought_lowest}
 use Rattle.bundle.proofs.Filed.{filed_none as none-filed, filed_on as on-filed}
-use Rattle.logic.specs.Terms.{Binder, forAll, exists, binder, number_of}
+use Rattle.logic.specs.Terms.{Binder, forAll, exists, Kind, application, binder, letting, number_of, kind_of}
 use Rattle.logic.specs.WellFormed.{TablesFormed}
 use Rattle.logic.specs.Lookup.{seek, same_variable, same_application, same_binder, same_let}
 use Rattle.logic.specs.Longer.{Longer, with_terms, add_list, list_start}
@@ -57,6 +59,11 @@ plain : (b : Bundle) (r : TermRecord) → (r.kind ≡ 2 → ⊥) → (r.kind ≡
 unfolding lookup_digest mix_all
 plain b r h k = rw (ne_eqb r.kind 5 k, ne_eqb r.kind 2 h)
 
+-- by its kind
+pub plain_digest : (b : Bundle) (r : TermRecord) (k : Kind) → kind_of r.kind ≡ k → (application ≡ k → ⊥) → (letting ≡ k → ⊥) → lookup_digest b r ≡ root_digest r.kind r.a
+unfolding kind_of
+plain_digest b r k e h g = plain b r (λ z. h (ap kind_of (sym z) ∙ e)) (λ z. g (ap kind_of (sym z) ∙ e))
+
 pub variable_digest : (b : Bundle) (y : ℕ) (r : TermRecord) → same_variable y r ≡ true → lookup_digest b r ≡ root_digest 1 y
 unfolding same_variable
 variable_digest b y r e =
@@ -71,7 +78,7 @@ application_digest b f ts r e =
     let q = both (eqb r.a f) (same_list (items b r.b) ts) p.1 in
     rw (eqb-true r.kind 2 p.0, eqb-true r.a f q.0, same_list_lem (items b r.b) ts q.1)
 
-binder_kind : (q : Binder) → (3 ≤ number_of (binder q)) × (number_of (binder q) ≤ 4)
+pub binder_kind : (q : Binder) → (3 ≤ number_of (binder q)) × (number_of (binder q) ≤ 4)
 binder_kind forAll = (omega arith, omega arith)
 binder_kind exists = (omega arith, omega arith)
 
@@ -135,7 +142,10 @@ filed_none b = record { long = length-replicate {A = ℕ} places 0; held = λ B 
     zero_at (suc n) (suc d) = zero_at n d
 
 module _ (b : Bundle) (ix : List ℕ) (n d : ℕ) (filed : FiledTo b ix n) (t n' : ℕ) (next : t ≡ suc n) (last : n' ≡ t)
-    (own : (B : Bundle) → Longer b B → lookup_digest B (term_of B t) ≡ d) (small : d < digests) (room : t ≤ limits.terms) where
+    (own : (B : Bundle) → Longer b B → lookup_digest B (term_of B t) ≡ d) (room : t ≤ limits.terms) where
+  small : d < digests
+  small = subst (λ (n : ℕ). n < digests) (own b (longer_refl b)) (digest_small b (term_of b t))
+
   abbrev mid : List ℕ
   mid = set ix (digests + t) (get_or ix d 0)
 
@@ -151,11 +161,11 @@ module _ (b : Bundle) (ix : List ℕ) (n d : ℕ) (filed : FiledTo b ix n) (t n'
 
   chain_new : get_or new (digests + t) 0 ≡ get_or ix d 0
   chain_new =
-      get_or-set_other mid d (digests + t) t 0 (λ z. omega arith) ∙ get_or-set_same ix (digests + t) (get_or ix d 0) 0 (omega (arith, filed.long))
+      get_or-set_other mid d (digests + t) t 0 (λ z. omega (arith, small)) ∙ get_or-set_same ix (digests + t) (get_or ix d 0) 0 (omega (arith, filed.long))
 
   chain_other : (j : ℕ) → (j ≡ t → ⊥) → get_or new (digests + j) 0 ≡ get_or ix (digests + j) 0
   chain_other j q =
-      get_or-set_other mid d (digests + j) t 0 (λ z. omega arith)
+      get_or-set_other mid d (digests + j) t 0 (λ z. omega (arith, small))
       ∙ get_or-set_other ix (digests + t) (digests + j) (get_or ix d 0) 0 (λ z. q (omega arith))
 
   pub filed_on : FiledTo b (set (set ix (digests + t) (get_or ix d 0)) d t) n'
@@ -163,22 +173,22 @@ module _ (b : Bundle) (ix : List ℕ) (n d : ℕ) (filed : FiledTo b ix n) (t n'
     long = length-set mid d t ∙ mid_long;
     held = λ B more.
         on-filed (filed.held B more) (λ j. digest_small B (term_of B j)) _ _ d t n' next last (own B more)
-        (get_or-set_same mid d t 0 (omega (arith, mid_long))) head_other chain_new chain_other;
+        (get_or-set_same mid d t 0 (omega (arith, mid_long, small))) head_other chain_new chain_other;
   }
 
 filed_longer : {b b' : Bundle} {ix : List ℕ} {n : ℕ} → Longer b b' → FiledTo b ix n → FiledTo b' ix n
 filed_longer more filed = record { long = filed.long; held = λ B on. filed.held B (longer_trans more on) }
 
 -- b' has one term more, and it was filed as term t, by its digest
-pub term_indexed : {b b' : Bundle} {ix ix' : List ℕ} (r : TermRecord) {d t : ℕ} → Indexed b ix → Digested b r d → d < digests → length b.terms < limits.terms
+pub term_indexed : {b b' : Bundle} {ix ix' : List ℕ} (r : TermRecord) {d t : ℕ} → Indexed b ix → Digested b r d → length b.terms < limits.terms
     → t ≡ suc (length b.terms) → b' ≡ with_terms b (r ∷ []) → ix' ≡ set (set ix (digests + t) (get_or ix d 0)) d t → Indexed b' ix'
-term_indexed {b} {b'} {ix} {ix'} r {d} {t} indexed digested small room next e f =
+term_indexed {b} {b'} {ix} {ix'} r {d} {t} indexed digested room next e f =
     let c : Bundle = with_terms b (r ∷ []) in
     let longer : Longer b c = terms_longer b (r ∷ []) in
     let own : (B : Bundle) → Longer c B → lookup_digest B (term_of B t) ≡ d =
     λ B more. ap (λ (n : ℕ). lookup_digest B (term_of B n)) next ∙ ap (lookup_digest B) (term_added b r more) ∙ digested B (longer_trans longer more) in
     let all : length c.terms ≡ t = omega (arith, length-append b.terms (r ∷ [])) in
-    let filed = filed_on c ix (length b.terms) d (filed_longer longer indexed) t (length c.terms) next all own small (omega arith) in
+    let filed = filed_on c ix (length b.terms) d (filed_longer longer indexed) t (length c.terms) next all own (omega arith) in
     rw (e, f) filed
 
 -- ---- the walk

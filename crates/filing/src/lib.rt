@@ -15,7 +15,7 @@ pub mod digests; // digests.rt: digests of terms
 pub mod lookups; // lookups.rt: terms looked up
 
 use bundle::Bundle;
-use bundle::digests::DIGESTS;
+use bundle::digests::{DIGESTS, Digest};
 use bundle::records::{ContextWords, StepWords, TermWords};
 use digests::digest;
 use scratch::Scratch;
@@ -43,12 +43,12 @@ impl<'a> Model for Filed<'a> {
 }
 
 // Files term t, whose digest is d.
-fn file_term(index: &mut [u16; PLACES], d: usize, t: usize)
-    requires { (d < digests) × (1 ≤ t) × (t ≤ limits.terms) }
+fn file_term(index: &mut [u16; PLACES], d: Digest, t: usize)
+    requires { (1 ≤ t) × (t ≤ limits.terms) }
     ensures { index.new ≡ set (set index.old (digests + t) (get_or index.old d 0)) d t }
 {
-    index[DIGESTS + t] = index[d];
-    index[d] = t as u16;
+    index[DIGESTS + t] = index[d.place()];
+    index[d.place()] = t as u16;
 }
 
 // Files all terms, where none is filed yet.
@@ -88,8 +88,8 @@ impl<'a> Filed<'a> {
     }
 
     // A term whose digest is d.
-    pub fn append_term(&mut self, term: TermWords, d: usize)
-        requires { (length self.old.terms < limits.terms) × TermFits term × (d < digests) × Digested self.old (as_term term) d }
+    pub fn append_term(&mut self, term: TermWords, d: Digest)
+        requires { (length self.old.terms < limits.terms) × TermFits term × Digested self.old (as_term term) d }
         ensures { self.new ≡ with_terms self.old (as_term term ∷ []) }
     {
         let t = self.scratch.terms() + 1;

@@ -3,7 +3,6 @@
 ghost use Rattle.std.specs.Prelude.{◌≡◌, Bool, true, false, ℕ, ◌<◌, ◌≤◌};
 ghost use Rattle.bundle.specs.Bundle.{TermRecord, term_of};
 ghost use Rattle.bundle.specs.Limits.{limits};
-ghost use Rattle.bundle.specs.Filed.{digests};
 ghost use Rattle.logic.specs.Terms.{Binder, binder, number_of};
 ghost use Rattle.logic.specs.Lookup.{seek, same_variable, same_application, same_binder, same_let};
 ghost use Rattle.scratch.specs.Stack.{halves_of};
@@ -11,8 +10,8 @@ ghost use Rattle.filing.specs.Filing.{mix_all, root_digest, let_digest, lookup_d
 
 use super::Filed;
 use bundle::Bundle;
-use bundle::digests::DIGESTS;
-use logic::kinds::{APPLICATION, LET, VARIABLE};
+use bundle::digests::{DIGESTS, Digest};
+use logic::kinds::Kind;
 use scratch::Scratch;
 
 // Whether term t is the variable y.
@@ -20,7 +19,7 @@ fn is_variable(scratch: &Scratch<'_>, t: usize, y: usize) -> bool
     ensures { result ≡ same_variable y (term_of scratch.now t) }
 {
     let term = scratch.term_words(t);
-    (term.kind == VARIABLE) & (term.first == y)
+    (term.kind == Kind::Variable.number()) & (term.first == y)
 }
 
 // Whether term t is the symbol at the upper halves of pairs.
@@ -28,7 +27,7 @@ fn is_application(scratch: &Scratch<'_>, t: usize, symbol: usize, arguments: &[u
     ensures { result ≡ same_application scratch.now symbol (halves_of true arguments.now) (term_of scratch.now t) }
 {
     let term = scratch.term_words(t);
-    if term.kind != APPLICATION {
+    if term.kind != Kind::Application.number() {
         return false;
     }
     if term.first != symbol {
@@ -50,7 +49,7 @@ fn is_let(scratch: &Scratch<'_>, t: usize, body: usize, pairs: &[u64]) -> bool
     ensures { result ≡ same_let scratch.now (halves_of false pairs.now) (halves_of true pairs.now) body (term_of scratch.now t) }
 {
     let term = scratch.term_words(t);
-    if term.kind != LET {
+    if term.kind != Kind::Let.number() {
         return false;
     }
     let named = scratch.same_halves(term.first, pairs, false);
@@ -60,8 +59,8 @@ fn is_let(scratch: &Scratch<'_>, t: usize, body: usize, pairs: &[u64]) -> bool
 
 impl<'a> Filed<'a> {
     // The lowest term that passes a test, where all that pass have the digest d.
-    fn lowest<F: Fn(usize) -> bool>(&self, d: usize, same: F) -> Option<usize>
-        requires { (d < digests) × F.IsAlwaysCallable same }
+    fn lowest<F: Fn(usize) -> bool>(&self, d: Digest, same: F) -> Option<usize>
+        requires { F.IsAlwaysCallable same }
         ensures { (p : TermRecord → Bool) → ((t : ℕ) (r : Bool) → t ≤ limits.terms → F.post same t r → r ≡ p (term_of self.now t))
             → ((r : TermRecord) → p r ≡ true → lookup_digest self.now r ≡ d)
             → result ≡ found (seek p self.now.terms) }
@@ -69,7 +68,7 @@ impl<'a> Filed<'a> {
         // So each place that the chain names is in the index.
         prove!(self.scratch.terms() <= Bundle::TERMS);
         let mut lowest = None;
-        let mut t = usize::from(self.index[d]);
+        let mut t = usize::from(self.index[d.place()]);
         // No `for`: this follows the chain of a digest through the index.
         while t != 0 {
             if same(t) {
@@ -81,8 +80,8 @@ impl<'a> Filed<'a> {
     }
 
     // d is the digest of the variable.
-    pub fn find_variable(&self, d: usize, y: usize) -> Option<usize>
-        requires { (d < digests) × (d ≡ root_digest 1 y) }
+    pub fn find_variable(&self, d: Digest, y: usize) -> Option<usize>
+        requires { d ≡ root_digest 1 y }
         ensures { result ≡ found (seek (same_variable y) self.now.terms) }
     {
         let scratch = self.scratch();
@@ -90,8 +89,8 @@ impl<'a> Filed<'a> {
     }
 
     // d is the digest of the application, of a symbol at the upper halves of pairs.
-    pub fn find_application(&self, d: usize, symbol: usize, arguments: &[u64]) -> Option<usize>
-        requires { (d < digests) × (d ≡ mix_all (root_digest 2 symbol) (halves_of true arguments.now)) }
+    pub fn find_application(&self, d: Digest, symbol: usize, arguments: &[u64]) -> Option<usize>
+        requires { d ≡ mix_all (root_digest 2 symbol) (halves_of true arguments.now) }
         ensures { result ≡ found (seek (same_application self.now symbol (halves_of true arguments.now)) self.now.terms) }
     {
         let scratch = self.scratch();
@@ -99,8 +98,8 @@ impl<'a> Filed<'a> {
     }
 
     // d is the digest of the binder.
-    pub fn find_binder(&self, d: usize, kind: usize, y: usize, body: usize) -> Option<usize>
-        requires { (d < digests) × (d ≡ root_digest kind y) }
+    pub fn find_binder(&self, d: Digest, kind: usize, y: usize, body: usize) -> Option<usize>
+        requires { d ≡ root_digest kind y }
         ensures { (q : Binder) → kind ≡ number_of (binder q) → result ≡ found (seek (same_binder q y body) self.now.terms) }
     {
         let scratch = self.scratch();
@@ -108,8 +107,8 @@ impl<'a> Filed<'a> {
     }
 
     // d is the digest of the let.
-    pub fn find_let(&self, d: usize, body: usize, pairs: &[u64]) -> Option<usize>
-        requires { (d < digests) × (d ≡ let_digest (halves_of false pairs.now) (halves_of true pairs.now) body) }
+    pub fn find_let(&self, d: Digest, body: usize, pairs: &[u64]) -> Option<usize>
+        requires { d ≡ let_digest (halves_of false pairs.now) (halves_of true pairs.now) body }
         ensures { result ≡ found (seek (same_let self.now (halves_of false pairs.now) (halves_of true pairs.now) body) self.now.terms) }
     {
         let scratch = self.scratch();

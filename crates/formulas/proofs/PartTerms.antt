@@ -2,23 +2,21 @@
 --     terms_arguments, terms_pairs, variables_pairs     parts are what they are spelled as
 --     terms_count                                       a term for each part
 --     variable_called_lem, symbol_called_lem                    names, by the counts of the declarations
---     constant_none, constant_sort                      true and false are no variables; their sort is truth
+--     constant_sort                                     the sort of true and false is truth
 use Prim.Native.Nat.{ℕ, suc}
 use mathlib.Core.Path.{◌≡◌, refl, sym, ap}
-use mathlib.Core.Bool.{Bool, true, false, cond, false≢true}
+use mathlib.Core.Bool.{Bool, true, false, cond}
 use mathlib.Core.List.{List, [], ◌∷◌, map}
 use lib.ListN.{length}
 use Rattle.bundle.specs.Bundle.{Bundle}
 use Rattle.logic.specs.Symbols.{truth_sort, signature_of, result_sort, kind_of_symbol, symbol_kind, signature}
 use Rattle.logic.specs.Terms.{more}
-use Rattle.grammar.specs.Bytes.{constant, name, bytes, twelve, word_of}
 use Rattle.grammar.specs.Grammar.{Formulas, no_formula, and_formula, Bindings, no_binding, and_binding}
-use Rattle.reading.specs.Called.{variable_called, symbol_called, number_after}
+use Rattle.reading.specs.Called.{variable_called, symbol_called}
 use Rattle.reading.specs.Local.{plain, plain_all, plain_bound, bound_names}
-use Rattle.lexing.specs.Counted.{number_within, variable_among, symbol_among}
+use Rattle.lexing.specs.Counted.{variable_among, symbol_among}
 use Rattle.lexing.proofs.NumeralLaws.{counts_suffice}
 use Rattle.heads.specs.Places.{Part, arguments, pairs}
-use Rattle.heads.proofs.WordCases.{word_cases}
 use Rattle.formulas.specs.Pending.{count}
 use Rattle.formulas.specs.ReadGives.{terms_of, variable_of}
 
@@ -51,51 +49,6 @@ pub symbol_called_lem : (D : Bundle) (w : List ℕ) → symbol_among (length D.s
 symbol_called_lem D w = sym (counts_suffice D w).symbol
 
 -- ---- true and false
-
-pub constant_none : (n : ℕ) (v : Bool) (w : List ℕ) → word_of w ≡ constant v → variable_among n w ≡ 0
-unfolding number_within number_after twelve bytes
-constant_none n v w =
-    word_cases (λ w m. m ≡ constant v → variable_among n w ≡ 0) w (λ e. absurd (clash e)) ((
-      λ e. refl,
-      (
-        λ e. refl,
-        (
-          λ e. refl,
-          (
-            λ e. refl,
-            (
-              λ e. refl,
-              (
-                λ e. refl,
-                (
-                  λ e. refl,
-                  (
-                    λ e. refl,
-                    (
-                      λ e. refl,
-                      (
-                        λ e. refl,
-                        (
-                          λ e. refl,
-                          (
-                            λ e. refl,
-                            tt,
-                          ),
-                        ),
-                      ),
-                    ),
-                  ),
-                ),
-              ),
-            ),
-          ),
-        ),
-      ),
-    )
-    )
-  where
-    clash : {w : List ℕ} {v : Bool} → name w ≡ constant v → ⊥
-    clash e = false≢true cc
 
 pub constant_sort : (D : Bundle) (v : Bool) → result_sort D (signature_of D (cond v 1 2)) ≡ truth_sort
 unfolding result_sort signature_of kind_of_symbol symbol_kind signature

@@ -6,9 +6,9 @@ use native.Mathlib.Omega.{arith}
 use mathlib.Core.Path.{◌≡◌, subst}
 use mathlib.Core.List.{List, []}
 use Rattle.std.specs.Prelude.{Option}
+use Rattle.bundle.specs.File.{own_counts}
 use Rattle.bundle.specs.Bundle.{Bundle}
 use Rattle.bundle.specs.Limits.{limits, Within}
-use Rattle.expansion.specs.File.{counts_in}
 use Rattle.grammar.specs.Grammar.{spelling, lexemes}
 use Rattle.reading.specs.Local.{head_sort, plain}
 use Rattle.reading.proofs.Jobs.{not_deep}
@@ -16,13 +16,13 @@ use Rattle.endings.specs.declared.ReadTerm.{ReadTerm}
 use Rattle.formulas.specs.ReadGives.{TooLarge, ReadOutcome, TextOutcome, Leaves, Reads, ReadsText, TooLargeNeverFits}
 use Rattle.formulas.proofs.Weights.{pending_never_fits}
 
-pub text_reads : (D : Bundle) {text st : List ℕ} {b b' : Bundle} {n : ℕ} {st' : List ℕ} {r : Option ReadTerm} → n ≡ limits.terms → Within (counts_in b')
-    → Leaves text st 0 0 st' r → Reads D text b 0 0 n b' r → ReadsText D text b b' r
+pub text_reads : (D : Bundle) {text st : List ℕ} {b b' : Bundle} {n : ℕ} {st' : List ℕ} {r : Option ReadTerm} → n ≡ limits.terms → Within (own_counts b')
+    → Leaves text st 0 st' r → Reads D text b 0 n b' r → ReadsText D text b b' r
 unfolding spelling lexemes
 text_reads D {text} {st} {b} {b'} {n} {st'} {r} en within left gave = (λ φ reads. go φ (gave φ [] reads), left.word)
   where
-    go : (φ : _) → ReadOutcome text (plain D φ) (head_sort D φ) [] b 0 n b' r → TextOutcome D φ b b' r
-    go φ (ReadOutcome.done e d now l) = TextOutcome.done (subst (λ (y : Bundle). Within (counts_in y)) now within) now e d
+    go : (φ : _) → ReadOutcome (plain D φ) (head_sort D φ) [] b 0 n b' r → TextOutcome D φ b b' r
+    go φ (ReadOutcome.done x is d) = TextOutcome.done (subst (λ (y : Bundle). Within (own_counts y)) d.bundle within) x is d
     go φ (ReadOutcome.full o d) = TextOutcome.full (subst (λ (m : ℕ). TooLarge (plain D φ) b 0 m) en o) d
 
 pub too_large_never_fits : TooLargeNeverFits

@@ -1,12 +1,11 @@
 -- What the functions that read a formula ask and give: the records of its term, or that it does not fit.
 use Rattle.std.specs.Prelude.{IfSome, ℕ, suc, ◌+◌, ◌≤◌, ◌<◌, ◌≡◌, Bool, true, false, cond, Option, Some, None, List, [], ◌∷◌, map, length}
 use Rattle.bundle.specs.Bundle.{Bundle}
-use Rattle.bundle.specs.File.{bundle_of}
+use Rattle.bundle.specs.File.{bundle_of, own_counts}
 use Rattle.bundle.specs.Limits.{limits, Within}
 use Rattle.logic.specs.Symbols.{truth_sort}
-use Rattle.logic.specs.Terms.{Binder, binder, number_of, Term, Terms, let_in, none, more}
+use Rattle.logic.specs.Terms.{Binder, Term, Terms, let_in, none, more}
 use Rattle.scratch.specs.Stack.{halves}
-use Rattle.expansion.specs.File.{counts_in}
 use Rattle.placing.specs.Outcomes.{TooMuch, StackKept}
 use Rattle.grammar.specs.Grammar as grammar
 use Rattle.grammar.specs.Grammar.{Formula, SortedVariable, Lexeme, closes, spell, spell_variables}
@@ -16,7 +15,7 @@ use Rattle.reading.specs.Local.{head_sort, plain}
 use Rattle.reading.specs.Records.{file, file_all, depth, depth_all}
 use Rattle.reading.specs.Answers.{ReadAs, FitsLimits}
 use Rattle.reading.specs.Demands.{DeclarationsFormed}
-use Rattle.lexing.specs.Lexes.{lexemes_at}
+use Rattle.lexing.specs.Lexes.{lexemes_of}
 use Rattle.heads.specs.Places.{Part, spell_parts}
 use Rattle.endings.specs.declared.ReadTerm.{ReadTerm}
 use Rattle.endings.specs.declared.ReadParts.{ReadParts}
@@ -64,70 +63,80 @@ pub data AllTooLarge (ts : Terms) (b : Bundle) (h n : ℕ) : Type 0 where
 
 -- ---- what is answered
 
--- r, and the bundle b' after the call, are the records of τ after b, its sort s, and the lexemes ls that follow; or τ is too large
-pub data ReadOutcome (text : List ℕ) (τ : Term) (s : ℕ) (ls : List Lexeme) (b : Bundle) (h n : ℕ) (b' : Bundle) (r : Option ReadTerm) : Type 0 where
-  done : (e : ℕ) → r ≡ Some (record { term = (file τ b).term; sort = s; end = e }) → b' ≡ (file τ b).bundle → lexemes_at text e ≡ ls
-      → ReadOutcome text τ s ls b h n b' r
-  full : TooLarge τ b h n → r ≡ None → ReadOutcome text τ s ls b h n b' r
+-- x, and the bundle b' after the call, are the records of τ after b, its sort s, and the lexemes ls that follow
+pub record ReadDone (τ : Term) (s : ℕ) (ls : List Lexeme) (b b' : Bundle) (x : ReadTerm) : Type 0 where
+  pub term : x.term ≡ (file τ b).term
+  pub sort : x.sort ≡ s
+  pub bundle : b' ≡ (file τ b).bundle
+  pub after : lexemes_of x.rest.now ≡ ls
+
+-- r is that, or τ is too large
+pub data ReadOutcome (τ : Term) (s : ℕ) (ls : List Lexeme) (b : Bundle) (h n : ℕ) (b' : Bundle) (r : Option ReadTerm) : Type 0 where
+  done : (x : ReadTerm) → r ≡ Some x → ReadDone τ s ls b b' x → ReadOutcome τ s ls b h n b' r
+  full : TooLarge τ b h n → r ≡ None → ReadOutcome τ s ls b h n b' r
 
 -- the same of m terms, whose pairs stand on the stack st from height h on: the terms, and the numbers vs
-pub data PartsOutcome (text : List ℕ) (ts : Terms) (vs : List ℕ) (m s : ℕ) (ls : List Lexeme) (b : Bundle) (h n : ℕ) (b' : Bundle) (st : List ℕ)
-    (r : Option ReadParts) : Type 0
+pub record PartsDone (ts : Terms) (vs : List ℕ) (m s : ℕ) (ls : List Lexeme) (b : Bundle) (h : ℕ) (b' : Bundle) (st : List ℕ) (x : ReadParts) : Type 0 where
+  pub height : x.height ≡ h + m
+  pub sort : x.sort ≡ s
+  pub bundle : b' ≡ (file_all ts b).bundle
+  pub terms : halves true st h x.height ≡ (file_all ts b).terms
+  pub variables : halves false st h x.height ≡ vs
+  pub after : lexemes_of x.rest.now ≡ ls
+
+pub data PartsOutcome (ts : Terms) (vs : List ℕ) (m s : ℕ) (ls : List Lexeme) (b : Bundle) (h n : ℕ) (b' : Bundle) (st : List ℕ) (r : Option ReadParts)
+    : Type 0
   where
-    done : (e : ℕ) → r ≡ Some (record { height = h + m; sort = s; end = e }) → b' ≡ (file_all ts b).bundle → halves true st h (h + m) ≡ (file_all ts b).terms
-        → halves false st h (h + m) ≡ vs → lexemes_at text e ≡ ls → PartsOutcome text ts vs m s ls b h n b' st r
-    full : AllTooLarge ts b h n → r ≡ None → PartsOutcome text ts vs m s ls b h n b' st r
+    done : (x : ReadParts) → r ≡ Some x → PartsDone ts vs m s ls b h b' st x → PartsOutcome ts vs m s ls b h n b' st r
+    full : AllTooLarge ts b h n → r ≡ None → PartsOutcome ts vs m s ls b h n b' st r
 
--- ---- what a call asks, at byte i of the text, and what it leaves, whatever the text is
+-- ---- what a call asks, and what it leaves, whatever the text is
 
-pub record Asks (text st : List ℕ) (h i : ℕ) : Type 0 where
+pub record Asks (st : List ℕ) (h : ℕ) : Type 0 where
   pub places : limits.links ≤ length st
   pub height : h ≤ limits.links
-  pub here : i ≤ length text
 
-pub record Leaves (text st : List ℕ) (h i : ℕ) (st' : List ℕ) (r : Option ReadTerm) : Type 0 where
+pub record Leaves (text st : List ℕ) (h : ℕ) (st' : List ℕ) (r : Option ReadTerm) : Type 0 where
   pub kept : StackKept st st' h
   pub word : TermFits r
-  pub further : IfSome r (λ t. (i < t.end) × (t.end ≤ length text))
+  pub fewer : IfSome r (λ t. length t.rest.now < length text)
 
-pub record LeavesParts (text st : List ℕ) (h i : ℕ) (st' : List ℕ) (r : Option ReadParts) : Type 0 where
+pub record LeavesParts (text st : List ℕ) (h : ℕ) (st' : List ℕ) (r : Option ReadParts) : Type 0 where
   pub kept : StackKept st st' h
   pub height : IfSome r (λ p. (h ≤ p.height) × (p.height ≤ limits.links))
-  pub further : IfSome r (λ p. (i ≤ p.end) × (p.end ≤ length text))
+  pub fewer : IfSome r (λ p. length p.rest.now ≤ length text)
 
--- ---- and what it gives, where the text spells this from byte i on: D has the declarations, b is the bundle before, b' the one after
+-- ---- and what it gives, where the text spells this: D has the declarations, b is the bundle before, b' the one after
 
 -- a formula
-abbrev pub Reads : (D : Bundle) (text : List ℕ) (b : Bundle) (h i n : ℕ) (b' : Bundle) (r : Option ReadTerm) → Type 0
-Reads D text b h i n b' r =
-    (φ : Formula) (rest : List Lexeme) → lexemes_at text i ≡ spell φ rest → ReadOutcome text (plain D φ) (head_sort D φ) rest b h n b' r
+abbrev pub Reads : (D : Bundle) (text : List ℕ) (b : Bundle) (h n : ℕ) (b' : Bundle) (r : Option ReadTerm) → Type 0
+Reads D text b h n b' r =
+    (φ : Formula) (rest : List Lexeme) → lexemes_of text ≡ spell φ rest → ReadOutcome (plain D φ) (head_sort D φ) rest b h n b' r
 
--- the variables of a quantifier of this kind, its body and its closing bracket
-abbrev pub ReadsQuantified : (D : Bundle) (text : List ℕ) (b : Bundle) (h i n kind : ℕ) (b' : Bundle) (r : Option ReadTerm) → Type 0
-ReadsQuantified D text b h i n kind b' r =
-    (q : Binder) (xs : List SortedVariable) (φ : Formula) (rest : List Lexeme)
-    → kind ≡ number_of (binder q) → lexemes_at text i ≡ spell_variables xs (spell φ (closes ∷ rest))
-    → ReadOutcome text (nested D q xs (plain D φ)) (sort_under D xs φ) rest b h n b' r
+-- the variables of a quantifier q, its body and its closing bracket
+abbrev pub ReadsQuantified : (D : Bundle) (text : List ℕ) (b : Bundle) (h n : ℕ) (q : Binder) (b' : Bundle) (r : Option ReadTerm) → Type 0
+ReadsQuantified D text b h n q b' r =
+    (xs : List SortedVariable) (φ : Formula) (rest : List Lexeme) → lexemes_of text ≡ spell_variables xs (spell φ (closes ∷ rest))
+    → ReadOutcome (nested D q xs (plain D φ)) (sort_under D xs φ) rest b h n b' r
 
 -- the pairs of a let, its body and its closing bracket; the let is one level more
-abbrev pub ReadsLet : (D : Bundle) (text : List ℕ) (b : Bundle) (h i n : ℕ) (b' : Bundle) (r : Option ReadTerm) → Type 0
-ReadsLet D text b h i n b' r =
-    (ps : List Part) (φ : Formula) (rest : List Lexeme) → lexemes_at text i ≡ spell_parts true ps (spell φ (closes ∷ rest))
-    → ReadOutcome text (let_in (map (variable_of D true) ps) (terms_of D ps) (plain D φ)) (head_sort D φ) rest b h (suc n) b' r
+abbrev pub ReadsLet : (D : Bundle) (text : List ℕ) (b : Bundle) (h n : ℕ) (b' : Bundle) (r : Option ReadTerm) → Type 0
+ReadsLet D text b h n b' r =
+    (ps : List Part) (φ : Formula) (rest : List Lexeme) → lexemes_of text ≡ spell_parts true ps (spell φ (closes ∷ rest))
+    → ReadOutcome (let_in (map (variable_of D true) ps) (terms_of D ps) (plain D φ)) (head_sort D φ) rest b h (suc n) b' r
 
 -- parts, where the sort of the first is known or not
-abbrev pub ReadsParts : (D : Bundle) (text : List ℕ) (b : Bundle) (h i n : ℕ) (bound : Bool) (first : Option ℕ) (b' : Bundle) (st' : List ℕ)
+abbrev pub ReadsParts : (D : Bundle) (text : List ℕ) (b : Bundle) (h n : ℕ) (bound : Bool) (first : Option ℕ) (b' : Bundle) (st' : List ℕ)
     (r : Option ReadParts) → Type 0
-ReadsParts D text b h i n bound first b' st' r =
-    (ps : List Part) (rest : List Lexeme) → lexemes_at text i ≡ spell_parts bound ps rest
-    → PartsOutcome text (terms_of D ps) (map (variable_of D bound) ps) (length ps) (first_sort D first ps) rest b h n b' st' r
+ReadsParts D text b h n bound first b' st' r =
+    (ps : List Part) (rest : List Lexeme) → lexemes_of text ≡ spell_parts bound ps rest
+    → PartsOutcome (terms_of D ps) (map (variable_of D bound) ps) (length ps) (first_sort D first ps) rest b h n b' st' r
 
 -- ---- a whole text
 
 -- r, and the bundle b' after the call, are the records of the term of φ after b; or that term is too large
 pub data TextOutcome (D : Bundle) (φ : Formula) (b b' : Bundle) (r : Option ReadTerm) : Type 0 where
-  done : Within (counts_in (file (plain D φ) b).bundle) → b' ≡ (file (plain D φ) b).bundle → (e : ℕ)
-      → r ≡ Some (record { term = (file (plain D φ) b).term; sort = head_sort D φ; end = e }) → TextOutcome D φ b b' r
+  done : Within (own_counts (file (plain D φ) b).bundle) → (x : ReadTerm) → r ≡ Some x → ReadDone (plain D φ) (head_sort D φ) [] b b' x → TextOutcome D φ b b' r
   full : TooLarge (plain D φ) b 0 limits.terms → r ≡ None → TextOutcome D φ b b' r
 
 abbrev pub ReadsText : (D : Bundle) (text : List ℕ) (b b' : Bundle) (r : Option ReadTerm) → Type 0

@@ -19,7 +19,7 @@ use Rattle.free_variables.proofs.SetWords.{area_member}
 
 -- A number with no bit is in no set, and is no variable: it is free nowhere.
 pub free_sets : (b : Bundle) (n m : ℕ) (w : List ℕ) → 1 ≤ n → length b.variables ≤ 64 * n → n * length b.terms ≤ m → w ≡ free_area b n m
-    → FreeSets w n b
+    → FreeSets (record { bundle = b; words = w; n = n })
 unfolding member free_area
 free_sets b n m w one few long area = record {
   long = rw (area, tab_length) long;
@@ -37,5 +37,5 @@ free_sets b n m w one few long area = record {
     go t v first last false e = rw e (none t v e (free_at b t v) refl)
 
 pub sets_held : (b : Bundle) (n m : ℕ) (w : List ℕ) → 1 ≤ n → (length b.variables) ≤ 64 * n → n * (length b.terms) ≤ m → w ≡ free_area b n m
-    → FreeSets w n b
+    → FreeSets (record { bundle = b; words = w; n = n })
 sets_held b n m w one bits long area = free_sets b n m w one bits long area

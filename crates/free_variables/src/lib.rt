@@ -1,7 +1,9 @@
 // The free sets of all terms, n words each, written into a lent area. What lists share is united once for all of them (crate `unions`).
+// A set is given by its place in the area, and not as a slice: those of the terms below it are read while it is written.
 #![tactic(auto)]
 
 pub mod spread; // spread.rt: sets of few words made sets of as many as a term has
+pub mod term_sets; // term_sets.rt: a set for each term, in lent words
 
 ghost use Rattle.std.specs.Prelude.{◌≡◌, not, ◌&&◌, ◌+◌, ◌*◌, ◌-◌, ◌≤◌, ◌<◌, length};
 ghost use Rattle.bundle.specs.Limits.{limits, set_words};
@@ -14,8 +16,8 @@ ghost use Rattle.unions.specs.Put.{SetRoom, Put, set_below, SetsBelow, own_by, l
 ghost use Rattle.unions.specs.Unions.{Unions};
 
 use bundle::Bundle;
-use logic::kinds::{APPLICATION, LET, VARIABLE, is_binder};
-use unions::{unite_list, unite_term};
+use logic::kinds::Kind;
+use unions::{Uniting, unite_term};
 
 // Removes the variables of a list.
 fn remove_list(bundle: &Bundle, area: &mut [u64], n: usize, at: usize, list: usize)
@@ -40,44 +42,37 @@ fn free_own(bundle: &Bundle, area: &mut [u64], n: usize, t: usize, at: usize) ->
     let second = bundle.term_field(t, 2);
     let third = bundle.term_field(t, 3);
     sets::clear(area, at, n);
-    if kind == APPLICATION {
-        return second;
-    }
-    if kind == VARIABLE {
-        if (0 < first) & (first <= bundle.variables()) {
-            sets::insert(area, at, n, first);
+    match Kind::of(kind) {
+        Some(Kind::Application) => second,
+        Some(Kind::Variable) => {
+            if (0 < first) & (first <= bundle.variables()) {
+                sets::insert(area, at, n, first);
+            }
+            0
         }
-        return 0;
+        Some(Kind::Binder(_)) => {
+            unite_term(area, n, t, at, second);
+            sets::remove(area, at, n, first);
+            0
+        }
+        Some(Kind::Let) => {
+            unite_term(area, n, t, at, third);
+            remove_list(bundle, area, n, at, first);
+            second
+        }
+        None => 0,
     }
-    if is_binder(kind) {
-        unite_term(area, n, t, at, second);
-        sets::remove(area, at, n, first);
-        return 0;
-    }
-    if kind == LET {
-        unite_term(area, n, t, at, third);
-        remove_list(bundle, area, n, at, first);
-        return second;
-    }
-    0
 }
 
 // Writes the free set of term t, from those of the terms below it.
-fn free_term(
-    bundle: &Bundle,
-    area: &mut [u64],
-    n: usize,
-    t: usize,
-    at: usize,
-    lists: &mut [u64],
-    marks: &mut [u16],
-)
-    requires { SetRoom area.old n t at × (length bundle.now.variables ≤ 64 * n) × SetsBelow area.old n t bundle.now × Unions bundle.now n t lists.old marks.old }
-    ensures fact { Put area.old area.new n at (free_by bundle.now (set_below area.old n t) (term_of bundle.now t)) }
-    ensures unions { Unions bundle.now n t lists.new marks.new }
+fn free_term(bundle: &Bundle, area: &mut [u64], n: usize, t: usize, uniting: &mut Uniting)
+    requires { SetRoom area.old n t (n * (t - 1)) × (length bundle.now.variables ≤ 64 * n) × SetsBelow area.old n t bundle.now
+        × (uniting.old ≡ record { bundle = bundle.now; n = n; t = t }) }
+    ensures { Put area.old area.new n (n * (t - 1)) (free_by bundle.now (set_below area.old n t) (term_of bundle.now t)) × (uniting.new ≡ uniting.old) }
 {
+    let at = n * (t - 1);
     let list = free_own(bundle, area, n, t, at);
-    unite_list(bundle, area, n, t, at, list, lists, marks);
+    uniting.unite_list(area, at, list);
 }
 
 // Writes the free sets of all terms, where no list is known yet.
@@ -88,8 +83,10 @@ fn free_terms(bundle: &Bundle, area: &mut [u64], n: usize, lists: &mut [u64], ma
         × SetsBelow area.new n (length bundle.now.terms + 1) bundle.now }
 {
     let terms = bundle.terms();
+    let mut uniting = Uniting::of(bundle, n, 1, lists, marks);
     for t in 1..terms + 1 {
-        free_term(bundle, area, n, t, n * (t - 1), lists, marks);
+        free_term(bundle, area, n, t, &mut uniting);
+        uniting.next();
     }
 }
 

@@ -1,4 +1,5 @@
-// Sets of the n words that a file's variables ask for, made sets of as many words as every term has in the lent area.
+// Sets of the n words that a file's variables ask for, made sets of as many words as every term has in the lent area. A set is given by its number in the
+// area, and not as a slice: it is moved within the area, over its own words.
 ghost use Rattle.std.specs.Prelude.{◌≡◌, ◌+◌, ◌*◌, ◌≤◌, ◌<◌, length, get_or};
 ghost use Rattle.bundle.specs.Limits.{set_words};
 ghost use Rattle.free_variables.specs.Spread.{SpreadOne, Spread};

@@ -1,86 +1,57 @@
 -- The next lexeme of a text whose lexemes are known.
---     next_is                                   its number, its word, and what follows
---     spell_arguments, spell_pairs              parts are spelled as the arguments and the pairs that they are
---     alone_at, none_at, applied_at, listed_at  heads
---     variable_ends, variable_goes, part_ends, argument_goes, pair_goes     items of lists
-use Prim.Native.Nat.{ℕ, ◌≤◌, ◌<◌, ◌-◌}
+--     next_is, none_next                      the lexeme that is found, and what follows; or there is none
+--     spell_arguments, spell_pairs            parts are spelled as the arguments and the pairs that they are
+--     alone_at, bracket_at, none_at, over_at  heads
+--     no_head                                 where no head is found, no formula is spelled
+--     application_at, quantifier_at, let_at, no_word_at, over_inside     heads behind an opening bracket
+--     other_lexeme, other_than_opens, other_than_closes                  a lexeme of the code that is not one is none of the grammar
+--     name_on                                 a name
+--     variable_ends, variable_over, variable_goes                        the variables of a quantifier
+--     part_ends, part_over, argument_goes, pair_goes                     parts
+--     after_part_lem, no_part_end             behind a part
+use Prim.Native.Nat.{ℕ, ◌≤◌, ◌<◌}
 use native.Mathlib.Omega.{arith}
 use mathlib.Core.Path.{◌≡◌, refl, sym, ap, ◌∙◌, subst}
-use mathlib.Core.Bool.{Bool, true, false, cond, ◌&&◌, true≢false}
+use mathlib.Core.Bool.{Bool, true, false, true≢false}
 use mathlib.Core.List.{List, [], ◌∷◌}
 use lib.ListN.{length}
-use lib.Dec.{eqb, leb}
-use borrow.Author.Tests.{ne_eqb, leb-true}
+use Rattle.std.specs.Prelude.{Option, Some, None, IfSome, unwrap_or}
 use Rattle.bundle.specs.Limits.{limits}
-use Rattle.grammar.specs.Bytes.{Word, constant, negation, connective, quantifier, letting, sort, name, word_of}
+use Rattle.logic.specs.Terms.{Binder}
+use Rattle.logic.specs.declared.kinds.Binder.{Binder as BinderName}
+use Rattle.grammar.specs.Bytes.{constant, negation, connective, quantifier, letting, name}
 use Rattle.grammar.specs.Grammar.{SortedVariable, declares, Formula, called, truth, bracketed, Bracketed, denies, connects, applies, quantifies, lets}
-use Rattle.grammar.specs.Grammar.{Formulas, no_formula, and_formula, Bindings, no_binding, and_binding, Lexeme, opens, closes, word, stray}
+use Rattle.grammar.specs.Grammar.{Formulas, no_formula, and_formula, Bindings, no_binding, and_binding, Lexeme, opens, closes, word}
 use Rattle.grammar.specs.Grammar.{spell, spell_bracketed, spell_variable, spell_variables, spell_formulas, spell_bindings}
-use Rattle.lexing.specs.Codes.{word_code, lexeme_code}
-use Rattle.reading.specs.Called.{number_after}
-use Rattle.lexing.specs.Counted.{number_within, variable_among}
-use Rattle.lexing.specs.Lexes.{part, lexemes_at, lexeme_of, Found, Lexes}
+use Rattle.lexing.specs.Counted.{Numbered}
+use Rattle.lexing.specs.Words.{word_in, lexeme_in}
+use Rattle.lexing.specs.Lexes.{lexemes_of, Found}
 use Rattle.lexing.specs.declared.lexemes.Lexed.{Lexed}
+use Rattle.lexing.specs.declared.lexemes.Lexeme.{Lexeme as Read}
+use Rattle.lexing.specs.declared.words.Word.{Word}
+use Rattle.lexing.proofs.NumeralLaws.{numbered_or}
 use Rattle.heads.specs.declared.Head.{Head}
+use Rattle.heads.specs.declared.Headed.{Headed}
 use Rattle.heads.specs.declared.Item.{Item}
-use Rattle.heads.specs.Places.{
-  HeadAt,
-  ItemAt,
-  VariableAt,
-  PartAt,
-  PartEnd,
-  Part,
-  after_part,
-  spell_part,
-  spell_parts,
-  arguments,
-  pairs,
-  Starts,
-  HeadInside,
-  HeadOf,
-  Ends,
-  GoesOn,
-  VariableOf,
-  PartOf,
-}
-use Rattle.heads.proofs.WordCases.{name_is}
+use Rattle.heads.specs.HeadSymbols.{variable_for}
+use Rattle.heads.proofs.WordNumbers.{variable_le}
+use Rattle.heads.specs.Places as P
+use Rattle.heads.specs.Places.{Part, after_part, spell_part, spell_parts, arguments, pairs, head_in, Starts, HeadInside, HeadOf, HeadAt, BracketedAt}
+use Rattle.heads.specs.Places.{ListedAt, Ends, GoesOn, VariableOf, PartOf, ItemAt, NamedAt, VariableAt, PartAt, Past, PartEnd}
 
 -- ---- the next lexeme
 
-word_codes : (w : Word) → (3 ≤ word_code w) × (word_code w ≤ 9)
-unfolding word_code
-word_codes (constant v) = (omega arith, omega arith)
-word_codes negation = (omega arith, omega arith)
-word_codes (connective c) = (omega arith, omega arith)
-word_codes (quantifier q) = (omega arith, omega arith)
-word_codes letting = (omega arith, omega arith)
-word_codes (sort s) = (omega arith, omega arith)
-word_codes (name w) = (omega arith, omega arith)
+pub none_next : {ls' : List Lexeme} {l : Lexeme} {ls : List Lexeme} → ls' ≡ [] → ls' ≡ l ∷ ls → ⊥
+none_next over e = let z : ◌≡◌ {A = ℕ} 0 1 = cc in omega arith
 
-pub record NextIs (text : List ℕ) (r : Lexed) (l : Lexeme) (ls : List Lexeme) : Type 0 where
-  pub code : r.code ≡ lexeme_code l
-  pub after : lexemes_at text r.end ≡ ls
-  pub word_is : (w : Word) → l ≡ word w → word_of (part text r.start r.end) ≡ w
+pub record NextIs (r : Lexed) (l : Lexeme) (ls : List Lexeme) : Type 0 where
+  pub lexeme : lexeme_in r.lexeme ≡ l
+  pub after : lexemes_of r.rest.now ≡ ls
 
-no_more : {l : Lexeme} {ls : List Lexeme} → [] ≡ l ∷ ls → ⊥
-no_more e = let z : ◌≡◌ {A = ℕ} 0 1 = cc in omega arith
-
--- a word, where the number is a word's
-of_word : (text : List ℕ) (r : Lexed) → 3 ≤ r.code → lexeme_of text r ≡ word (word_of (part text r.start r.end))
-unfolding lexeme_of
-of_word text r h =
-    simp (
-      ne_eqb r.code 0 (λ e. omega (arith, h)),
-      ne_eqb r.code 1 (λ e. omega (arith, h)),
-      ne_eqb r.code 2 (λ e. omega (arith, h)),
-    )
-
-word_same : {v w : Word} → word v ≡ word w → v ≡ w
-word_same e = cc
-
-pub next_is : {text : List ℕ} {i : ℕ} {r : Lexed} → Lexes text i r → (l : Lexeme) (ls : List Lexeme) → lexemes_at text i ≡ l ∷ ls → NextIs text r l ls
-unfolding lexeme_code
-next_is {text} {i} {r} h l ls e = go (h.found (λ z. no_more (sym (h.over z) ∙ e)))
+pub next_is : {text : List ℕ} {r : Lexed} → Found text r → (l : Lexeme) (ls : List Lexeme) → lexemes_of text ≡ l ∷ ls → NextIs r l ls
+next_is {text} {r} f l ls e =
+    let same : lexeme_in r.lexeme ∷ lexemes_of r.rest.now ≡ l ∷ ls = sym f.next ∙ e in
+    record { lexeme = heads same; after = tails same }
   where
     heads : {l l' : Lexeme} {ls ls' : List Lexeme} → l ∷ ls ≡ l' ∷ ls' → l ≡ l'
     heads e = cc
@@ -88,17 +59,11 @@ next_is {text} {i} {r} h l ls e = go (h.found (λ z. no_more (sym (h.over z) ∙
     tails : {l l' : Lexeme} {ls ls' : List Lexeme} → l ∷ ls ≡ l' ∷ ls' → ls ≡ ls'
     tails e = cc
 
-    go : Found text i r → NextIs text r l ls
-    go f =
-        let same : lexeme_of text r ≡ l = heads (sym f.next ∙ e) in
-        let code : r.code ≡ lexeme_code l = f.coded ∙ ap lexeme_code same in
-        record {
-          code = code;
-          after = tails (sym f.next ∙ e);
-          word_is = λ w k.
-              let n : r.code ≡ word_code w = code ∙ ap lexeme_code k in
-              word_same (sym (of_word text r (omega (arith, n, (word_codes w).0))) ∙ same ∙ k);
-        }
+word_same : {v w : _} → word v ≡ word w → v ≡ w
+word_same e = cc
+
+no_word : {w : _} → word w ≡ opens → ⊥
+no_word e = let z : ◌≡◌ {A = Bool} true false = cc in true≢false z
 
 -- ---- parts are spelled as what they are
 
@@ -115,256 +80,328 @@ spell_pairs (and_binding x φ xs) rest =
 
 -- ---- heads
 
-module _ {text : List ℕ} {i : ℕ} {first : Lexed} (h : Lexes text i first) where
-  abbrev alone : ℕ → Head
-  alone k = record { kind = k; start = first.start; end = first.end; inside = first.end }
+module _ {text : List ℕ} {first : Lexed} (h : Found text first) where
+  pub alone_at : (w : Word) → lexeme_in first.lexeme ≡ word (word_in w) → HeadAt text (Some (record { head = Head.Alone w; rest = first.rest }))
+  unfolding spell
+  alone_at w is = record { fewer = h.fewer; means = means }
+    where
+      means : (φ : Formula) (rest : List Lexeme) → lexemes_of text ≡ spell φ rest → HeadOf (Some (record { head = Head.Alone w; rest = first.rest })) φ rest
+      means (called v) rest e = let k = next_is h (word (name v)) rest e in (ap P.alone (word_same (sym is ∙ k.lexeme)), k.after)
+      means (truth v) rest e = let k = next_is h (word (constant v)) rest e in (ap P.alone (word_same (sym is ∙ k.lexeme)), k.after)
+      means (bracketed φ) rest e = absurd (no_word (sym is ∙ (next_is h opens (spell_bracketed φ rest) e).lexeme))
 
-  -- the formula starts with no bracket
-  alone_head : (first.code ≡ 0 → ⊥) → (φ : Formula) (rest : List Lexeme) → lexemes_at text i ≡ spell φ rest → HeadOf text (alone 0) φ rest
-  unfolding spell lexeme_code
-  alone_head n (called w) rest e =
-      let k = next_is h (word (name w)) rest e in
-      record { kind = refl; word = k.word_is (name w) refl; inside = k.after }
-  alone_head n (truth v) rest e =
-      let k = next_is h (word (constant v)) rest e in
-      record { kind = refl; word = k.word_is (constant v) refl; inside = k.after }
-  alone_head n (bracketed φ) rest e = absurd (n (next_is h opens (spell_bracketed φ rest) e).code)
+  pub bracket_at : {r : Option Headed} → lexeme_in first.lexeme ≡ opens → BracketedAt first.rest.now r → HeadAt text r
+  unfolding spell
+  bracket_at {r} is b = record { fewer = fewer r b.fewer; means = means }
+    where
+      fewer : (r : Option Headed) → IfSome r (λ x. length x.rest.now < length first.rest.now) → IfSome r (λ x. length x.rest.now < length text)
+      fewer None l = tt
+      fewer (Some x) l = omega (arith, l, h.fewer)
 
-  -- no formula starts with another byte
-  no_head : (first.code ≡ 0 → ⊥) → (3 ≤ first.code → first.code ≤ 9 → ⊥) → (φ : Formula) (rest : List Lexeme) → lexemes_at text i ≡ spell φ rest → ⊥
-  unfolding spell lexeme_code
-  no_head n m (called w) rest e =
-      let k = (next_is h (word (name w)) rest e).code in
-      m (omega (arith, k, (word_codes (name w)).0)) (omega (arith, k, (word_codes (name w)).1))
-  no_head n m (truth v) rest e =
-      let k = (next_is h (word (constant v)) rest e).code in
-      m (omega (arith, k, (word_codes (constant v)).0)) (omega (arith, k, (word_codes (constant v)).1))
-  no_head n m (bracketed φ) rest e = n (next_is h opens (spell_bracketed φ rest) e).code
+      means : (φ : Formula) (rest : List Lexeme) → lexemes_of text ≡ spell φ rest → HeadOf r φ rest
+      means (called v) rest e = absurd (no_word (sym (next_is h (word (name v)) rest e).lexeme ∙ is))
+      means (truth v) rest e = absurd (no_word (sym (next_is h (word (constant v)) rest e).lexeme ∙ is))
+      means (bracketed φ) rest e = b.means φ rest (next_is h opens (spell_bracketed φ rest) e).after
 
-  -- a lexeme that there is ends after byte i
-  goes_on_lem : (first.code ≡ 10 → ⊥) → i < first.end
-  goes_on_lem n = omega (arith, h.after, (h.found n).some)
+  -- no formula starts with another lexeme
+  pub none_at : (l : Lexeme) → lexeme_in first.lexeme ≡ l → (l ≡ opens → ⊥) → ((w : _) → l ≡ word w → ⊥) → HeadAt text None
+  unfolding spell
+  none_at l is other noWord = record { fewer = tt; means = means }
+    where
+      means : (φ : Formula) (rest : List Lexeme) → lexemes_of text ≡ spell φ rest → HeadOf None φ rest
+      means (called v) rest e = noWord (name v) (sym is ∙ (next_is h (word (name v)) rest e).lexeme)
+      means (truth v) rest e = noWord (constant v) (sym is ∙ (next_is h (word (constant v)) rest e).lexeme)
+      means (bracketed φ) rest e = absurd (other (sym is ∙ (next_is h opens (spell_bracketed φ rest) e).lexeme))
 
-  pub alone_at : (first.code ≡ 0 → ⊥) → (first.code ≤ 9) → HeadAt text i (alone 0)
-  alone_at n m = record {
-    order = h.order;
-    whole = h.inside;
-    within = h.inside;
-    further = λ k. goes_on_lem (λ e. omega (arith, m, e));
-    means = alone_head n;
-  }
+pub over_at : {text : List ℕ} → lexemes_of text ≡ [] → HeadAt text None
+unfolding spell
+over_at {text} over = record { fewer = tt; means = means }
+  where
+    means : (φ : Formula) (rest : List Lexeme) → lexemes_of text ≡ spell φ rest → HeadOf None φ rest
+    means (called v) rest e = none_next over e
+    means (truth v) rest e = none_next over e
+    means (bracketed φ) rest e = absurd (none_next over e)
 
-  pub none_at : (first.code ≡ 0 → ⊥) → (3 ≤ first.code → first.code ≤ 9 → ⊥) → HeadAt text i (alone 4)
-  none_at n m = record {
-    order = h.order;
-    whole = h.inside;
-    within = h.inside;
-    further = λ k. absurd (k refl);
-    means = λ φ rest e. absurd (no_head n m φ rest e);
-  }
+pub no_head : {text : List ℕ} → HeadAt text None → (φ : Formula) (rest : List Lexeme) → lexemes_of text ≡ spell φ rest → ⊥
+no_head at (called w) rest e = at.means (called w) rest e
+no_head at (truth v) rest e = at.means (truth v) rest e
+no_head at (bracketed φ) rest e = inside φ (at.means (bracketed φ) rest e)
+  where
+    inside : (φ : Bracketed) → HeadInside None φ rest → ⊥
+    inside (denies φ) x = x
+    inside (connects c φ ψ) x = x
+    inside (applies f φ φs) x = x
+    inside (quantifies q x xs φ) y = y
+    inside (lets x φ xs ψ) y = y
 
-  module _ (bracket : first.code ≡ 0) where
-    bracket_on : i < first.end
-    bracket_on = goes_on_lem (λ e. omega (arith, bracket, e))
+-- ---- heads behind an opening bracket
 
-    -- so it is a bracket's
-    inside_only : (P : Formula → List Lexeme → Type 0)
-        → ((φ : Bracketed) (rest : List Lexeme) → lexemes_at text first.end ≡ spell_bracketed φ rest → P (bracketed φ) rest)
-        → (φ : Formula) (rest : List Lexeme) → lexemes_at text i ≡ spell φ rest → P φ rest
-    unfolding spell lexeme_code
-    inside_only P f (called w) rest e =
-        absurd (omega (arith, bracket, (next_is h (word (name w)) rest e).code, (word_codes (name w)).0))
-    inside_only P f (truth v) rest e =
-        absurd (omega (arith, bracket, (next_is h (word (constant v)) rest e).code, (word_codes (constant v)).0))
-    inside_only P f (bracketed φ) rest e = f φ rest (next_is h opens (spell_bracketed φ rest) e).after
+-- the word of the code is what it stands for
+is_quantifier : (w : Word) (q : Binder) → word_in w ≡ quantifier q → ((b : BinderName) → w ≡ Word.Quantifier b → ⊥) → ⊥
+is_quantifier (Word.Constant v) q e other = absurd (cc)
+is_quantifier Word.Negation q e other = absurd (cc)
+is_quantifier (Word.Connective c) q e other = absurd (cc)
+is_quantifier (Word.Quantifier b) q e other = other b refl
+is_quantifier Word.Let q e other = absurd (cc)
+is_quantifier (Word.Sort s) q e other = absurd (cc)
+is_quantifier (Word.Name w) q e other = absurd (cc)
 
-    module _ {head : Lexed} (h2 : Lexes text first.end head) where
-      abbrev applied : Head
-      applied = record { kind = 1; start = head.start; end = head.end; inside = head.end }
+is_let : (w : Word) → word_in w ≡ letting → (w ≡ Word.Let → ⊥) → ⊥
+is_let (Word.Constant v) e other = absurd (cc)
+is_let Word.Negation e other = absurd (cc)
+is_let (Word.Connective c) e other = absurd (cc)
+is_let (Word.Quantifier b) e other = absurd (cc)
+is_let Word.Let e other = other refl
+is_let (Word.Sort s) e other = absurd (cc)
+is_let (Word.Name w) e other = absurd (cc)
 
-      -- not, a connective or a symbol
-      applied_head : (6 ≤ head.code → head.code ≤ 7 → ⊥) → (φ : Formula) (rest : List Lexeme) → lexemes_at text i ≡ spell φ rest
-          → HeadOf text applied φ rest
-      unfolding spell spell_parts lexeme_code word_code
-      applied_head n = inside_only (HeadOf text applied) go
+module _ {text : List ℕ} {next : Lexed} (h : Found text next) where
+  -- not, a connective or a symbol
+  pub application_at : (w : Word) → lexeme_in next.lexeme ≡ word (word_in w) → ((b : BinderName) → w ≡ Word.Quantifier b → ⊥) → (w ≡ Word.Let → ⊥)
+      → BracketedAt text (Some (record { head = Head.Application w; rest = next.rest }))
+  unfolding spell spell_parts
+  application_at w is noQuantifier noLet = record { fewer = h.fewer; means = means }
+    where
+      means : (φ : Bracketed) (rest : List Lexeme) → lexemes_of text ≡ spell_bracketed φ rest
+          → HeadInside (Some (record { head = Head.Application w; rest = next.rest })) φ rest
+      means (denies φ) rest e = let k = next_is h _ _ e in (ap P.application (word_same (sym is ∙ k.lexeme)), k.after)
+      means (connects c φ ψ) rest e = let k = next_is h _ _ e in (ap P.application (word_same (sym is ∙ k.lexeme)), k.after)
+      means (applies f φ φs) rest e =
+          let k = next_is h _ _ e in
+          (ap P.application (word_same (sym is ∙ k.lexeme)), k.after ∙ ap (spell φ) (spell_arguments φs rest))
+      means (quantifies q x xs φ) rest e = absurd (is_quantifier w q (word_same (sym is ∙ (next_is h _ _ e).lexeme)) noQuantifier)
+      means (lets x φ xs ψ) rest e = absurd (is_let w (word_same (sym is ∙ (next_is h _ _ e).lexeme)) noLet)
+
+  fewer : (r : Option Headed) → IfSome r (λ x. length x.rest.now < length next.rest.now) → IfSome r (λ x. length x.rest.now < length text)
+  fewer None l = tt
+  fewer (Some x) l = omega (arith, l, h.fewer)
+
+  pub quantifier_at : {r : Option Headed} (q : Binder) → lexeme_in next.lexeme ≡ word (quantifier q) → ListedAt next.rest.now (P.quantifying q) r
+      → BracketedAt text r
+  unfolding spell spell_variables
+  quantifier_at {r} q is b = record { fewer = fewer r b.fewer; means = means }
+    where
+      means : (φ : Bracketed) (rest : List Lexeme) → lexemes_of text ≡ spell_bracketed φ rest → HeadInside r φ rest
+      means (denies φ) rest e = absurd (other (sym is ∙ (next_is h _ _ e).lexeme))
         where
-          go : (φ : Bracketed) (rest : List Lexeme) → lexemes_at text first.end ≡ spell_bracketed φ rest → HeadInside text applied φ rest
-          go (denies φ) rest e =
-              let k = next_is h2 _ _ e in
-              record { kind = refl; word = k.word_is negation refl; inside = k.after }
-          go (connects c φ ψ) rest e =
-              let k = next_is h2 _ _ e in
-              record { kind = refl; word = k.word_is (connective c) refl; inside = k.after }
-          go (applies f φ φs) rest e =
-              let k = next_is h2 _ _ e in
-              record { kind = refl; word = k.word_is (name f) refl; inside = k.after ∙ ap (spell φ) (spell_arguments φs rest) }
-          go (quantifies q x xs φ) rest e = absurd (n (omega (arith, (next_is h2 _ _ e).code)) (omega (arith, (next_is h2 _ _ e).code)))
-          go (lets x φ xs ψ) rest e = absurd (n (omega (arith, (next_is h2 _ _ e).code)) (omega (arith, (next_is h2 _ _ e).code)))
+          other : word (quantifier q) ≡ word negation → ⊥
+          other e = absurd (cc)
+      means (connects c φ ψ) rest e = absurd (other (sym is ∙ (next_is h _ _ e).lexeme))
+        where
+          other : word (quantifier q) ≡ word (connective c) → ⊥
+          other e = absurd (cc)
+      means (applies f φ φs) rest e = absurd (other (sym is ∙ (next_is h _ _ e).lexeme))
+        where
+          other : word (quantifier q) ≡ word (name f) → ⊥
+          other e = absurd (cc)
+      means (quantifies p x xs φ) rest e =
+          let k = next_is h _ _ e in
+          let same : q ≡ p = quantifier_same (word_same (sym is ∙ k.lexeme)) in
+          subst (λ (p : Binder). Starts r (P.quantifying p) (spell_variables (x ∷ xs) (spell φ (closes ∷ rest)))) same (b.means _ _ k.after)
+        where
+          quantifier_same : {p q : Binder} → quantifier p ≡ quantifier q → p ≡ q
+          quantifier_same e = cc
+      means (lets x φ xs ψ) rest e = absurd (other (sym is ∙ (next_is h _ _ e).lexeme))
+        where
+          other : word (quantifier q) ≡ word letting → ⊥
+          other e = absurd (cc)
 
-      pub applied_at : (6 ≤ head.code → head.code ≤ 7 → ⊥) → HeadAt text i applied
-      applied_at n = record {
-        order = h2.order;
-        whole = h2.inside;
-        within = h2.inside;
-        further = λ k. omega (arith, bracket_on, h2.after, h2.order);
-        means = applied_head n;
-      }
+  pub let_at : {r : Option Headed} → lexeme_in next.lexeme ≡ word letting → ListedAt next.rest.now P.binding r → BracketedAt text r
+  unfolding spell spell_parts
+  let_at {r} is b = record { fewer = fewer r b.fewer; means = means }
+    where
+      means : (φ : Bracketed) (rest : List Lexeme) → lexemes_of text ≡ spell_bracketed φ rest → HeadInside r φ rest
+      means (denies φ) rest e = absurd (other (sym is ∙ (next_is h _ _ e).lexeme))
+        where
+          other : word letting ≡ word negation → ⊥
+          other e = absurd (cc)
+      means (connects c φ ψ) rest e = absurd (other (sym is ∙ (next_is h _ _ e).lexeme))
+        where
+          other : word letting ≡ word (connective c) → ⊥
+          other e = absurd (cc)
+      means (applies f φ φs) rest e = absurd (other (sym is ∙ (next_is h _ _ e).lexeme))
+        where
+          other : word letting ≡ word (name f) → ⊥
+          other e = absurd (cc)
+      means (quantifies p x xs φ) rest e = absurd (other (sym is ∙ (next_is h _ _ e).lexeme))
+        where
+          other : word letting ≡ word (quantifier p) → ⊥
+          other e = absurd (cc)
+      means (lets x φ xs ψ) rest e =
+          let k = next_is h _ _ e in
+          b.means _ _ (k.after ∙ ap (λ (ls : List Lexeme). opens ∷ opens ∷ word (name x) ∷ spell φ (closes ∷ ls)) (spell_pairs xs (spell ψ (closes ∷ rest))))
 
-      module _ {opened : Lexed} (h3 : Lexes text head.end opened) where
-        abbrev listed : ℕ → Head
-        listed k = record { kind = k; start = head.start; end = head.end; inside = opened.end }
+  -- no word
+  pub no_word_at : ((w : _) → lexeme_in next.lexeme ≡ word w → ⊥) → BracketedAt text None
+  unfolding spell
+  no_word_at other = record { fewer = tt; means = means }
+    where
+      means : (φ : Bracketed) (rest : List Lexeme) → lexemes_of text ≡ spell_bracketed φ rest → HeadInside None φ rest
+      means (denies φ) rest e = other _ (next_is h _ _ e).lexeme
+      means (connects c φ ψ) rest e = other _ (next_is h _ _ e).lexeme
+      means (applies f φ φs) rest e = other _ (next_is h _ _ e).lexeme
+      means (quantifies p x xs φ) rest e = other _ (next_is h _ _ e).lexeme
+      means (lets x φ xs ψ) rest e = other _ (next_is h _ _ e).lexeme
 
-        -- a quantifier or a let, by the number of its word
-        listed_head : 6 ≤ head.code → head.code ≤ 7 → (φ : Formula) (rest : List Lexeme) → lexemes_at text i ≡ spell φ rest
-            → HeadOf text (listed (head.code - 4)) φ rest
-        unfolding spell spell_variables spell_parts lexeme_code word_code
-        listed_head l m = inside_only (HeadOf text (listed (head.code - 4))) go
-          where
-            go : (φ : Bracketed) (rest : List Lexeme) → lexemes_at text first.end ≡ spell_bracketed φ rest
-                → HeadInside text (listed (head.code - 4)) φ rest
-            go (denies φ) rest e = absurd (omega (arith, l, (next_is h2 _ _ e).code))
-            go (connects c φ ψ) rest e = absurd (omega (arith, l, (next_is h2 _ _ e).code))
-            go (applies f φ φs) rest e = absurd (omega (arith, m, (next_is h2 _ _ e).code))
-            go (quantifies q x xs φ) rest e =
-                let k = next_is h2 _ _ e in
-                let j = next_is h3 _ _ k.after in
-                record { kind = omega (arith, k.code); word = k.word_is (quantifier q) refl; inside = j.after }
-            go (lets x φ xs ψ) rest e =
-                let k = next_is h2 _ _ e in
-                let j = next_is h3 _ _ k.after in
-                record {
-                  kind = omega (arith, k.code);
-                  word = k.word_is letting refl;
-                  inside = j.after
-                      ∙ ap (λ (ls : List Lexeme). opens ∷ word (name x) ∷ spell φ (closes ∷ ls)) (spell_pairs xs (spell ψ (closes ∷ rest)));
-                }
+pub over_inside : {text : List ℕ} → lexemes_of text ≡ [] → BracketedAt text None
+unfolding spell
+over_inside {text} over = record { fewer = tt; means = means }
+  where
+    means : (φ : Bracketed) (rest : List Lexeme) → lexemes_of text ≡ spell_bracketed φ rest → HeadInside None φ rest
+    means (denies φ) rest e = none_next over e
+    means (connects c φ ψ) rest e = none_next over e
+    means (applies f φ φs) rest e = none_next over e
+    means (quantifies p x xs φ) rest e = none_next over e
+    means (lets x φ xs ψ) rest e = none_next over e
 
-        pub listed_at : 6 ≤ head.code → head.code ≤ 7 → HeadAt text i (listed (head.code - 4))
-        listed_at l m = record {
-          order = h2.order;
-          whole = h2.inside;
-          within = h3.inside;
-          further = λ k. omega (arith, bracket_on, h2.after, h2.order, h3.after, h3.order);
-          means = listed_head l m;
-        }
+-- a lexeme of the code that is no word's
+pub other_lexeme : (l : Read) → ((w : Word) → l ≡ Read.Word w → ⊥) → (w : _) → lexeme_in l ≡ word w → ⊥
+other_lexeme Read.Opens other w e = absurd (cc)
+other_lexeme Read.Closes other w e = absurd (cc)
+other_lexeme Read.Stray other w e = absurd (cc)
+other_lexeme (Read.Word v) other w e = other v refl
 
--- ---- items
+pub other_than_opens : (l : Read) → (l ≡ Read.Opens → ⊥) → lexeme_in l ≡ opens → ⊥
+other_than_opens Read.Opens other e = other refl
+other_than_opens Read.Closes other e = absurd (cc)
+other_than_opens Read.Stray other e = absurd (cc)
+other_than_opens (Read.Word v) other e = absurd (cc)
 
--- the end of a list; an item of the variable v
-abbrev ended : ℕ → Item
-ended e = record { last = true; variable = 0; end = e }
+pub other_than_closes : (l : Read) → (l ≡ Read.Closes → ⊥) → lexeme_in l ≡ closes → ⊥
+other_than_closes Read.Opens other e = absurd (cc)
+other_than_closes Read.Closes other e = other refl
+other_than_closes Read.Stray other e = absurd (cc)
+other_than_closes (Read.Word v) other e = absurd (cc)
 
-abbrev on : ℕ → ℕ → Item
-on v e = record { last = false; variable = v; end = e }
+-- ---- a name
 
-module _ (n : ℕ) {text : List ℕ} {i : ℕ} {first : Lexed} (h : Lexes text i first) where
-  variable_last : (first.code ≡ 0 → ⊥) → (xs : List SortedVariable) (rest : List Lexeme) → lexemes_at text i ≡ spell_variables xs rest
-      → VariableOf text n (ended first.end) xs rest
-  unfolding spell_variables spell_variable lexeme_code
-  variable_last m [] rest e = record { last = refl; after = (next_is h _ _ e).after }
-  variable_last m (declares x s ∷ xs) rest e = absurd (m (next_is h _ _ e).code)
-
-  -- a run that is a name is called as it is spelled
-  called_is : {r : Lexed} {v : ℕ} {w : List ℕ} {ls : List Lexeme} → NextIs text r (word (name w)) ls
-      → v ≡ variable_among n (part text r.start r.end) → v ≡ variable_among n w
-  called_is {r} {v} {w} k e = e ∙ ap (variable_among n) (name_is (part text r.start r.end) w (k.word_is (name w) refl))
-
-  variable_on : {c s z : Lexed} {v : ℕ} → first.code ≡ 0 → Lexes text first.end c → Lexes text c.end s → Lexes text s.end z
-      → v ≡ variable_among n (part text c.start c.end) → (xs : List SortedVariable) (rest : List Lexeme)
-      → lexemes_at text i ≡ spell_variables xs rest → VariableOf text n (record { last = false; variable = v; end = z.end }) xs rest
-  unfolding spell_variables spell_variable lexeme_code
-  variable_on m h2 h3 h4 e [] rest k = absurd (omega (arith, m, (next_is h _ _ k).code))
-  variable_on m h2 h3 h4 e (declares x s ∷ xs) rest k =
-      let a = next_is h _ _ k in
-      let b = next_is h2 _ _ a.after in
-      let d = next_is h3 _ _ b.after in
-      record { last = refl; variable = called_is b e; after = (next_is h4 _ _ d.after).after }
-
-  -- a formula starts with no closing bracket
-  not_closing : first.code ≡ 1 → (φ : Formula) (rest : List Lexeme) → lexemes_at text i ≡ spell φ rest → ⊥
-  unfolding spell lexeme_code word_code
-  not_closing m (called w) rest e = omega (arith, m, (next_is h _ _ e).code)
-  not_closing m (truth v) rest e = omega (arith, m, (next_is h _ _ e).code)
-  not_closing m (bracketed φ) rest e = omega (arith, m, (next_is h _ _ e).code)
-
-  part_last : (bound : Bool) → first.code ≡ 1 → (ps : List Part) (rest : List Lexeme) → lexemes_at text i ≡ spell_parts bound ps rest
-      → PartOf text n bound (ended first.end) ps rest
-  unfolding spell_parts lexeme_code
-  part_last bound m [] rest e = record { last = refl; after = (next_is h _ _ e).after }
-  part_last true m (p ∷ ps) rest e = absurd (omega (arith, m, (next_is h _ _ e).code))
-  part_last false m (p ∷ ps) rest e = absurd (not_closing m p.formula (after_part false (spell_parts false ps rest)) e)
-
-  argument_on : (first.code ≡ 1 → ⊥) → (ps : List Part) (rest : List Lexeme) → lexemes_at text i ≡ spell_parts false ps rest
-      → PartOf text n false (record { last = false; variable = 0; end = i }) ps rest
-  unfolding spell_parts lexeme_code
-  argument_on m [] rest e = absurd (m (next_is h _ _ e).code)
-  argument_on m (p ∷ ps) rest e = record { last = refl; variable = refl; after = e }
-
-  pair_on : {c : Lexed} {v : ℕ} → (first.code ≡ 1 → ⊥) → Lexes text first.end c → v ≡ variable_among n (part text c.start c.end)
-      → (ps : List Part) (rest : List Lexeme) → lexemes_at text i ≡ spell_parts true ps rest
-      → PartOf text n true (record { last = false; variable = v; end = c.end }) ps rest
-  unfolding spell_parts lexeme_code
-  pair_on m h2 k [] rest e = absurd (m (next_is h _ _ e).code)
-  pair_on m h2 k (p ∷ ps) rest e =
-      let a = next_is h _ _ e in
-      let b = next_is h2 _ _ a.after in
-      record { last = refl; variable = called_is b k; after = b.after }
-
-  part_ended : (ls : List Lexeme) → lexemes_at text i ≡ after_part true ls → lexemes_at text first.end ≡ ls
-  unfolding after_part
-  part_ended ls e = (next_is h _ _ e).after
-
-  -- ---- the same, with the bytes
-
-  ended_item : ItemAt text i (ended first.end)
-  ended_item = record { after = omega (arith, h.after, h.order); within = h.inside; word = omega arith }
-
-  pub variable_ends : (first.code ≡ 0 → ⊥) → VariableAt text n i (ended first.end)
-  variable_ends m = record { item = ended_item; further = λ k. absurd (true≢false k); means = variable_last m }
-
-  module _ (small : n ≤ limits.variables) where
-    called_word : {v : ℕ} (w : List ℕ) → v ≡ variable_among n w → v ≤ 4294967295
-    unfolding number_within
-    called_word {v} w e = rw e (go (leb 1 (number_after 118 w)) (leb (number_after 118 w) n) refl)
-      where
-        go : (p q : Bool) → leb (number_after 118 w) n ≡ q → cond (p && q) (number_after 118 w) 0 ≤ 4294967295
-        go true true k = omega (arith, leb-true (number_after 118 w) n k)
-        go true false k = omega arith
-        go false true k = omega arith
-        go false false k = omega arith
-
-    pub variable_goes : {c s z : Lexed} {v : ℕ} → first.code ≡ 0 → Lexes text first.end c → Lexes text c.end s → Lexes text s.end z
-        → v ≡ variable_among n (part text c.start c.end) → VariableAt text n i (on v z.end)
-    variable_goes {c} {s} {z} {v} m h2 h3 h4 e =
-        let more : i < z.end =
-        omega (arith, goes_on_lem h (λ k. omega (arith, m, k)), h2.after, h2.order, h3.after, h3.order, h4.after, h4.order) in
+module _ (n : ℕ) {text : List ℕ} where
+  module _ {first : Lexed} (h : Found text first) where
+    pub name_on : n ≤ limits.variables → (w : Word) → lexeme_in first.lexeme ≡ word (word_in w) → (v : Option ℕ) → Numbered (variable_for n (word_in w)) v → {x : ℕ}
+        → x ≡ unwrap_or v 0 → NamedAt text n (record { variable = Some x; rest = first.rest })
+    unfolding variable_for
+    name_on small w is v numbered {x} k =
+        let same : x ≡ variable_for n (word_in w) = k ∙ numbered_or _ v numbered in
         record {
-          item = record { after = omega (arith, more); within = h4.inside; word = called_word (part text c.start c.end) e };
-          further = λ k. more;
-          means = variable_on m h2 h3 h4 e;
+          item = record { fewer = omega (arith, h.fewer); word = omega (arith, same, small, variable_le n (word_in w)) };
+          means = λ u ls e.
+              let next = next_is h (word (name u)) ls e in
+              record {
+                variable = ap Some (same ∙ ap (variable_for n) (word_same (sym is ∙ next.lexeme)));
+                after = next.after;
+              };
         }
 
-    pub pair_goes : {c : Lexed} {v : ℕ} → (first.code ≡ 1 → ⊥) → Lexes text first.end c → v ≡ variable_among n (part text c.start c.end)
-        → PartAt text n true i (on v c.end)
-    pair_goes {c} m h2 k = record {
-      item = record {
-        after = omega (arith, h.after, h.order, h2.after, h2.order);
-        within = h2.inside;
-        word = called_word (part text c.start
-            c.end) k;
-      };
-      means = pair_on m h2 k;
+  -- ---- the variables of a quantifier
+
+  ended : {r : Item} → length r.rest.now ≤ length text → r.variable ≡ None → ItemAt text r
+  ended {r} l nothing = record { fewer = l; word = subst (λ (v : Option ℕ). IfSome v (λ x. x ≤ 4294967295)) (sym nothing) tt }
+
+  pub variable_over : {r : Item} → lexemes_of text ≡ [] → r.rest.now ≡ text → r.variable ≡ None → VariableAt text n r
+  unfolding spell_variables spell_variable
+  variable_over {r} over left nothing = record {
+    item = ended (omega (arith, ap length left)) nothing;
+    further = subst (λ (v : Option ℕ). IfSome v (λ x. length r.rest.now < length text)) (sym nothing) tt;
+    means = means;
+  }
+    where
+      means : (xs : List SortedVariable) (rest : List Lexeme) → lexemes_of text ≡ spell_variables xs rest → VariableOf n r xs rest
+      means [] rest e = absurd (none_next over e)
+      means (declares x s ∷ xs) rest e = absurd (none_next over e)
+
+  module _ {first : Lexed} (h : Found text first) where
+    pub variable_ends : {r : Item} → (lexeme_in first.lexeme ≡ opens → ⊥) → r.rest.now ≡ first.rest.now → r.variable ≡ None → VariableAt text n r
+    unfolding spell_variables spell_variable
+    variable_ends {r} other left nothing = record {
+      item = ended (omega (arith, ap length left, h.fewer)) nothing;
+      further = subst (λ (v : Option ℕ). IfSome v (λ x. length r.rest.now < length text)) (sym nothing) tt;
+      means = means;
     }
+      where
+        means : (xs : List SortedVariable) (rest : List Lexeme) → lexemes_of text ≡ spell_variables xs rest → VariableOf n r xs rest
+        means [] rest e = record { last = nothing; after = ap lexemes_of left ∙ (next_is h _ _ e).after }
+        means (declares x s ∷ xs) rest e = absurd (other (next_is h _ _ e).lexeme)
 
-  pub part_ends : (bound : Bool) → first.code ≡ 1 → PartAt text n bound i (ended first.end)
-  part_ends bound m = record { item = ended_item; means = part_last bound m }
+    pub variable_goes : {named r : Item} {a : List ℕ} → lexeme_in first.lexeme ≡ opens → NamedAt first.rest.now n named → Past named.rest.now a
+        → Past a r.rest.now → r.variable ≡ named.variable → VariableAt text n r
+    unfolding spell_variables spell_variable
+    variable_goes {named} {r} {a} is it p q same =
+        let few : length r.rest.now < length text = omega (arith, h.fewer, it.item.fewer, p.fewer, q.fewer) in
+        record {
+          item = record { fewer = omega (arith, few); word = subst (λ (v : Option ℕ). IfSome v (λ x. x ≤ 4294967295)) (sym same) it.item.word };
+          further = further r.variable few;
+          means = means;
+        }
+      where
+        further : (v : Option ℕ) → length r.rest.now < length text → IfSome v (λ x. length r.rest.now < length text)
+        further None l = tt
+        further (Some x) l = l
 
-  pub argument_goes : i ≤ length text → (first.code ≡ 1 → ⊥) → PartAt text n false i (on 0 i)
-  argument_goes l m = record { item = record { after = omega arith; within = l; word = omega arith }; means = argument_on m }
+        means : (xs : List SortedVariable) (rest : List Lexeme) → lexemes_of text ≡ spell_variables xs rest → VariableOf n r xs rest
+        means [] rest e = absurd (other (sym (next_is h _ _ e).lexeme ∙ is))
+          where
+            other : closes ≡ opens → ⊥
+            other e = absurd (cc)
+        means (declares x s ∷ xs) rest e =
+            let k = it.means _ _ (next_is h _ _ e).after in
+            record { variable = same ∙ k.variable; after = q.means _ _ (p.means _ _ k.after) }
 
-  pub after_part_lem : PartEnd text true i first.end
-  after_part_lem = record { after = omega (arith, h.after, h.order); within = h.inside; means = part_ended }
+  -- ---- parts
 
-pub no_part_end : {text : List ℕ} {i : ℕ} → i ≤ length text → PartEnd text false i i
+  pub part_over : (bound : Bool) {r : Item} → lexemes_of text ≡ [] → r.rest.now ≡ text → r.variable ≡ None → PartAt text n bound r
+  unfolding spell_parts
+  part_over bound {r} over left nothing = record { item = ended (omega (arith, ap length left)) nothing; means = means bound }
+    where
+      means : (bound : Bool) (ps : List Part) (rest : List Lexeme) → lexemes_of text ≡ spell_parts bound ps rest → PartOf n bound r ps rest
+      means bound [] rest e = absurd (none_next over e)
+      means true (p ∷ ps) rest e = absurd (none_next over e)
+      means false (p ∷ ps) rest e = absurd (no_head (over_at over) p.formula _ e)
+
+  module _ {first : Lexed} (h : Found text first) where
+    pub part_ends : (bound : Bool) {r : Item} → lexeme_in first.lexeme ≡ closes → r.rest.now ≡ first.rest.now → r.variable ≡ None → PartAt text n bound r
+    unfolding spell_parts
+    part_ends bound {r} is left nothing = record { item = ended (omega (arith, ap length left, h.fewer)) nothing; means = means bound }
+      where
+        other : closes ≡ opens → ⊥
+        other e = absurd (cc)
+
+        no_name : (w : _) → closes ≡ word w → ⊥
+        no_name w e = absurd (cc)
+
+        means : (bound : Bool) (ps : List Part) (rest : List Lexeme) → lexemes_of text ≡ spell_parts bound ps rest → PartOf n bound r ps rest
+        means bound [] rest e = record { last = nothing; after = ap lexemes_of left ∙ (next_is h _ _ e).after }
+        means true (p ∷ ps) rest e = absurd (other (sym is ∙ (next_is h _ _ e).lexeme))
+        means false (p ∷ ps) rest e = absurd (no_head (none_at h closes is other no_name) p.formula _ e)
+
+    module _ (other : lexeme_in first.lexeme ≡ closes → ⊥) where
+      pub argument_goes : {r : Item} → r.rest.now ≡ text → r.variable ≡ Some 0 → PartAt text n false r
+      unfolding spell_parts
+      argument_goes {r} left none = record {
+        item = record {
+          fewer = omega (arith, ap length left);
+          word = subst (λ (v : Option ℕ). IfSome v (λ x. x ≤ 4294967295)) (sym none) (omega arith);
+        };
+        means = means;
+      }
+        where
+          means : (ps : List Part) (rest : List Lexeme) → lexemes_of text ≡ spell_parts false ps rest → PartOf n false r ps rest
+          means [] rest e = absurd (other (next_is h _ _ e).lexeme)
+          means (p ∷ ps) rest e = record { variable = none; after = ap lexemes_of left ∙ e }
+
+      pub pair_goes : {r : Item} → NamedAt first.rest.now n r → PartAt text n true r
+      unfolding spell_parts
+      pair_goes {r} it = record { item = record { fewer = omega (arith, h.fewer, it.item.fewer); word = it.item.word }; means = means }
+        where
+          means : (ps : List Part) (rest : List Lexeme) → lexemes_of text ≡ spell_parts true ps rest → PartOf n true r ps rest
+          means [] rest e = absurd (other (next_is h _ _ e).lexeme)
+          means (p ∷ ps) rest e = it.means _ _ (next_is h _ _ e).after
+
+-- ---- behind a part
+
+pub after_part_lem : {text rest : List ℕ} → Past text rest → PartEnd true text rest
 unfolding after_part
-no_part_end l = record { after = omega arith; within = l; means = λ ls e. e }
+after_part_lem p = record { fewer = p.fewer; means = λ ls e. p.means closes ls e }
+
+pub no_part_end : (text : List ℕ) → PartEnd false text text
+unfolding after_part
+no_part_end text = record { fewer = omega arith; means = λ ls e. e }

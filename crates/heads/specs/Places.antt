@@ -1,11 +1,16 @@
--- What stands at a byte of a text that spells a formula: its head, a variable of a quantifier's list, a part of a list.
-use Rattle.std.specs.Prelude.{ℕ, ◌≤◌, ◌<◌, ◌≡◌, Bool, true, false, cond, List, [], ◌∷◌, length}
-use Rattle.grammar.specs.Bytes.{Word, constant, negation, connective, quantifier, letting, name, word_of}
+-- What stands at the start of a text that spells a formula: its head, a variable of a quantifier's list, a part of a list.
+use Rattle.std.specs.Prelude.{IfSome, ℕ, ◌≤◌, ◌<◌, ◌≡◌, Bool, true, false, cond, Option, Some, None, List, [], ◌∷◌, length}
+use Rattle.logic.specs.Terms.{Binder}
+use Rattle.logic.specs.Named.{binder_in}
+use Rattle.grammar.specs.Bytes.{Word, constant, negation, connective, name}
 use Rattle.grammar.specs.Grammar.{SortedVariable, declares, Formula, called, truth, bracketed, Bracketed, denies, connects, applies, quantifies, lets}
-use Rattle.grammar.specs.Grammar.{Formulas, no_formula, and_formula, Bindings, no_binding, and_binding, Lexeme, opens, closes, word, spell, spell_variables}
+use Rattle.grammar.specs.Grammar.{Formulas, no_formula, and_formula, Bindings, no_binding, and_binding, Lexeme, opens, closes, word}
+use Rattle.grammar.specs.Grammar.{spell, spell_bracketed, spell_variables}
 use Rattle.lexing.specs.Counted.{variable_among}
-use Rattle.lexing.specs.Lexes.{part, lexemes_at}
+use Rattle.lexing.specs.Lexes.{lexemes_of}
+use Rattle.lexing.specs.Words.{word_in}
 use Rattle.heads.specs.declared.Head.{Head}
+use Rattle.heads.specs.declared.Headed.{Headed}
 use Rattle.heads.specs.declared.Item.{Item}
 
 -- ---- parts of a list: arguments up to the closing bracket, or a let's pairs up to its list's
@@ -40,73 +45,97 @@ pairs (and_binding x φ xs) = record { called = x; formula = φ } ∷ pairs xs
 
 -- ---- the head of a formula
 
--- its kind is k: 0 a word alone, 1 an application, 2 a quantifier, 3 a let; its word is w, and after it, inside, these lexemes follow
-pub record Starts (text : List ℕ) (r : Head) (k : ℕ) (w : Word) (ls : List Lexeme) : Type 0 where
-  pub kind : r.kind ≡ k
-  pub word : word_of (part text r.start r.end) ≡ w
-  pub inside : lexemes_at text r.inside ≡ ls
+-- a word alone, the word of an application, a quantifier, a let
+pub data Opening : Type 0 where
+  alone : Word → Opening
+  application : Word → Opening
+  quantifying : Binder → Opening
+  binding : Opening
 
-abbrev pub HeadInside : List ℕ → Head → Bracketed → List Lexeme → Type 0
-HeadInside text r (denies φ) rest = Starts text r 1 negation (spell_parts false (record { called = []; formula = φ } ∷ []) rest)
-HeadInside text r (connects c φ ψ) rest =
-    Starts text r 1 (connective c) (spell_parts false (record { called = []; formula = φ } ∷ record { called = []; formula = ψ } ∷ []) rest)
-HeadInside text r (applies f φ φs) rest = Starts text r 1 (name f) (spell_parts false (record { called = []; formula = φ } ∷ arguments φs) rest)
-HeadInside text r (quantifies q x xs φ) rest = Starts text r 2 (quantifier q) (spell_variables (x ∷ xs) (spell φ (closes ∷ rest)))
-HeadInside text r (lets x φ xs ψ) rest =
-    Starts text r 3 letting (spell_parts true (record { called = x; formula = φ } ∷ pairs xs) (spell ψ (closes ∷ rest)))
+abbrev pub head_in : Head → Opening
+head_in (Head.Alone w) = alone (word_in w)
+head_in (Head.Application w) = application (word_in w)
+head_in (Head.Quantifier q) = quantifying (binder_in q)
+head_in Head.Let = binding
 
-abbrev pub HeadOf : List ℕ → Head → Formula → List Lexeme → Type 0
-HeadOf text r (called w) rest = Starts text r 0 (name w) rest
-HeadOf text r (truth v) rest = Starts text r 0 (constant v) rest
-HeadOf text r (bracketed φ) rest = HeadInside text r φ rest
+-- there is a head: it is k, and behind it these lexemes follow
+abbrev pub Starts : Option Headed → Opening → List Lexeme → Type 0
+Starts None k ls = ⊥
+Starts (Some h) k ls = (head_in h.head ≡ k) × (lexemes_of h.rest.now ≡ ls)
 
--- The head at byte i; its kind is 4 where no formula starts there.
-pub record HeadAt (text : List ℕ) (i : ℕ) (r : Head) : Type 0 where
-  pub order : r.start ≤ r.end
-  pub whole : r.end ≤ length text
-  pub within : r.inside ≤ length text
-  pub further : (r.kind ≡ 4 → ⊥) → i < r.inside
-  pub means : (φ : Formula) (rest : List Lexeme) → lexemes_at text i ≡ spell φ rest → HeadOf text r φ rest
+abbrev pub HeadInside : Option Headed → Bracketed → List Lexeme → Type 0
+HeadInside r (denies φ) rest = Starts r (application negation) (spell_parts false (record { called = []; formula = φ } ∷ []) rest)
+HeadInside r (connects c φ ψ) rest =
+    Starts r (application (connective c)) (spell_parts false (record { called = []; formula = φ } ∷ record { called = []; formula = ψ } ∷ []) rest)
+HeadInside r (applies f φ φs) rest = Starts r (application (name f)) (spell_parts false (record { called = []; formula = φ } ∷ arguments φs) rest)
+HeadInside r (quantifies q x xs φ) rest = Starts r (quantifying q) (spell_variables (x ∷ xs) (spell φ (closes ∷ rest)))
+HeadInside r (lets x φ xs ψ) rest = Starts r binding (spell_parts true (record { called = x; formula = φ } ∷ pairs xs) (spell ψ (closes ∷ rest)))
+
+abbrev pub HeadOf : Option Headed → Formula → List Lexeme → Type 0
+HeadOf r (called w) rest = Starts r (alone (name w)) rest
+HeadOf r (truth v) rest = Starts r (alone (constant v)) rest
+HeadOf r (bracketed φ) rest = HeadInside r φ rest
+
+-- The head of a formula; `None` where none starts.
+pub record HeadAt (text : List ℕ) (r : Option Headed) : Type 0 where
+  pub fewer : IfSome r (λ h. length h.rest.now < length text)
+  pub means : (φ : Formula) (rest : List Lexeme) → lexemes_of text ≡ spell φ rest → HeadOf r φ rest
+
+-- The same behind an opening bracket.
+pub record BracketedAt (text : List ℕ) (r : Option Headed) : Type 0 where
+  pub fewer : IfSome r (λ h. length h.rest.now < length text)
+  pub means : (φ : Bracketed) (rest : List Lexeme) → lexemes_of text ≡ spell_bracketed φ rest → HeadInside r φ rest
+
+-- The head k and a lexeme, the opening bracket of its list.
+pub record ListedAt (text : List ℕ) (k : Opening) (r : Option Headed) : Type 0 where
+  pub fewer : IfSome r (λ h. length h.rest.now < length text)
+  pub means : (l : Lexeme) (ls : List Lexeme) → lexemes_of text ≡ l ∷ ls → Starts r k ls
 
 -- ---- the next of a list, or the list's end
 
-pub record Ends (text : List ℕ) (r : Item) (ls : List Lexeme) : Type 0 where
-  pub last : r.last ≡ true
-  pub after : lexemes_at text r.end ≡ ls
+pub record Ends (r : Item) (ls : List Lexeme) : Type 0 where
+  pub last : r.variable ≡ None
+  pub after : lexemes_of r.rest.now ≡ ls
 
-pub record GoesOn (text : List ℕ) (r : Item) (x : ℕ) (ls : List Lexeme) : Type 0 where
-  pub last : r.last ≡ false
-  pub variable : r.variable ≡ x
-  pub after : lexemes_at text r.end ≡ ls
+pub record GoesOn (r : Item) (x : ℕ) (ls : List Lexeme) : Type 0 where
+  pub variable : r.variable ≡ Some x
+  pub after : lexemes_of r.rest.now ≡ ls
 
 -- of a quantifier's variables, where so many are declared
-abbrev pub VariableOf : List ℕ → ℕ → Item → List SortedVariable → List Lexeme → Type 0
-VariableOf text n r [] rest = Ends text r rest
-VariableOf text n r (declares x s ∷ xs) rest = GoesOn text r (variable_among n x) (spell_variables xs rest)
+abbrev pub VariableOf : ℕ → Item → List SortedVariable → List Lexeme → Type 0
+VariableOf n r [] rest = Ends r rest
+VariableOf n r (declares x s ∷ xs) rest = GoesOn r (variable_among n x) (spell_variables xs rest)
 
 -- of parts; the variable of an argument is 0
-abbrev pub PartOf : List ℕ → ℕ → Bool → Item → List Part → List Lexeme → Type 0
-PartOf text n bound r [] rest = Ends text r rest
-PartOf text n bound r (p ∷ ps) rest =
-    GoesOn text r (cond bound (variable_among n p.called) 0) (spell p.formula (after_part bound (spell_parts bound ps rest)))
+abbrev pub PartOf : ℕ → Bool → Item → List Part → List Lexeme → Type 0
+PartOf n bound r [] rest = Ends r rest
+PartOf n bound r (p ∷ ps) rest = GoesOn r (cond bound (variable_among n p.called) 0) (spell p.formula (after_part bound (spell_parts bound ps rest)))
 
--- The item at byte i, or the list's end.
-pub record ItemAt (text : List ℕ) (i : ℕ) (r : Item) : Type 0 where
-  pub after : i ≤ r.end
-  pub within : r.end ≤ length text
-  pub word : r.variable ≤ 4294967295
+-- The first item, or the list's end.
+pub record ItemAt (text : List ℕ) (r : Item) : Type 0 where
+  pub fewer : length r.rest.now ≤ length text
+  pub word : IfSome r.variable (λ x. x ≤ 4294967295)
 
-pub record VariableAt (text : List ℕ) (n i : ℕ) (r : Item) : Type 0 where
-  pub item : ItemAt text i r
-  pub further : r.last ≡ false → i < r.end
-  pub means : (xs : List SortedVariable) (rest : List Lexeme) → lexemes_at text i ≡ spell_variables xs rest → VariableOf text n r xs rest
+-- where so many variables are declared, the one that is named first
+pub record NamedAt (text : List ℕ) (n : ℕ) (r : Item) : Type 0 where
+  pub item : ItemAt text r
+  pub means : (w : List ℕ) (ls : List Lexeme) → lexemes_of text ≡ word (name w) ∷ ls → GoesOn r (variable_among n w) ls
 
-pub record PartAt (text : List ℕ) (n : ℕ) (bound : Bool) (i : ℕ) (r : Item) : Type 0 where
-  pub item : ItemAt text i r
-  pub means : (ps : List Part) (rest : List Lexeme) → lexemes_at text i ≡ spell_parts bound ps rest → PartOf text n bound r ps rest
+pub record VariableAt (text : List ℕ) (n : ℕ) (r : Item) : Type 0 where
+  pub item : ItemAt text r
+  pub further : IfSome r.variable (λ x. length r.rest.now < length text)
+  pub means : (xs : List SortedVariable) (rest : List Lexeme) → lexemes_of text ≡ spell_variables xs rest → VariableOf n r xs rest
 
--- after the part whose formula ends before byte i
-pub record PartEnd (text : List ℕ) (bound : Bool) (i r : ℕ) : Type 0 where
-  pub after : i ≤ r
-  pub within : r ≤ length text
-  pub means : (ls : List Lexeme) → lexemes_at text i ≡ after_part bound ls → lexemes_at text r ≡ ls
+pub record PartAt (text : List ℕ) (n : ℕ) (bound : Bool) (r : Item) : Type 0 where
+  pub item : ItemAt text r
+  pub means : (ps : List Part) (rest : List Lexeme) → lexemes_of text ≡ spell_parts bound ps rest → PartOf n bound r ps rest
+
+-- behind the first lexeme
+pub record Past (text rest : List ℕ) : Type 0 where
+  pub fewer : length rest ≤ length text
+  pub means : (l : Lexeme) (ls : List Lexeme) → lexemes_of text ≡ l ∷ ls → lexemes_of rest ≡ ls
+
+-- behind a part, from the text behind its formula
+pub record PartEnd (bound : Bool) (text rest : List ℕ) : Type 0 where
+  pub fewer : length rest ≤ length text
+  pub means : (ls : List Lexeme) → lexemes_of text ≡ after_part bound ls → lexemes_of rest ≡ ls

@@ -1,23 +1,33 @@
 // Heads of formulas, and the items of their lists, as they stand in a text.
 #![tactic(auto)]
 
-pub mod words; // words.rt: the symbol or the binder that a word stands for
+pub mod words; // words.rt: the variable or the symbol that a word stands for
 pub mod places; // places.rt: the head of a formula, the items of a list
 
-// The head of a formula. Kind: 0 a word alone, 1 an application, 2 a quantifier, 3 a let, 4 none. Its word stands from `start` to before `end`; from `inside`
-// on stand its parts, its variables or its pairs.
+use lexing::words::Word;
+use logic::kinds::Binder;
+
+// What a formula starts with.
 #[derive(Clone, Copy)]
-pub struct Head {
-    pub kind: usize,
-    pub start: usize,
-    pub end: usize,
-    pub inside: usize,
+pub enum Head<'a> {
+    // A word that is the formula.
+    Alone(Word<'a>),
+    // In brackets, the word of an application.
+    Application(Word<'a>),
+    Quantifier(Binder),
+    Let,
 }
 
-// An item of a list, or the list's end: whether it is the end, the item's variable, and the byte after what was read.
+// A head, and the text behind it: what follows a word alone, the parts of an application, the variables of a quantifier, the pairs of a let.
 #[derive(Clone, Copy)]
-pub struct Item {
-    pub last: bool,
-    pub variable: usize,
-    pub end: usize,
+pub struct Headed<'a> {
+    pub head: Head<'a>,
+    pub rest: &'a [u8],
+}
+
+// An item of a list by its variable, 0 where it has none, or `None` at the list's end; and the text behind it.
+#[derive(Clone, Copy)]
+pub struct Item<'a> {
+    pub variable: Option<usize>,
+    pub rest: &'a [u8],
 }

@@ -1,120 +1,144 @@
-// What stands at a byte of a text: the head of a formula, an item of a list.
-ghost use Rattle.std.specs.Prelude.{◌≡◌, ◌≤◌, length};
+// What stands at the start of a text: the head of a formula, an item of a list.
+ghost use Rattle.std.specs.Prelude.{◌≡◌, ◌≤◌};
 ghost use Rattle.bundle.specs.Limits.{limits};
-ghost use Rattle.heads.specs.Places.{HeadAt, VariableAt, PartAt, PartEnd};
+ghost use Rattle.heads.specs.Places.{head_in, HeadAt, BracketedAt, ListedAt, NamedAt, Past, VariableAt, PartAt, PartEnd};
 
-use crate::{Head, Item};
-use lexing::lexemes::next_lexeme;
-use lexing::names::variable_called;
+use crate::words::variable_for;
+use crate::{Head, Headed, Item};
+use lexing::lexemes::{Lexeme, next_lexeme};
+use lexing::words::Word;
 
-fn head(kind: usize, start: usize, end: usize, inside: usize) -> Head
-    ensures { result ≡ record { kind = kind; start = start; end = end; inside = inside } }
+// The head of a formula; `None` where none starts.
+pub fn head_at<'a>(text: &'a [u8]) -> Option<Headed<'a>>
+    ensures { HeadAt text.now result }
 {
-    Head {
-        kind,
-        start,
-        end,
-        inside,
+    let first = next_lexeme(text)?;
+    match first.lexeme {
+        Lexeme::Word(word) => Some(Headed {
+            head: Head::Alone(word),
+            rest: first.rest,
+        }),
+        Lexeme::Opens => bracketed_at(first.rest),
+        Lexeme::Closes => None,
+        Lexeme::Stray => None,
     }
 }
 
-// The head of the formula at byte i.
-pub fn head_at(text: &[u8], i: usize) -> Head
-    requires { i ≤ length text.now }
-    ensures { HeadAt text.now i result }
+// The same behind an opening bracket.
+fn bracketed_at<'a>(text: &'a [u8]) -> Option<Headed<'a>>
+    ensures { BracketedAt text.now result }
 {
-    let first = next_lexeme(text, i);
-    let code = first.code;
-    let start = first.start;
-    let end = first.end;
-    if code != 0 {
-        if code < 3 {
-            return head(4, start, end, end);
-        }
-        if code > 9 {
-            return head(4, start, end, end);
-        }
-        return head(0, start, end, end);
+    let next = next_lexeme(text)?;
+    let Lexeme::Word(word) = next.lexeme else {
+        return None;
+    };
+    match word {
+        Word::Quantifier(binder) => listed_at(next.rest, Head::Quantifier(binder)),
+        Word::Let => listed_at(next.rest, Head::Let),
+        _ => Some(Headed {
+            head: Head::Application(word),
+            rest: next.rest,
+        }),
     }
-    let word = next_lexeme(text, end);
-    let number = word.code;
-    let from = word.start;
-    let to = word.end;
-    if number < 6 {
-        return head(1, from, to, to);
-    }
-    if number > 7 {
-        return head(1, from, to, to);
-    }
-    let opened = next_lexeme(text, to);
-    head(number - 4, from, to, opened.end)
 }
 
-// Of a quantifier's variables, where so many are declared, the one at byte i; or their list's end.
-pub fn variable_at(text: &[u8], variables: usize, i: usize) -> Item
-    requires { (i ≤ length text.now) × (variables ≤ limits.variables) }
-    ensures { VariableAt text.now variables i result }
+// A head that a list follows, with the text behind the opening bracket of the list.
+fn listed_at<'a>(text: &'a [u8], head: Head<'a>) -> Option<Headed<'a>>
+    ensures { ListedAt text.now (head_in head.entry) result }
 {
-    let first = next_lexeme(text, i);
-    if first.code != 0 {
+    let opened = next_lexeme(text)?;
+    Some(Headed {
+        head,
+        rest: opened.rest,
+    })
+}
+
+// The text behind its first lexeme, if it has one: as bracketing's `after_lexeme`, with the clause that the laws of heads take.
+fn past<'a>(text: &'a [u8]) -> &'a [u8]
+    ensures { Past text.now result.now }
+{
+    match next_lexeme(text) {
+        Some(first) => first.rest,
+        None => text,
+    }
+}
+
+// The item of the variable that is named at the start of a text.
+fn named_at<'a>(text: &'a [u8], variables: usize) -> Item<'a>
+    requires { variables ≤ limits.variables }
+    ensures { NamedAt text.now variables result }
+{
+    let Some(first) = next_lexeme(text) else {
         return Item {
-            last: true,
-            variable: 0,
-            end: first.end,
+            variable: Some(0),
+            rest: text,
         };
-    }
-    let called = next_lexeme(text, first.end);
-    let from = called.start;
-    let to = called.end;
-    let variable = variable_called(variables, &text[from..to]);
-    let sorted = next_lexeme(text, to);
-    let closed = next_lexeme(text, sorted.end);
+    };
+    let Lexeme::Word(word) = first.lexeme else {
+        return Item {
+            variable: Some(0),
+            rest: first.rest,
+        };
+    };
     Item {
-        last: false,
-        variable,
-        end: closed.end,
+        variable: Some(variable_for(variables, word).unwrap_or(0)),
+        rest: first.rest,
     }
 }
 
-// The part at byte i: where it is bound, its variable, and the byte where its formula starts; or the list's end.
-pub fn part_at(text: &[u8], variables: usize, bound: bool, i: usize) -> Item
-    requires { (i ≤ length text.now) × (variables ≤ limits.variables) }
-    ensures { PartAt text.now variables bound i result }
+// Of a quantifier's variables, where so many are declared, the first; or their list's end.
+pub fn variable_at<'a>(text: &'a [u8], variables: usize) -> Item<'a>
+    requires { variables ≤ limits.variables }
+    ensures { VariableAt text.now variables result }
 {
-    let first = next_lexeme(text, i);
-    if first.code == 1 {
+    let Some(first) = next_lexeme(text) else {
         return Item {
-            last: true,
-            variable: 0,
-            end: first.end,
+            variable: None,
+            rest: text,
+        };
+    };
+    let Lexeme::Opens = first.lexeme else {
+        return Item {
+            variable: None,
+            rest: first.rest,
+        };
+    };
+    let named = named_at(first.rest, variables);
+    Item {
+        variable: named.variable,
+        rest: past(past(named.rest)),
+    }
+}
+
+// The first part: where it is bound, its variable, with the text that its formula starts; or the list's end.
+pub fn part_at<'a>(text: &'a [u8], variables: usize, bound: bool) -> Item<'a>
+    requires { variables ≤ limits.variables }
+    ensures { PartAt text.now variables bound result }
+{
+    let Some(first) = next_lexeme(text) else {
+        return Item {
+            variable: None,
+            rest: text,
+        };
+    };
+    if let Lexeme::Closes = first.lexeme {
+        return Item {
+            variable: None,
+            rest: first.rest,
         };
     }
     if bound {
-        let called = next_lexeme(text, first.end);
-        let from = called.start;
-        let to = called.end;
-        let variable = variable_called(variables, &text[from..to]);
-        return Item {
-            last: false,
-            variable,
-            end: to,
-        };
+        return named_at(first.rest, variables);
     }
     Item {
-        last: false,
-        variable: 0,
-        end: i,
+        variable: Some(0),
+        rest: text,
     }
 }
 
-// The byte after a part whose formula ends before byte i.
-pub fn part_end(text: &[u8], bound: bool, i: usize) -> usize
-    requires { i ≤ length text.now }
-    ensures { PartEnd text.now bound i result }
+// What is left behind a part, from the text behind its formula.
+pub fn part_end<'a>(text: &'a [u8], bound: bool) -> &'a [u8]
+    ensures { PartEnd bound text.now result.now }
 {
-    if bound {
-        let closed = next_lexeme(text, i);
-        return closed.end;
-    }
-    i
+    if bound { past(text) } else { text }
 }

@@ -1,48 +1,48 @@
-// The symbol or the binder that a word stands for.
-ghost use Rattle.std.specs.Prelude.{◌≡◌, true, ◌≤◌};
-ghost use Rattle.logic.specs.Terms.{Binder, binder, number_of, is_binder};
-ghost use Rattle.grammar.specs.Bytes.{word_of, quantifier};
-ghost use Rattle.heads.specs.HeadSymbols.{symbol_for};
+// The variable or the symbol that a word stands for.
+ghost use Rattle.std.specs.Prelude.{◌≡◌, ◌≤◌};
+ghost use Rattle.reading.specs.Typing.{connective_symbol};
+ghost use Rattle.lexing.specs.Counted.{Numbered};
+ghost use Rattle.lexing.specs.Words.{connective_in, word_in};
+ghost use Rattle.heads.specs.HeadSymbols.{symbol_for, variable_for};
 
-use lexing::names::symbol_called;
-use lexing::runs::{is_word, word_code};
-use logic::kinds::{EXISTS, FOR_ALL};
+use lexing::names::{symbol_called, variable_called};
+use lexing::words::{Connective, Word};
 
-// The symbol, where so many are declared and the first argument has this sort.
-pub fn symbol_for(symbols: usize, run: &[u8], sort: usize) -> usize
-    requires { symbols ≤ 4294967263 }
-    ensures { (result ≡ symbol_for symbols (word_of run.now) sort) × (result ≤ 4294967295) }
+// The variable, where so many are declared.
+pub fn variable_for(variables: usize, word: Word<'_>) -> Option<usize>
+    requires { variables ≤ 4294967295 }
+    ensures { Numbered (variable_for variables (word_in word.entry)) result }
 {
-    let code = word_code(run);
-    let n = run.len();
-    if code == 9 {
-        return symbol_called(symbols, run);
+    match word {
+        Word::Name(run) => variable_called(variables, run),
+        _ => None,
     }
-    if code == 3 {
-        return if n == 4 { 1 } else { 2 }; // true, false
-    }
-    if code == 4 {
-        return 3; // not
-    }
-    if code != 5 {
-        return 0;
-    }
-    if n == 3 {
-        return 4; // and
-    }
-    if n == 1 {
-        return if sort == 0 { 7 } else { 8 }; // =
-    }
-    if is_word(run, b"or") { 5 } else { 6 }
 }
 
-// The kind of a binder's term.
-pub fn binder_kind(run: &[u8]) -> usize
-    ensures { (is_binder result ≡ true) × (result ≤ 4) × ((q : Binder) → word_of run.now ≡ quantifier q → result ≡ number_of (binder q)) }
+// The symbol of a connective, where the first argument has this sort.
+fn connective_symbol(connective: Connective, sort: usize) -> usize
+    ensures { (result ≡ connective_symbol (connective_in connective) sort) × (result ≤ 8) }
 {
-    if is_word(run, b"forall") {
-        FOR_ALL
-    } else {
-        EXISTS
+    match connective {
+        Connective::And => 4,
+        Connective::Or => 5,
+        Connective::Implies => 6,
+        Connective::Equal => if sort == 0 { 7 } else { 8 },
+    }
+}
+
+// The symbol, where so many are declared and the first argument has this sort; 0 for none, as records have it.
+pub fn symbol_for(symbols: usize, word: Word<'_>, sort: usize) -> usize
+    requires { symbols ≤ 4294967263 }
+    ensures { (result ≡ symbol_for symbols (word_in word.entry) sort) × (result ≤ 4294967295) }
+{
+    match word {
+        Word::Constant(value) => if value { 1 } else { 2 },
+        Word::Negation => 3,
+        Word::Connective(connective) => connective_symbol(connective, sort),
+        Word::Name(run) => symbol_called(symbols, run).unwrap_or(0),
+        Word::Quantifier(_) => 0,
+        Word::Let => 0,
+        Word::Sort(_) => 0,
     }
 }

@@ -6,11 +6,11 @@
 --     untouched_refl, untouched_trans        what stays while one context is written
 --     record_below                           a record ends before a later one starts
 --     row_kept, moves_kept, mentions_kept    so the rows and sets of lower contexts do
---     mention_set, entered_place             one place written
+--     entered_place                          one place written
 --     told_place                             what is written says something
 --     Replacing, replacing_on                a list of variables replaced, side by side with a list of terms
 --     moved_inside                           only variables that there are can be moved
---     inherited, sets_copied, agrees_copied  the row and the sets of the parent
+--     inherited, agrees_copied               the row and the sets of the parent
 --     images_on, sets_on                     with the entry written over them, they are the context's own
 --     apart_settled, subset_in_scope         a term is settled where its free set and the moved set have nothing in common; in scope where its free set is a
 --                                            subset of that of the mentioned variables
@@ -25,13 +25,14 @@ use lib.ListN.{length, get_or, set, replicate, length-set, length-replicate}
 use lib.Seq.{get_or-set_same, get_or-set_other}
 use lib.Dec.{eqb}
 use borrow.Author.Tests.{eqb-true, eq-eqb, ne_eqb}
+use Rattle.std.specs.List.{CopiedTo, SameBelow}
 use Rattle.bundle.specs.Bundle.{Bundle}
 use Rattle.bundle.specs.Lists.{numbers, has, different}
 use Rattle.bundle.proofs.Fields.{record_within}
-use Rattle.sets.specs.Sets.{bit_at, holds, member, with_bit, without_bit, inserted, removed, copied, disjoint_of, subset_of}
+use Rattle.sets.specs.Sets.{bit_at, holds, member, with_bit, without_bit, inserted, removed, disjoint_of, subset_of}
 use Rattle.sets.proofs.Digits.{bit_none}
 use Rattle.sets.proofs.Members.{holds_small, member_inserted, member_removed, member_same, member_moved, changed_length, changed_out}
-use Rattle.sets.proofs.Members.{filled_length, filled_out, filled_in, disjoint_none, none_disjoint}
+use Rattle.sets.proofs.Members.{disjoint_none, none_disjoint}
 use Rattle.sets.proofs.Subsets.{subset_member, member_subset}
 use Rattle.logic.specs.declared.Mention.{Mention}
 use Rattle.logic.specs.declared.Mention.TheVariants.{Fixed, Replaced, Absent}
@@ -42,9 +43,9 @@ use Rattle.logic.specs.Contexts.{lookup, or_above, found, as_image, moved_by, mo
 use Rattle.logic.proofs.Found.{image_found, found_empty}
 use Rattle.logic.proofs.Trees.{free_known}
 use Rattle.logic.proofs.Tests.{numbers_in, numbers_of_lem, and_left, and_right, both_ways, up_to_lem, up_to_all}
-use Rattle.images.proofs.FreeWords.{numbers_past}
-use Rattle.images.specs.ContextRows.{fixed_place, as_mention, mention_at, mention_in, Images, moved_at, mentioned_at, Scopes, RowRoom, Untouched, SetsCopied, Agrees}
-use Rattle.images.specs.ContextRows.{Entered}
+use Rattle.free_variables.specs.TermSets.{moved_at, mentioned_at}
+use Rattle.free_variables.proofs.FreeWords.{numbers_past}
+use Rattle.images.specs.ContextRows.{fixed_place, as_mention, mention_at, mention_in, Images, Scopes, Rows, RowRoom, Untouched, SetsCopied, Agrees, Entered}
 
 pub scopes_few : (b : Bundle) (m : List ℕ) (n c d : ℕ) → d ≤ c → n * d ≤ n * c → Scopes b m n c → Scopes b m n d
 scopes_few b m n c d h g i = record {
@@ -132,7 +133,7 @@ scopes_none b n m h = record {
     go at x false = refl
 
 -- the row of k copied from that of j
-pub row_copied : (b : Bundle) (w v : List ℕ) (k j count : ℕ) → length b.variables ≡ count
+row_copied : (b : Bundle) (w v : List ℕ) (k j count : ℕ) → length b.variables ≡ count
     → ((y : ℕ) → y < count → get_or w (count * k + y) 0 ≡ get_or v (count * j + y) 0) → (x : ℕ) → mention_in b w k x ≡ mention_in b v j x
 row_copied b w v k j count e same x = same_place b w v k j x (λ one few. rw e (same (x - 1) (omega (arith, e))))
 
@@ -144,109 +145,125 @@ record_below n j k h =
 
 -- ---- what stays
 
-pub untouched_refl : (b : Bundle) (w m : List ℕ) (n k : ℕ) → Untouched b w m w m n k
-untouched_refl b w m n k = record { long_row = refl; long_set = refl; row = λ j h. refl; words = λ j h. refl }
+pub untouched_refl : (r : Rows) (k : ℕ) → Untouched r r k
+untouched_refl r k = record { bundle = refl; n = refl; long_row = refl; long_set = refl; row = λ j h. refl; words = λ j h. refl }
 
-pub untouched_trans : (b : Bundle) (w m w' m' w'' m'' : List ℕ) (n k : ℕ) → Untouched b w m w' m' n k → Untouched b w' m' w'' m'' n k → Untouched b w m w'' m'' n k
-untouched_trans b w m w' m' w'' m'' n k p q = record {
+pub untouched_trans : (r r' r'' : Rows) (k : ℕ) → Untouched r r' k → Untouched r' r'' k → Untouched r r'' k
+untouched_trans r r' r'' k p q = record {
+  bundle = q.bundle ∙ p.bundle;
+  n = q.n ∙ p.n;
   long_row = q.long_row ∙ p.long_row;
   long_set = q.long_set ∙ p.long_set;
-  row = λ j h. q.row j h ∙ p.row j h;
-  words = λ j h. q.words j h ∙ p.words j h;
+  row = λ j h. q.row j (rw p.bundle h) ∙ p.row j h;
+  words = λ j h. q.words j (rw p.n h) ∙ p.words j h;
 }
 
-module _ (b : Bundle) (w m w' m' : List ℕ) (n k : ℕ) (kept : Untouched b w m w' m' n k) where
-  pub room_on : RowRoom b w m n k → RowRoom b w' m' n k
-  room_on r = record { row = omega (arith, r.row, kept.long_row); words = omega (arith, r.words, kept.long_set) }
+module _ (r r' : Rows) (k : ℕ) (kept : Untouched r r' k) where
+  pub room_on : RowRoom r k → RowRoom r' k
+  room_on room = record { row = rw kept.bundle (omega (arith, room.row, kept.long_row)); words = rw kept.n (omega (arith, room.words, kept.long_set)) }
 
-  pub row_kept : (j x : ℕ) → j < k → mention_in b w' j x ≡ mention_in b w j x
-  row_kept j x h = same_place b w' w j j x (λ one low. kept.row (length b.variables * j + (x - 1)) (omega (arith, record_below (length b.variables) j k h)))
+  pub row_kept : (j x : ℕ) → j < k → mention_in r.bundle r'.images j x ≡ mention_in r.bundle r.images j x
+  row_kept j x h =
+      let last : ℕ = length r.bundle.variables in
+      same_place r.bundle r'.images r.images j j x (λ one low. kept.row (last * j + (x - 1)) (omega (arith, record_below last j k h)))
 
   -- both sets of context j stand below those of context k
-  set_kept : (at : ℕ) → at + n ≤ 2 * n * k → (x : ℕ) → member m' at n x ≡ member m at n x
-  set_kept at fits x = member_same m' m at n (λ i l. kept.words (at + i) (omega (arith, fits))) x
+  set_kept : (at : ℕ) → at + r.n ≤ 2 * r.n * k → (x : ℕ) → member r'.scopes at r.n x ≡ member r.scopes at r.n x
+  set_kept at fits x = member_same r'.scopes r.scopes at r.n (λ i l. kept.words (at + i) (omega (arith, fits))) x
 
-  pub moves_kept : (j x : ℕ) → j < k → member m' (moved_at n j) n x ≡ member m (moved_at n j) n x
-  moves_kept j x h = set_kept (moved_at n j) (omega (arith, record_below n j k h)) x
+  pub moves_kept : (j x : ℕ) → j < k → member r'.scopes (moved_at r.n j) r.n x ≡ member r.scopes (moved_at r.n j) r.n x
+  moves_kept j x h = set_kept (moved_at r.n j) (omega (arith, record_below r.n j k h)) x
 
-  pub mentions_kept : (j x : ℕ) → j < k → member m' (mentioned_at n j) n x ≡ member m (mentioned_at n j) n x
-  mentions_kept j x h = set_kept (mentioned_at n j) (omega (arith, record_below n j k h)) x
+  pub mentions_kept : (j x : ℕ) → j < k → member r'.scopes (mentioned_at r.n j) r.n x ≡ member r.scopes (mentioned_at r.n j) r.n x
+  mentions_kept j x h = set_kept (mentioned_at r.n j) (omega (arith, record_below r.n j k h)) x
 
 -- ---- one place written
+
+abbrev pub with_words : Rows → List ℕ → List ℕ → Rows
+with_words r w m = record { bundle = r.bundle; images = w; scopes = m; n = r.n }
 
 cond_eqb : (x y : ℕ) (p : Bool) → eqb x y ≡ p → Dec (x ≡ y)
 cond_eqb x y true e = yes (eqb-true x y e)
 cond_eqb x y false e = no (λ q. false≢true (sym e ∙ eq-eqb x y q))
 
-module _ (b : Bundle) (w : List ℕ) (k x t : ℕ) (one : 1 ≤ x) (few : x ≤ length b.variables)
-    (room : length b.variables * (k + 1) ≤ length w) where
-  pub mention_set : (y : ℕ) → mention_in b (set w (length b.variables * k + (x - 1)) t) k y ≡ cond (eqb x y) (as_mention t) (mention_in b w k y)
+module _ (r : Rows) (k x t : ℕ) (one : 1 ≤ x) (few : x ≤ length r.bundle.variables) (room : RowRoom r k) where
+  abbrev place : ℕ
+  place = length r.bundle.variables * k + (x - 1)
+
+  mention_set : (y : ℕ) → mention_in r.bundle (set r.images place t) k y ≡ cond (eqb x y) (as_mention t) (mention_in r.bundle r.images k y)
   mention_set y = go (ℕ_discrete x y)
     where
-      go : Dec (x ≡ y) → mention_in b (set w (length b.variables * k + (x - 1)) t) k y ≡ cond (eqb x y) (as_mention t) (mention_in b w k y)
+      last : ℕ
+      last = length r.bundle.variables
+
+      go : Dec (x ≡ y) → mention_in r.bundle (set r.images place t) k y ≡ cond (eqb x y) (as_mention t) (mention_in r.bundle r.images k y)
       go (yes q) =
           rw (eq-eqb x y q, ← q)
-          (mention_some (length b.variables) (set w (length b.variables * k + (x - 1)) t) k x one few (sym (get_or-set_same w (length b.variables * k + (x - 1)) t 0 (omega arith))))
+          (mention_some (length r.bundle.variables) (set r.images place t) k x one few (sym (get_or-set_same r.images place t 0 (omega (arith, room.row)))))
       go (no q) =
           rw (ne_eqb x y q)
-          (same_place b (set w (length b.variables * k + (x - 1)) t) w k k y (λ first low. get_or-set_other w (length b.variables * k + (x - 1)) (length b.variables * k + (y - 1)) t 0 (λ z. q (omega arith))))
+          (same_place r.bundle (set r.images place t) r.images k k y (λ first low. get_or-set_other r.images place (length r.bundle.variables * k + (y - 1)) t 0 (λ z. q (omega arith))))
 
-  module _ (m m₁ m' : List ℕ) (n : ℕ) (words : 2 * n * k + 2 * n ≤ length m) (bits : length b.variables ≤ 64 * n) (agrees : Agrees b w m n k)
-      (moves : Bool) (same : moves ≡ moved_by b (as_image (as_mention t)) x) (told : mentioned_by (as_mention t) ≡ true) where
-    held : holds n x ≡ true
-    held = holds_small n x one (omega arith)
+  module _ (m₁ m' : List ℕ) (bits : length r.bundle.variables ≤ 64 * r.n) (agrees : Agrees r k) (moves : Bool)
+      (same : moves ≡ moved_by r.bundle (as_image (as_mention t)) x) (told : mentioned_by (as_mention t) ≡ true) where
+    held : holds r.n x ≡ true
+    held = holds_small r.n x one (omega arith)
 
     -- the sets as the code leaves them
     abbrev with_mention : List ℕ
-    with_mention = inserted m (mentioned_at n k) n x
+    with_mention = inserted r.scopes (mentioned_at r.n k) r.n x
 
     abbrev left_set : Bool → List ℕ
-    left_set p = cond p (inserted with_mention (moved_at n k) n x) (removed with_mention (moved_at n k) n x)
+    left_set p = cond p (inserted with_mention (moved_at r.n k) r.n x) (removed with_mention (moved_at r.n k) r.n x)
 
-    mention_long : length with_mention ≡ length m
-    mention_long = changed_length with_bit m (mentioned_at n k) n x
+    mention_long : length with_mention ≡ length r.scopes
+    mention_long = changed_length with_bit r.scopes (mentioned_at r.n k) r.n x
 
-    fits : moved_at n k + n ≤ length with_mention
-    fits = omega (arith, words, mention_long)
+    fits : moved_at r.n k + r.n ≤ length with_mention
+    fits = omega (arith, room.words, mention_long)
 
     -- the moved set is written after the other, and stands apart from it
-    before : (y : ℕ) → member with_mention (moved_at n k) n y ≡ member m (moved_at n k) n y
-    before y = member_same with_mention m (moved_at n k) n (λ i l. changed_out with_bit m (mentioned_at n k) n x (moved_at n k + i) (inl (omega arith))) y
+    before : (y : ℕ) → member with_mention (moved_at r.n k) r.n y ≡ member r.scopes (moved_at r.n k) r.n y
+    before y =
+        member_same with_mention r.scopes (moved_at r.n k) r.n
+        (λ i l. changed_out with_bit r.scopes (mentioned_at r.n k) r.n x (moved_at r.n k + i) (inl (omega arith))) y
 
-    in_set : (p : Bool) (y : ℕ) → member (left_set p) (moved_at n k) n y ≡ cond (eqb y x) p (member m (moved_at n k) n y)
-    in_set true y = member_inserted with_mention (moved_at n k) n x fits held y ∙ ap (λ (q : Bool). eqb y x || q) (before y) ∙ go (eqb y x)
+    in_set : (p : Bool) (y : ℕ) → member (left_set p) (moved_at r.n k) r.n y ≡ cond (eqb y x) p (member r.scopes (moved_at r.n k) r.n y)
+    in_set true y = member_inserted with_mention (moved_at r.n k) r.n x fits held y ∙ ap (λ (q : Bool). eqb y x || q) (before y) ∙ go (eqb y x)
       where
-        go : (q : Bool) → (q || member m (moved_at n k) n y) ≡ cond q true (member m (moved_at n k) n y)
+        go : (q : Bool) → (q || member r.scopes (moved_at r.n k) r.n y) ≡ cond q true (member r.scopes (moved_at r.n k) r.n y)
         go true = refl
         go false = refl
-    in_set false y = member_removed with_mention (moved_at n k) n x fits held y ∙ ap (λ (q : Bool). not (eqb y x) && q) (before y) ∙ go (eqb y x)
+    in_set false y = member_removed with_mention (moved_at r.n k) r.n x fits held y ∙ ap (λ (q : Bool). not (eqb y x) && q) (before y) ∙ go (eqb y x)
       where
-        go : (q : Bool) → (not q && member m (moved_at n k) n y) ≡ cond q false (member m (moved_at n k) n y)
+        go : (q : Bool) → (not q && member r.scopes (moved_at r.n k) r.n y) ≡ cond q false (member r.scopes (moved_at r.n k) r.n y)
         go true = refl
         go false = refl
 
-    past : (p : Bool) (j : ℕ) → (j < moved_at n k) ⊎ (mentioned_at n k ≤ j) → get_or (left_set p) j 0 ≡ get_or with_mention j 0
-    past true j h = changed_out with_bit with_mention (moved_at n k) n x j h
-    past false j h = changed_out without_bit with_mention (moved_at n k) n x j h
+    past : (p : Bool) (j : ℕ) → (j < moved_at r.n k) ⊎ (mentioned_at r.n k ≤ j) → get_or (left_set p) j 0 ≡ get_or with_mention j 0
+    past true j h = changed_out with_bit with_mention (moved_at r.n k) r.n x j h
+    past false j h = changed_out without_bit with_mention (moved_at r.n k) r.n x j h
 
-    in_mentions : (p : Bool) (y : ℕ) → member (left_set p) (mentioned_at n k) n y ≡ (eqb y x || member m (mentioned_at n k) n y)
+    in_mentions : (p : Bool) (y : ℕ) → member (left_set p) (mentioned_at r.n k) r.n y ≡ (eqb y x || member r.scopes (mentioned_at r.n k) r.n y)
     in_mentions p y =
-        member_same (left_set p) with_mention (mentioned_at n k) n (λ i l. past p (mentioned_at n k + i) (inr (omega arith))) y
-        ∙ member_inserted m (mentioned_at n k) n x (omega (arith, words)) held y
+        member_same (left_set p) with_mention (mentioned_at r.n k) r.n (λ i l. past p (mentioned_at r.n k + i) (inr (omega arith))) y
+        ∙ member_inserted r.scopes (mentioned_at r.n k) r.n x (omega (arith, room.words)) held y
 
-    set_out : (p : Bool) (j : ℕ) → j < 2 * n * k → get_or (left_set p) j 0 ≡ get_or m j 0
-    set_out p j h = past p j (inl h) ∙ changed_out with_bit m (mentioned_at n k) n x j (inl (omega arith))
+    set_out : (p : Bool) (j : ℕ) → j < 2 * r.n * k → get_or (left_set p) j 0 ≡ get_or r.scopes j 0
+    set_out p j h = past p j (inl h) ∙ changed_out with_bit r.scopes (mentioned_at r.n k) r.n x j (inl (omega arith))
 
-    set_long : (p : Bool) → length (left_set p) ≡ length m
-    set_long true = changed_length with_bit with_mention (moved_at n k) n x ∙ mention_long
-    set_long false = changed_length without_bit with_mention (moved_at n k) n x ∙ mention_long
+    set_long : (p : Bool) → length (left_set p) ≡ length r.scopes
+    set_long true = changed_length with_bit with_mention (moved_at r.n k) r.n x ∙ mention_long
+    set_long false = changed_length without_bit with_mention (moved_at r.n k) r.n x ∙ mention_long
 
-    entered_set : m' ≡ left_set moves → Entered b w m (set w (length b.variables * k + (x - 1)) t) m' n k (λ y m. cond (eqb x y) (as_mention t) m)
+    entered_set : m' ≡ left_set moves → Entered r (with_words r (set r.images place t) m') k (λ y m. cond (eqb x y) (as_mention t) m)
     entered_set e = rw e (record {
       lower = record {
-        long_row = length-set w (length b.variables * k + (x - 1)) t;
+        bundle = refl;
+        n = refl;
+        long_row = length-set r.images place t;
         long_set = set_long moves;
-        row = λ j h. get_or-set_other w (length b.variables * k + (x - 1)) j t 0 (λ z. omega arith);
+        row = λ j h. get_or-set_other r.images place j t 0 (λ z. omega arith);
         words = set_out moves;
       };
       mentions = mention_set;
@@ -257,19 +274,19 @@ module _ (b : Bundle) (w : List ℕ) (k x t : ℕ) (one : 1 ≤ x) (few : x ≤ 
     })
       where
         agree : (y : ℕ) → Dec (x ≡ y)
-            → cond (eqb y x) moves (member m (moved_at n k) n y) ≡ moved_by b (as_image (mention_in b (set w (length b.variables * k + (x - 1)) t) k y)) y
-        agree y (yes q) = rw (mention_set y, eq-eqb x y q, eq-eqb y x (sym q)) (same ∙ ap (moved_by b (as_image (as_mention t))) q)
+            → cond (eqb y x) moves (member r.scopes (moved_at r.n k) r.n y) ≡ moved_by r.bundle (as_image (mention_in r.bundle (set r.images place t) k y)) y
+        agree y (yes q) = rw (mention_set y, eq-eqb x y q, eq-eqb y x (sym q)) (same ∙ ap (moved_by r.bundle (as_image (as_mention t))) q)
         agree y (no q) = rw (mention_set y, ne_eqb x y q, ne_eqb y x (λ r. q (sym r))) (agrees.moves y)
 
         tells : (y : ℕ) → Dec (x ≡ y)
-            → (eqb y x || member m (mentioned_at n k) n y) ≡ mentioned_by (mention_in b (set w (length b.variables * k + (x - 1)) t) k y)
+            → (eqb y x || member r.scopes (mentioned_at r.n k) r.n y) ≡ mentioned_by (mention_in r.bundle (set r.images place t) k y)
         tells y (yes q) = rw (mention_set y, eq-eqb x y q, eq-eqb y x (sym q)) (sym told)
         tells y (no q) = rw (mention_set y, ne_eqb x y q, ne_eqb y x (λ r. q (sym r))) (agrees.mentions y)
 
     -- the same of the places as the code has them
-    pub entered_place : {p : ℕ} → p ≡ length b.variables * k + (x - 1) → m₁ ≡ with_mention
-        → m' ≡ cond moves (inserted m₁ (moved_at n k) n x) (removed m₁ (moved_at n k) n x)
-        → Entered b w m (set w p t) m' n k (λ y m. cond (eqb x y) (as_mention t) m)
+    pub entered_place : {p : ℕ} → p ≡ place → m₁ ≡ with_mention
+        → m' ≡ cond moves (inserted m₁ (moved_at r.n k) r.n x) (removed m₁ (moved_at r.n k) r.n x)
+        → Entered r (with_words r (set r.images p t) m') k (λ y m. cond (eqb x y) (as_mention t) m)
     entered_place q d e = rw q (entered_set (rw d at e))
 
 -- a term's number, or what stands for a fixed variable, says something
@@ -342,65 +359,81 @@ moved_inside b w k x same e = go (ℕ_discrete x 0) (dec_le x (length b.variable
 
 -- ---- a context: the row and the sets of its parent, then its own entry
 
-module _ (b : Bundle) (w m w' m₁ : List ℕ) (n k p : ℕ) (lower : p < k) (room : RowRoom b w m n k) where
-  pub parent_words : 2 * n * p + 2 * n ≤ 2 * n * k
-  parent_words = omega (arith, record_below n p k lower)
+-- both sets of context k are words that were those of context p
+sets_copied : (m m' : List ℕ) (n k p : ℕ) → ((i : ℕ) → i < 2 * n → get_or m' (2 * n * k + i) 0 ≡ get_or m (2 * n * p + i) 0) → SetsCopied m m' n k p
+sets_copied m m' n k p word = record {
+  moves = λ x. member_moved m' m (moved_at n k) (moved_at n p) n (λ i l. word i (omega arith)) x;
+  mentions =
+      λ x. member_moved m' m (mentioned_at n k) (mentioned_at n p) n
+      (λ i l.
+      let to : mentioned_at n k + i ≡ 2 * n * k + (n + i) = omega arith in
+      let from : mentioned_at n p + i ≡ 2 * n * p + (n + i) = omega arith in
+      rw (to, from) (word (n + i) (omega arith))) x;
+}
 
-  module _ (copy : m₁ ≡ copied m (2 * n * k) (2 * n * p) (2 * n)) where
-    pub inherited : length w' ≡ length w → ((j : ℕ) → j < length b.variables * k → get_or w' j 0 ≡ get_or w j 0) → Untouched b w m w' m₁ n k
-    inherited long row = record {
-      long_row = long;
-      long_set = rw copy (filled_length (λ i. get_or m (2 * n * p + i) 0) m (2 * n * k) (2 * n));
-      row = row;
-      words = λ j h. rw copy (filled_out (λ i. get_or m (2 * n * p + i) 0) m (2 * n * k) (2 * n) j (inl h));
-    }
+-- `count` places from `from` on were copied to `to`
+copied_place : (w v : List ℕ) (from to count : ℕ) → CopiedTo w v from to count → (i : ℕ) → i < count → get_or v (to + i) 0 ≡ get_or w (from + i) 0
+copied_place w v from to count copied i l =
+    let e : to + i - to ≡ i = omega arith in
+    rw e at (copied (to + i) 0 (omega arith) (omega arith))
 
-    -- word i of both sets
-    word : (i : ℕ) → i < 2 * n → get_or m₁ (2 * n * k + i) 0 ≡ get_or m (2 * n * p + i) 0
-    word i l = rw copy (filled_in (λ i. get_or m (2 * n * p + i) 0) m (2 * n * k) (2 * n) i room.words l)
+module _ (r : Rows) (w' m' : List ℕ) (k p : ℕ) where
+  pub inherited : {row : ℕ} → row ≡ length r.bundle.variables
+      → (length w' ≡ length r.images) × CopiedTo r.images w' (row * p) (row * k) row × SameBelow r.images w' (row * k)
+      → (length m' ≡ length r.scopes) × CopiedTo r.scopes m' (2 * r.n * p) (2 * r.n * k) (2 * r.n) × SameBelow r.scopes m' (2 * r.n * k)
+      → Untouched r (with_words r w' m') k × ((x : ℕ) → mention_in r.bundle w' k x ≡ mention_in r.bundle r.images p x) × SetsCopied r.scopes m' r.n k p
+  inherited {row} e images sets = (
+    record {
+      bundle = refl;
+      n = refl;
+      long_row = images.0;
+      long_set = sets.0;
+      row = λ j h. images.2 j 0 (rw e h);
+      words = λ j h. sets.2 j 0 h;
+    },
+    row_copied r.bundle w' r.images k p row (sym e) (copied_place r.images w' (row * p) (row * k) row images.1),
+    sets_copied r.scopes m' r.n k p (copied_place r.scopes m' (2 * r.n * p) (2 * r.n * k) (2 * r.n) sets.1),
+  )
 
-    pub sets_copied : SetsCopied m m₁ n k p
-    sets_copied = record {
-      moves = λ x. member_moved m₁ m (moved_at n k) (moved_at n p) n (λ i l. word i (omega arith)) x;
-      mentions =
-          λ x. member_moved m₁ m (mentioned_at n k) (mentioned_at n p) n
-          (λ i l.
-          let to : mentioned_at n k + i ≡ 2 * n * k + (n + i) = omega arith in
-          let from : mentioned_at n p + i ≡ 2 * n * p + (n + i) = omega arith in
-          rw (to, from) (word (n + i) (omega arith))) x;
-    }
-
-module _ (b : Bundle) (w m w' m' : List ℕ) (n k p : ℕ) (lower : p < k) (images : Images b w k) (sets : Scopes b m n k)
-    (copied : (x : ℕ) → mention_in b w' k x ≡ mention_in b w p x) where
-  pub agrees_copied : SetsCopied m m' n k p → Agrees b w' m' n k
+module _ (r r' : Rows) (k p : ℕ) (lower : p < k) (images : Images r.bundle r.images k) (sets : Scopes r.bundle r.scopes r.n k)
+    (kept : Untouched r r' k) (copied : (x : ℕ) → mention_in r.bundle r'.images k x ≡ mention_in r.bundle r.images p x) where
+  pub agrees_copied : SetsCopied r.scopes r'.scopes r.n k p → Agrees r' k
   unfolding mentioned
-  agrees_copied same = record {
-    moves = λ x. same.moves x ∙ sets.moves p x lower ∙ moved_found b p x ∙ ap (λ (m : Mention). moved_by b (as_image m) x) (row x);
+  agrees_copied same = rw (kept.bundle, kept.n) (record {
+    moves = λ x. same.moves x ∙ sets.moves p x lower ∙ moved_found r.bundle p x ∙ ap (λ (m : Mention). moved_by r.bundle (as_image m) x) (row x);
     mentions = λ x. same.mentions x ∙ sets.mentions p x lower ∙ ap mentioned_by (row x);
-  }
+  })
     where
-      row : (x : ℕ) → found b p x ≡ mention_in b w' k x
+      row : (x : ℕ) → found r.bundle p x ≡ mention_in r.bundle r'.images k x
       row x = sym (copied x ∙ images.same p x lower)
 
-  module _ (w'' m'' : List ℕ) (room : RowRoom b w m n k) (kept : Untouched b w m w' m' n k) (f : ℕ → Mention → Mention)
-      (entered : Entered b w' m' w'' m'' n k f) (own : (x : ℕ) → f x (found b p x) ≡ found b k x) where
-    all : Untouched b w m w'' m'' n k
-    all = untouched_trans b w m w' m' w'' m'' n k kept entered.lower
+  module _ (r'' : Rows) (room : RowRoom r k) (f : ℕ → Mention → Mention)
+      (entered : Entered r' r'' k f) (own : (x : ℕ) → f x (found r.bundle p x) ≡ found r.bundle k x) where
+    pub all_kept : Untouched r r'' k
+    all_kept = untouched_trans r r' r'' k kept entered.lower
 
-    here : (x : ℕ) → mention_in b w'' k x ≡ found b k x
-    here x = entered.mentions x ∙ ap (f x) (copied x ∙ images.same p x lower) ∙ own x
+    here : (x : ℕ) → mention_in r.bundle r''.images k x ≡ found r.bundle k x
+    here x = (rw kept.bundle at (entered.mentions x)) ∙ ap (f x) (copied x ∙ images.same p x lower) ∙ own x
 
-    pub images_on : Images b w'' (k + 1)
-    images_on = record { long = omega (arith, room.row, all.long_row); same = λ j x h. go j x (ℕ_discrete j k) h }
+    pub images_on : Images r.bundle r''.images (k + 1)
+    images_on = record { long = omega (arith, room.row, all_kept.long_row); same = λ j x h. go j x (ℕ_discrete j k) h }
       where
-        go : (j x : ℕ) → Dec (j ≡ k) → j < k + 1 → mention_in b w'' j x ≡ found b j x
+        go : (j x : ℕ) → Dec (j ≡ k) → j < k + 1 → mention_in r.bundle r''.images j x ≡ found r.bundle j x
         go j x (yes q) h = rw q (here x)
-        go j x (no q) h = row_kept b w m w'' m'' n k all j x (omega arith) ∙ images.same j x (omega arith)
+        go j x (no q) h = row_kept r r'' k all_kept j x (omega arith) ∙ images.same j x (omega arith)
 
-    pub sets_on : Scopes b m'' n (k + 1)
+    -- the sets of context k agree with its row
+    agrees : ((x : ℕ) → member r''.scopes (moved_at r.n k) r.n x ≡ moved_by r.bundle (as_image (mention_in r.bundle r''.images k x)) x)
+        × ((x : ℕ) → member r''.scopes (mentioned_at r.n k) r.n x ≡ mentioned_by (mention_in r.bundle r''.images k x))
+    agrees = (
+      (λ x. rw (all_kept.bundle, all_kept.n) at (entered.agrees.moves x)),
+      (λ x. rw (all_kept.bundle, all_kept.n) at (entered.agrees.mentions x)),
+    )
+
+    pub sets_on : Scopes r.bundle r''.scopes r.n (k + 1)
     unfolding mentioned
     sets_on = record {
-      long = omega (arith, room.words, all.long_set, distrib n k);
+      long = omega (arith, room.words, all_kept.long_set, distrib r.n k);
       moves = λ j x h. go j x (ℕ_discrete j k) h;
       mentions = λ j x h. told j x (ℕ_discrete j k) h;
       few = λ j x h. inside j x (ℕ_discrete j k) h;
@@ -409,16 +442,17 @@ module _ (b : Bundle) (w m w' m' : List ℕ) (n k p : ℕ) (lower : p < k) (imag
         distrib : (n k : ℕ) → 2 * n * (k + 1) ≡ 2 * n * k + 2 * n
         distrib n k = omega arith
 
-        go : (j x : ℕ) → Dec (j ≡ k) → j < k + 1 → member m'' (moved_at n j) n x ≡ moved b j x
-        go j x (yes q) h = rw q (entered.agrees.moves x ∙ ap (λ (m : Mention). moved_by b (as_image m) x) (here x) ∙ sym (moved_found b k x))
-        go j x (no q) h = moves_kept b w m w'' m'' n k all j x (omega arith) ∙ sets.moves j x (omega arith)
+        go : (j x : ℕ) → Dec (j ≡ k) → j < k + 1 → member r''.scopes (moved_at r.n j) r.n x ≡ moved r.bundle j x
+        go j x (yes q) h =
+            rw q (agrees.0 x ∙ ap (λ (m : Mention). moved_by r.bundle (as_image m) x) (here x) ∙ sym (moved_found r.bundle k x))
+        go j x (no q) h = moves_kept r r'' k all_kept j x (omega arith) ∙ sets.moves j x (omega arith)
 
-        told : (j x : ℕ) → Dec (j ≡ k) → j < k + 1 → member m'' (mentioned_at n j) n x ≡ mentioned_by (found b j x)
-        told j x (yes q) h = rw q (entered.agrees.mentions x ∙ ap mentioned_by (here x))
-        told j x (no q) h = mentions_kept b w m w'' m'' n k all j x (omega arith) ∙ sets.mentions j x (omega arith)
+        told : (j x : ℕ) → Dec (j ≡ k) → j < k + 1 → member r''.scopes (mentioned_at r.n j) r.n x ≡ mentioned_by (found r.bundle j x)
+        told j x (yes q) h = rw q (agrees.1 x ∙ ap mentioned_by (here x))
+        told j x (no q) h = mentions_kept r r'' k all_kept j x (omega arith) ∙ sets.mentions j x (omega arith)
 
-        inside : (j x : ℕ) → Dec (j ≡ k) → j < k + 1 → moved b j x ≡ true → (1 ≤ x) × (x ≤ length b.variables)
-        inside j x (yes q) h e = moved_inside b w'' k x (here x) (rw q at e)
+        inside : (j x : ℕ) → Dec (j ≡ k) → j < k + 1 → moved r.bundle j x ≡ true → (1 ≤ x) × (x ≤ length r.bundle.variables)
+        inside j x (yes q) h e = moved_inside r.bundle r''.images k x (here x) (rw q at e)
         inside j x (no q) h e = sets.few j x (omega arith) e
 
 -- ---- settled terms, and terms in scope

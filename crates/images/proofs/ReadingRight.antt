@@ -1,9 +1,8 @@
 -- Where the memory is right, its reading is the bundle's own: so what the code says of the reading it says of the bundle.
---     free_long                     the free sets stand within the words
---     free_right, settled_right, scope_right     the free variables of each term; the settled terms of a context, and those in scope, where its sets are right
+--     free_right, settled_right     the free variables of each term; the settled terms of a context, where its sets are right
 --     step_right                    the steps, where the bed has none
 --     reading_right                 THE LAW: the whole reading
---     fault_right, pairs_right, lent_right     so the faults of steps and the pairs of walks are the bundle's, and the memory is long enough
+--     fault_right, pairs_right      so the faults of steps and the pairs of walks are the bundle's
 use mathlib.Core.Path.{◌≡◌, refl, sym, ap, ◌∙◌, fun_ext}
 use mathlib.Core.Bool.{Bool, true, false, not, ◌||◌}
 use mathlib.Core.List.{List, append-nil}
@@ -13,7 +12,6 @@ use native.Mathlib.Nat.{mul-le-mul_left}
 use native.Mathlib.Decide.{ℕ_discrete, dec_le}
 use lib.ListN.{length, get_or}
 use borrow.Author.Tests.{le-leb, lt-leb}
-use Rattle.bundle.specs.Limits.{set_words}
 use Rattle.bundle.specs.Bundle.{Bundle, no_term, no_context, term_of, context_of, step_of}
 use Rattle.bundle.specs.File.{tab}
 use Rattle.bundle.proofs.Tab.{at_none}
@@ -28,10 +26,11 @@ use Rattle.logic.specs.Readings.{Reading, reading_of}
 use Rattle.logic.proofs.Tables.{table_below}
 use Rattle.logic.proofs.Tests.{up_to_all}
 use Rattle.logic.proofs.Found.{image_found, found_none}
+use Rattle.free_variables.specs.TermSets.{TermSets, Words, free_in, settled_in, in_scope_in, moved_at, mentioned_at}
 use Rattle.free_variables.specs.FreeSets.{FreeSets}
-use Rattle.images.specs.ContextRows.{Images, moved_at, mentioned_at, Scopes}
-use Rattle.images.specs.LentReading.{free_in, settled_in, in_scope_in, step_in, mentions_in, images_in, all_settled_in, all_in_scope_in, reading_in, Lent}
-use Rattle.images.proofs.FreeWords.{free_zero, free_past, free_some, settled_zero, settled_past, settled_some, scope_zero, scope_past, scope_some}
+use Rattle.images.specs.ContextRows.{Scopes}
+use Rattle.images.specs.LentReading.{Known, step_in, mentions_in, images_in, all_settled_in, all_in_scope_in, reading_in, Right}
+use Rattle.free_variables.proofs.FreeWords.{free_zero, free_past, free_some, settled_zero, settled_past, settled_some, scope_zero, scope_past, scope_some}
 use Rattle.images.proofs.ContextRows.{scopes_few, apart_settled, subset_in_scope}
 
 -- ---- numbers that are no record's
@@ -83,109 +82,101 @@ step_right b bed short p =
 
 -- ---- the readings
 
-module _ (b : Bundle) (w : List ℕ) (n : ℕ) (sets : FreeSets w n b) where
-  pub free_long : n * (length b.terms) ≤ length w
-  free_long = sets.long
-
-  pub free_right : (t v : ℕ) → free_in (length b.terms) w n t v ≡ free_at b t v
-  free_right t v = go (ℕ_discrete t 0) (dec_le t (length b.terms))
+module _ (s : TermSets) (sets : FreeSets s) where
+  pub free_right : (t v : ℕ) → free_in s t v ≡ free_at s.bundle t v
+  free_right t v = go (ℕ_discrete t 0) (dec_le t (length s.bundle.terms))
     where
-      none : term_of b t ≡ no_term → free_at b t v ≡ false
-      none e = ap (λ (free : ℕ → Bool). free v) (nothing_free_lem b t e)
+      none : term_of s.bundle t ≡ no_term → free_at s.bundle t v ≡ false
+      none e = ap (λ (free : ℕ → Bool). free v) (nothing_free_lem s.bundle t e)
 
-      go : Dec (t ≡ 0) → Dec (t ≤ (length b.terms)) → free_in (length b.terms) w n t v ≡ free_at b t v
-      go (yes q) d = free_zero (length b.terms) w n t v q ∙ sym (none (rw q))
-      go (no q) (yes l) = free_some (length b.terms) w n t v q l ∙ sets.same t v (omega arith) (omega arith)
-      go (no q) (no l) =
-          free_past (length b.terms) w n t v (omega arith) ∙ sym (none (at_none no_term b.terms t (omega arith)))
+      go : Dec (t ≡ 0) → Dec (t ≤ length s.bundle.terms) → free_in s t v ≡ free_at s.bundle t v
+      go (yes q) d = free_zero s t v q ∙ sym (none (rw q))
+      go (no q) (yes l) = free_some s t v q l ∙ sets.same t v (omega arith) (omega arith)
+      go (no q) (no l) = free_past s t v (omega arith) ∙ sym (none (at_none no_term s.bundle.terms t (omega arith)))
 
-  module _ (words : (j : ℕ) → get_or w j 0 < 2 ^ 64) (m : List ℕ) where
-    pub settled_right : (k t : ℕ) → Scopes b m n (k + 1) → settled_in (length b.terms) w m n (moved_at n k) t ≡ settled b k t
-    settled_right k t scopes = go (ℕ_discrete t 0) (dec_le t (length b.terms))
+  module _ (words : Words s.words) (m : List ℕ) where
+    pub settled_right : (k t : ℕ) → Scopes s.bundle m s.n (k + 1) → settled_in s m (moved_at s.n k) t ≡ settled s.bundle k t
+    settled_right k t scopes = go (ℕ_discrete t 0) (dec_le t (length s.bundle.terms))
       where
-        go : Dec (t ≡ 0) → Dec (t ≤ (length b.terms)) → settled_in (length b.terms) w m n (moved_at n k) t ≡ settled b k t
-        go (yes q) d = settled_zero (length b.terms) w m n (moved_at n k) t q ∙ sym (settled_none b k t (rw q))
+        go : Dec (t ≡ 0) → Dec (t ≤ length s.bundle.terms) → settled_in s m (moved_at s.n k) t ≡ settled s.bundle k t
+        go (yes q) d = settled_zero s m (moved_at s.n k) t q ∙ sym (settled_none s.bundle k t (rw q))
         go (no q) (yes l) =
-            settled_some (length b.terms) w m n (moved_at n k) t q l
-            ∙ apart_settled b w m (n * (t - 1)) n k t (λ v. sets.same t v (omega arith) (omega arith)) scopes
-            (λ j. words (n * (t - 1) + j))
+            settled_some s m (moved_at s.n k) t q l
+            ∙ apart_settled s.bundle s.words m (s.n * (t - 1)) s.n k t (λ v. sets.same t v (omega arith) (omega arith)) scopes
+            (λ j. words (s.n * (t - 1) + j))
         go (no q) (no l) =
-            settled_past (length b.terms) w m n (moved_at n k) t (omega arith)
-            ∙ sym (settled_none b k t (at_none no_term b.terms t (omega arith)))
+            settled_past s m (moved_at s.n k) t (omega arith)
+            ∙ sym (settled_none s.bundle k t (at_none no_term s.bundle.terms t (omega arith)))
 
-    pub scope_right : (k t : ℕ) → Scopes b m n (k + 1) → in_scope_in (length b.terms) w m n (mentioned_at n k) t ≡ in_scope b k t
-    scope_right k t scopes = go (ℕ_discrete t 0) (dec_le t (length b.terms))
+    scope_right : (k t : ℕ) → Scopes s.bundle m s.n (k + 1) → in_scope_in s m (mentioned_at s.n k) t ≡ in_scope s.bundle k t
+    scope_right k t scopes = go (ℕ_discrete t 0) (dec_le t (length s.bundle.terms))
       where
-        go : Dec (t ≡ 0) → Dec (t ≤ (length b.terms)) → in_scope_in (length b.terms) w m n (mentioned_at n k) t ≡ in_scope b k t
-        go (yes q) d = scope_zero (length b.terms) w m n (mentioned_at n k) t q ∙ sym (scope_none b k t (rw q))
+        go : Dec (t ≡ 0) → Dec (t ≤ length s.bundle.terms) → in_scope_in s m (mentioned_at s.n k) t ≡ in_scope s.bundle k t
+        go (yes q) d = scope_zero s m (mentioned_at s.n k) t q ∙ sym (scope_none s.bundle k t (rw q))
         go (no q) (yes l) =
-            scope_some (length b.terms) w m n (mentioned_at n k) t q l
-            ∙ subset_in_scope b w m (n * (t - 1)) n k t (λ v. sets.same t v (omega arith) (omega arith)) scopes
-            (λ j. words (n * (t - 1) + j))
+            scope_some s m (mentioned_at s.n k) t q l
+            ∙ subset_in_scope s.bundle s.words m (s.n * (t - 1)) s.n k t (λ v. sets.same t v (omega arith) (omega arith)) scopes
+            (λ j. words (s.n * (t - 1) + j))
         go (no q) (no l) =
-            scope_past (length b.terms) w m n (mentioned_at n k) t (omega arith)
-            ∙ sym (scope_none b k t (at_none no_term b.terms t (omega arith)))
+            scope_past s m (mentioned_at s.n k) t (omega arith)
+            ∙ sym (scope_none s.bundle k t (at_none no_term s.bundle.terms t (omega arith)))
 
-    module _ (images : List ℕ) (rows : Images b images ((length b.contexts) + 1)) (scopes : Scopes b m n ((length b.contexts) + 1)) where
-      no_context_lem : (k : ℕ) → (k ≤ (length b.contexts) → ⊥) → context_of b k ≡ no_context
-      no_context_lem k l = at_none no_context b.contexts k (omega arith)
+module _ (known : Known) (right : Right known) (words : Words known.sets.words) where
+  abbrev b : Bundle
+  b = known.sets.bundle
 
-      pub all_mentions : (k x : ℕ) → mentions_in b images k x ≡ found b k x
-      all_mentions k x = go (dec_le k (length b.contexts))
-        where
-          go : Dec (k ≤ (length b.contexts)) → mentions_in b images k x ≡ found b k x
-          go (yes l) =
-              rw (le-leb k (length b.contexts) l) (rows.same k x (omega arith))
-          go (no l) = rw (lt-leb k (length b.contexts) (omega arith), found_none b k (no_context_lem k l))
+  no_context_lem : (k : ℕ) → (k ≤ length b.contexts → ⊥) → context_of b k ≡ no_context
+  no_context_lem k l = at_none no_context b.contexts k (omega arith)
 
-      pub all_images : (k x : ℕ) → images_in b images k x ≡ image b k x
-      all_images k x = ap as_image (all_mentions k x) ∙ sym (image_found b k x)
+  all_mentions : (k x : ℕ) → mentions_in b known.images k x ≡ found b k x
+  all_mentions k x = go (dec_le k (length b.contexts))
+    where
+      go : Dec (k ≤ length b.contexts) → mentions_in b known.images k x ≡ found b k x
+      go (yes l) = rw (le-leb k (length b.contexts) l) (right.images.same k x (omega arith))
+      go (no l) = rw (lt-leb k (length b.contexts) (omega arith), found_none b k (no_context_lem k l))
 
-      few_scopes : (k : ℕ) → k ≤ (length b.contexts) → Scopes b m n (k + 1)
-      few_scopes k l = scopes_few b m n ((length b.contexts) + 1) (k + 1) (omega arith) (mul-le-mul_left n (omega arith)) scopes
+  pub all_images : (k x : ℕ) → images_in b known.images k x ≡ image b k x
+  all_images k x = ap as_image (all_mentions k x) ∙ sym (image_found b k x)
 
-      pub all_settleds : (k t : ℕ) → all_settled_in b w m n k t ≡ settled b k t
-      all_settleds k t = go (dec_le k (length b.contexts))
-        where
-          go : Dec (k ≤ (length b.contexts)) → all_settled_in b w m n k t ≡ settled b k t
-          go (yes l) =
-              rw (le-leb k (length b.contexts) l)
-              (settled_right k t (few_scopes k l))
-          go (no l) = rw (lt-leb k (length b.contexts) (omega arith), all_settled b k t (no_context_lem k l))
+  few_scopes : (k : ℕ) → k ≤ length b.contexts → Scopes b known.scopes known.sets.n (k + 1)
+  few_scopes k l =
+      scopes_few b known.scopes known.sets.n (length b.contexts + 1) (k + 1) (omega arith) (mul-le-mul_left known.sets.n (omega arith)) right.scopes
 
-      pub all_in_scope : (k t : ℕ) → all_in_scope_in b w m n k t ≡ in_scope b k t
-      unfolding all_in_scope_in in_scope
-      all_in_scope k t = go (dec_le k (length b.contexts))
-        where
-          go : Dec (k ≤ (length b.contexts)) → all_in_scope_in b w m n k t ≡ in_scope b k t
-          go (yes l) = rw (le-leb k (length b.contexts) l) (scope_right k t (few_scopes k l))
-          go (no l) =
-              rw (lt-leb k (length b.contexts) (omega arith))
-              (ap (up_to (length b.variables)) (fun_ext (λ x. ap not (free_right t x)
-              ∙ sym (or_neither (not (free_at b t x)) (not_mentioned b k x (no_context_lem k l))))))
+  pub all_settleds : (k t : ℕ) → all_settled_in known.sets known.scopes k t ≡ settled b k t
+  all_settleds k t = go (dec_le k (length b.contexts))
+    where
+      go : Dec (k ≤ length b.contexts) → all_settled_in known.sets known.scopes k t ≡ settled b k t
+      go (yes l) = rw (le-leb k (length b.contexts) l) (settled_right known.sets right.free words known.scopes k t (few_scopes k l))
+      go (no l) = rw (lt-leb k (length b.contexts) (omega arith), all_settled b k t (no_context_lem k l))
 
-      pub reading_right : (bed : List ℕ) → length bed < 5 → reading_in b w n images m bed ≡ reading_of b
-      unfolding reading_in
-      reading_right bed short = λ i. record {
-        free = fun_ext (λ t. fun_ext (free_right t)) i;
-        image = fun_ext (λ k. fun_ext (all_images k)) i;
-        settled = fun_ext (λ k. fun_ext (all_settleds k)) i;
-        in_scope = fun_ext (λ k. fun_ext (all_in_scope k)) i;
-        step = fun_ext (step_right b bed short) i;
-      }
+  pub all_in_scope : (k t : ℕ) → all_in_scope_in known.sets known.scopes k t ≡ in_scope b k t
+  unfolding all_in_scope_in in_scope
+  all_in_scope k t = go (dec_le k (length b.contexts))
+    where
+      go : Dec (k ≤ length b.contexts) → all_in_scope_in known.sets known.scopes k t ≡ in_scope b k t
+      go (yes l) = rw (le-leb k (length b.contexts) l) (scope_right known.sets right.free words known.scopes k t (few_scopes k l))
+      go (no l) =
+          rw (lt-leb k (length b.contexts) (omega arith))
+          (ap (up_to (length b.variables)) (fun_ext (λ x. ap not (free_right known.sets right.free t x)
+          ∙ sym (or_neither (not (free_at b t x)) (not_mentioned b k x (no_context_lem k l))))))
 
-      -- what is wrong with step k, in the words of the code and in those of the bundle
-      pub fault_right : (bed : List ℕ) → length bed < 5 → (k : ℕ)
-          → step_fault_by (reading_in b w n images m bed) b (k - 1) (step_of b k) ≡ step_fault b k
-      unfolding step_fault
-      fault_right bed short k = ap (λ (g : Reading). step_fault_by g b (k - 1) (step_of b k)) (reading_right bed short)
+  module _ (bed : List ℕ) (short : length bed < 5) where
+    pub reading_right : reading_in known bed ≡ reading_of b
+    unfolding reading_in
+    reading_right = λ i. record {
+      free = fun_ext (λ t. fun_ext (free_right known.sets right.free t)) i;
+      image = fun_ext (λ k. fun_ext (all_images k)) i;
+      settled = fun_ext (λ k. fun_ext (all_settleds k)) i;
+      in_scope = fun_ext (λ k. fun_ext (all_in_scope k)) i;
+      step = fun_ext (step_right b bed short) i;
+    }
 
-      -- the pairs that its walk visits
-      pub pairs_right : (bed : List ℕ) → length bed < 5 → (k : ℕ)
-          → pairs_by (reading_in b w n images m bed) b (step_of b k) ≡ walked_pairs b k
-      unfolding walked_pairs
-      pairs_right bed short k = ap (λ (g : Reading). pairs_by g b (step_of b k)) (reading_right bed short)
+    -- what is wrong with step k, in the words of the code and in those of the bundle
+    pub fault_right : (k : ℕ) → step_fault_by (reading_in known bed) b (k - 1) (step_of b k) ≡ step_fault b k
+    unfolding step_fault
+    fault_right k = ap (λ (g : Reading). step_fault_by g b (k - 1) (step_of b k)) reading_right
 
-      pub lent_right : (length b.variables) ≤ 64 * n → n ≤ set_words → Lent b w images m n
-      lent_right bits few =
-          record { bits = bits; few = few; free = free_long; images = rows.long; scopes = scopes.long }
+    -- the pairs that its walk visits
+    pub pairs_right : (k : ℕ) → pairs_by (reading_in known bed) b (step_of b k) ≡ walked_pairs b k
+    unfolding walked_pairs
+    pairs_right k = ap (λ (g : Reading). pairs_by g b (step_of b k)) reading_right

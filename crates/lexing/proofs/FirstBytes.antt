@@ -1,10 +1,10 @@
--- The lexeme that a run is, by its first byte: at most two words start with it.
+-- The word that a run is, by its first byte: at most two words start with it.
 --     word_true to word_item     by each of the ten first bytes
 --     word_none, word_other      no byte, and any other byte
 use Prim.Native.Nat.{ℕ, suc, ◌<◌}
 use native.Mathlib.Omega.{arith}
-use mathlib.Core.Path.{◌≡◌, refl, sym, ap, ◌∙◌}
-use mathlib.Core.Bool.{Bool, true, false, cond}
+use mathlib.Core.Path.{◌≡◌, refl}
+use mathlib.Core.Bool.{true, false, cond}
 use mathlib.Core.List.{List, [], ◌∷◌}
 use lib.ListN.{length, get_or, drop}
 use lib.Seq.{drop-cons}
@@ -13,7 +13,6 @@ use Rattle.bundle.specs.Lists.{same_list}
 use Rattle.logic.specs.Terms.{forAll, exists}
 use Rattle.grammar.specs.Bytes.{bool, item, conjunction, disjunction, implication, equality, Word, constant, negation, connective, quantifier}
 use Rattle.grammar.specs.Bytes.{letting, sort, name, bytes, twelve, word_among, word_of}
-use Rattle.lexing.specs.Codes.{word_code}
 
 some_byte : (w : List ℕ) → (length w ≡ 0 → ⊥) → 0 < length w
 some_byte w l = omega arith
@@ -22,25 +21,21 @@ some_byte w l = omega arith
 first : (P : List ℕ → Type 0) (w : List ℕ) (k : ℕ) → (length w ≡ 0 → ⊥) → get_or w 0 0 ≡ k → ((u : List ℕ) → P (k ∷ u)) → P w
 first P w k l e f = rw (drop-cons w 0 0 (some_byte w l), e) (f (drop 1 w))
 
-code_cond : (b : Bool) (x y : Word) → word_code (cond b x y) ≡ cond b (word_code x) (word_code y)
-code_cond true x y = refl
-code_cond false x y = refl
+-- a run that is this word or a name; that is one of these two words or a name
+abbrev pub One : List ℕ → List ℕ → Word → Type 0
+One w v x = cond (same_list w v) x (name w) ≡ word_of w
 
--- the code of a run that is this word or a name; that is one of these two words or a name
-abbrev pub One : List ℕ → List ℕ → ℕ → Type 0
-One w v n = cond (same_list w v) n 9 ≡ word_code (word_of w)
+abbrev pub Two : List ℕ → List ℕ → Word → List ℕ → Word → Type 0
+Two w v x v' x' = cond (same_list w v) x (cond (same_list w v') x' (name w)) ≡ word_of w
 
-abbrev pub Two : List ℕ → List ℕ → ℕ → List ℕ → ℕ → Type 0
-Two w v n v' n' = cond (same_list w v) n (cond (same_list w v') n' 9) ≡ word_code (word_of w)
+pub two_first : (w v : List ℕ) (x : Word) (v' : List ℕ) (x' : Word) → Two w v x v' x' → same_list w v ≡ true → x ≡ word_of w
+two_first w v x v' x' h e = rw e at h
 
-pub two_first : (w v : List ℕ) (n : ℕ) (v' : List ℕ) (n' : ℕ) → Two w v n v' n' → same_list w v ≡ true → n ≡ word_code (word_of w)
-two_first w v n v' n' h e = rw e at h
+pub two_second : (w v : List ℕ) (x : Word) (v' : List ℕ) (x' : Word) → Two w v x v' x' → same_list w v ≡ false → One w v' x'
+two_second w v x v' x' h e = rw e at h
 
-pub two_second : (w v : List ℕ) (n : ℕ) (v' : List ℕ) (n' : ℕ) → Two w v n v' n' → same_list w v ≡ false → One w v' n'
-two_second w v n v' n' h e = rw e at h
-
-pub word_none : (w : List ℕ) → length w ≡ 0 → 9 ≡ word_code (word_of w)
-unfolding word_code word_of word_among twelve bytes same_list
+pub word_none : (w : List ℕ) → length w ≡ 0 → name w ≡ word_of w
+unfolding word_of word_among twelve bytes same_list
 word_none [] e = refl
 word_none (x ∷ w) e = absurd (no_zero (length w) e)
   where
@@ -48,62 +43,50 @@ word_none (x ∷ w) e = absurd (no_zero (length w) e)
     no_zero n e = omega arith
 
 module _ (w : List ℕ) (l : length w ≡ 0 → ⊥) where
-  pub word_true : get_or w 0 0 ≡ 116 → One w (bytes "true") 3
-  unfolding word_code word_of word_among twelve bytes same_list
-  word_true e = first (λ w. One w (bytes "true") 3) w 116 l e (λ u. sym (code_cond (same_list (116 ∷ u) (bytes "true")) (constant true) (name (116 ∷ u))))
+  pub word_true : get_or w 0 0 ≡ 116 → One w (bytes "true") (constant true)
+  unfolding word_of word_among twelve bytes same_list
+  word_true e = first (λ w. One w (bytes "true") (constant true)) w 116 l e (λ u. refl)
 
-  pub word_false : get_or w 0 0 ≡ 102 → Two w (bytes "false") 3 (bytes "forall") 6
-  unfolding word_code word_of word_among twelve bytes same_list
-  word_false e = first (λ w. Two w (bytes "false") 3 (bytes "forall") 6) w 102 l e (λ u. sym (two u))
-    where
-      two : (u : List ℕ) → word_code (word_of (102 ∷ u)) ≡ cond (same_list (102 ∷ u) (bytes "false")) 3 (cond (same_list (102 ∷ u) (bytes "forall")) 6 9)
-      two u =
-          code_cond (same_list (102 ∷ u) (bytes "false")) (constant false) (cond (same_list (102 ∷ u) (bytes "forall")) (quantifier forAll) (name (102 ∷ u)))
-          ∙ ap (cond (same_list (102 ∷ u) (bytes "false")) 3) (code_cond (same_list (102 ∷ u) (bytes "forall")) (quantifier forAll) (name (102 ∷ u)))
+  pub word_false : get_or w 0 0 ≡ 102 → Two w (bytes "false") (constant false) (bytes "forall") (quantifier forAll)
+  unfolding word_of word_among twelve bytes same_list
+  word_false e = first (λ w. Two w (bytes "false") (constant false) (bytes "forall") (quantifier forAll)) w 102 l e (λ u. refl)
 
-  pub word_not : get_or w 0 0 ≡ 110 → One w (bytes "not") 4
-  unfolding word_code word_of word_among twelve bytes same_list
-  word_not e = first (λ w. One w (bytes "not") 4) w 110 l e (λ u. sym (code_cond (same_list (110 ∷ u) (bytes "not")) negation (name (110 ∷ u))))
+  pub word_not : get_or w 0 0 ≡ 110 → One w (bytes "not") negation
+  unfolding word_of word_among twelve bytes same_list
+  word_not e = first (λ w. One w (bytes "not") negation) w 110 l e (λ u. refl)
 
-  pub word_and : get_or w 0 0 ≡ 97 → One w (bytes "and") 5
-  unfolding word_code word_of word_among twelve bytes same_list
-  word_and e = first (λ w. One w (bytes "and") 5) w 97 l e (λ u. sym (code_cond (same_list (97 ∷ u) (bytes "and")) (connective conjunction) (name (97 ∷ u))))
+  pub word_and : get_or w 0 0 ≡ 97 → One w (bytes "and") (connective conjunction)
+  unfolding word_of word_among twelve bytes same_list
+  word_and e = first (λ w. One w (bytes "and") (connective conjunction)) w 97 l e (λ u. refl)
 
-  pub word_or : get_or w 0 0 ≡ 111 → One w (bytes "or") 5
-  unfolding word_code word_of word_among twelve bytes same_list
-  word_or e = first (λ w. One w (bytes "or") 5) w 111 l e (λ u. sym (code_cond (same_list (111 ∷ u) (bytes "or")) (connective disjunction) (name (111 ∷ u))))
+  pub word_or : get_or w 0 0 ≡ 111 → One w (bytes "or") (connective disjunction)
+  unfolding word_of word_among twelve bytes same_list
+  word_or e = first (λ w. One w (bytes "or") (connective disjunction)) w 111 l e (λ u. refl)
 
-  pub word_equals : get_or w 0 0 ≡ 61 → Two w (bytes "=>") 5 (bytes "=") 5
-  unfolding word_code word_of word_among twelve bytes same_list
-  word_equals e = first (λ w. Two w (bytes "=>") 5 (bytes "=") 5) w 61 l e (λ u. sym (two u))
-    where
-      two : (u : List ℕ) → word_code (word_of (61 ∷ u)) ≡ cond (same_list (61 ∷ u) (bytes "=>")) 5 (cond (same_list (61 ∷ u) (bytes "=")) 5 9)
-      two u =
-          code_cond (same_list (61 ∷ u) (bytes "=>")) (connective implication) (cond (same_list (61 ∷ u) (bytes "=")) (connective equality) (name (61 ∷ u)))
-          ∙ ap (cond (same_list (61 ∷ u) (bytes "=>")) 5) (code_cond (same_list (61 ∷ u) (bytes "=")) (connective equality) (name (61 ∷ u)))
+  pub word_equals : get_or w 0 0 ≡ 61 → Two w (bytes "=>") (connective implication) (bytes "=") (connective equality)
+  unfolding word_of word_among twelve bytes same_list
+  word_equals e = first (λ w. Two w (bytes "=>") (connective implication) (bytes "=") (connective equality)) w 61 l e (λ u. refl)
 
-  pub word_exists : get_or w 0 0 ≡ 101 → One w (bytes "exists") 6
-  unfolding word_code word_of word_among twelve bytes same_list
-  word_exists e =
-      first (λ w. One w (bytes "exists") 6) w 101 l e
-      (λ u. sym (code_cond (same_list (101 ∷ u) (bytes "exists")) (quantifier exists) (name (101 ∷ u))))
+  pub word_exists : get_or w 0 0 ≡ 101 → One w (bytes "exists") (quantifier exists)
+  unfolding word_of word_among twelve bytes same_list
+  word_exists e = first (λ w. One w (bytes "exists") (quantifier exists)) w 101 l e (λ u. refl)
 
-  pub word_let : get_or w 0 0 ≡ 108 → One w (bytes "let") 7
-  unfolding word_code word_of word_among twelve bytes same_list
-  word_let e = first (λ w. One w (bytes "let") 7) w 108 l e (λ u. sym (code_cond (same_list (108 ∷ u) (bytes "let")) letting (name (108 ∷ u))))
+  pub word_let : get_or w 0 0 ≡ 108 → One w (bytes "let") letting
+  unfolding word_of word_among twelve bytes same_list
+  word_let e = first (λ w. One w (bytes "let") letting) w 108 l e (λ u. refl)
 
-  pub word_bool : get_or w 0 0 ≡ 66 → One w (bytes "Bool") 8
-  unfolding word_code word_of word_among twelve bytes same_list
-  word_bool e = first (λ w. One w (bytes "Bool") 8) w 66 l e (λ u. sym (code_cond (same_list (66 ∷ u) (bytes "Bool")) (sort bool) (name (66 ∷ u))))
+  pub word_bool : get_or w 0 0 ≡ 66 → One w (bytes "Bool") (sort bool)
+  unfolding word_of word_among twelve bytes same_list
+  word_bool e = first (λ w. One w (bytes "Bool") (sort bool)) w 66 l e (λ u. refl)
 
-  pub word_item : get_or w 0 0 ≡ 73 → One w (bytes "Item") 8
-  unfolding word_code word_of word_among twelve bytes same_list
-  word_item e = first (λ w. One w (bytes "Item") 8) w 73 l e (λ u. sym (code_cond (same_list (73 ∷ u) (bytes "Item")) (sort item) (name (73 ∷ u))))
+  pub word_item : get_or w 0 0 ≡ 73 → One w (bytes "Item") (sort item)
+  unfolding word_of word_among twelve bytes same_list
+  word_item e = first (λ w. One w (bytes "Item") (sort item)) w 73 l e (λ u. refl)
 
   pub word_other : (get_or w 0 0 ≡ 116 → ⊥) → (get_or w 0 0 ≡ 102 → ⊥) → (get_or w 0 0 ≡ 110 → ⊥) → (get_or w 0 0 ≡ 97 → ⊥) → (get_or w 0 0 ≡ 111 → ⊥)
       → (get_or w 0 0 ≡ 61 → ⊥) → (get_or w 0 0 ≡ 101 → ⊥) → (get_or w 0 0 ≡ 108 → ⊥) → (get_or w 0 0 ≡ 66 → ⊥) → (get_or w 0 0 ≡ 73 → ⊥)
-      → 9 ≡ word_code (word_of w)
-  unfolding word_code word_of word_among twelve bytes same_list
+      → name w ≡ word_of w
+  unfolding word_of word_among twelve bytes same_list
   word_other n116 n102 n110 n97 n111 n61 n101 n108 n66 n73 =
       let x = get_or w 0 0 in
       rw (

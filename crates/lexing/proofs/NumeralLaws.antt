@@ -4,6 +4,8 @@
 --     counting_start, counting_on                          digits so far
 --     nothing_below, nothing_above, nothing_high           a byte that is no digit; a number that is too high
 --     nothing_low, counted                                 the run's end
+--     within_le                                            no number is too high
+--     numbered_some, numbered_or                           there is a number where it is not 0
 --     known_symbol, known_variable, known_either           the kind due, by its number
 --     counts_suffice                                       THE LAW: the counts of a bundle say as much as the bundle
 use Prim.Native.Nat.{ℕ, suc, ◌+◌, ◌-◌, ◌*◌, ◌≤◌, ◌<◌}
@@ -15,11 +17,12 @@ use mathlib.Core.List.{List, [], ◌∷◌}
 use lib.ListN.{length, get_or, take, drop, drop_of_length-le}
 use lib.Seq.{drop-cons, get_or-take, get_or-drop}
 use lib.Dec.{eqb, leb, ltb}
-use borrow.Author.Tests.{eq-eqb, ne_eqb, le-leb, lt-leb}
+use borrow.Author.Tests.{eq-eqb, ne_eqb, lt-ltb, le-leb, leb-true, lt-leb}
+use Rattle.std.specs.Prelude.{Option, Some, None, is_some, unwrap_or}
 use Rattle.bundle.specs.Lists.{each}
 use Rattle.grammar.specs.Names.{Place, either, symbolOnly, variableOnly}
 use Rattle.reading.specs.Called.{decimal, is_digit, is_numeral, number_after, variable_called, symbol_called, known_as}
-use Rattle.lexing.specs.Counted.{number_within, variable_among, symbol_among, place_of, known_among, CountsSuffice}
+use Rattle.lexing.specs.Counted.{number_within, variable_among, symbol_among, place_of, known_among, Numbered, CountsSuffice}
 
 and_false : (p : Bool) → (p && false) ≡ false
 and_false true = refl
@@ -121,20 +124,41 @@ module _ (letter low high : ℕ) where
       unfolding number_within
       counted k = rw (whole, le-leb low n k, le-leb n high h.small)
 
--- ---- the kind due, as `names::known_as_lem` tests it
+-- it is no higher than it may be
+pub within_le : (letter low high : ℕ) (w : List ℕ) → number_within letter low high w ≤ high
+unfolding number_within
+within_le letter low high w = go (leb low (number_after letter w)) (leb (number_after letter w) high) refl
+  where
+    go : (p q : Bool) → leb (number_after letter w) high ≡ q → cond (p && q) (number_after letter w) 0 ≤ high
+    go true true k = leb-true (number_after letter w) high k
+    go true false k = omega arith
+    go false true k = omega arith
+    go false false k = omega arith
 
-module _ (symbols variables place x f : ℕ) (w : List ℕ) (isX : x ≡ variable_among variables w) (isF : f ≡ symbol_among symbols w) where
-  pub known_symbol : place ≡ 1 → ltb 0 f ≡ known_among symbols variables (place_of place) w
-  unfolding known_among
-  known_symbol e = rw (e, isF)
+-- ---- the kind due, as `names::known_as` tests it
 
-  pub known_variable : (place ≡ 1 → ⊥) → place ≡ 2 → ltb 0 x ≡ known_among symbols variables (place_of place) w
-  unfolding known_among
-  known_variable ne e = rw (e, isX)
+-- there is a number where it is not 0
+pub numbered_some : (n : ℕ) (r : Option ℕ) → Numbered n r → is_some r ≡ ltb 0 n
+numbered_some n None e = rw e
+numbered_some n (Some x) h = sym (lt-ltb 0 n (omega (arith, h.1)))
 
-  pub known_either : (place ≡ 1 → ⊥) → (place ≡ 2 → ⊥) → (ltb 0 x || ltb 0 f) ≡ known_among symbols variables (place_of place) w
+-- and else 0 stands for it
+pub numbered_or : (n : ℕ) (r : Option ℕ) → Numbered n r → unwrap_or r 0 ≡ n
+numbered_or n None e = sym e
+numbered_or n (Some x) h = h.0
+
+module _ (symbols variables place : ℕ) (w : List ℕ) (x f : Option ℕ) (isX : Numbered (variable_among variables w) x) (isF : Numbered (symbol_among symbols w) f) where
+  pub known_symbol : place ≡ 1 → is_some f ≡ known_among symbols variables (place_of place) w
   unfolding known_among
-  known_either ne nf = rw (ne_eqb place 1 ne, ne_eqb place 2 nf, isX, isF)
+  known_symbol e = rw (e, numbered_some _ f isF)
+
+  pub known_variable : (place ≡ 1 → ⊥) → place ≡ 2 → is_some x ≡ known_among symbols variables (place_of place) w
+  unfolding known_among
+  known_variable ne e = rw (e, numbered_some _ x isX)
+
+  pub known_either : (place ≡ 1 → ⊥) → (place ≡ 2 → ⊥) → (is_some x || is_some f) ≡ known_among symbols variables (place_of place) w
+  unfolding known_among
+  known_either ne nf = rw (ne_eqb place 1 ne, ne_eqb place 2 nf, numbered_some _ x isX, numbered_some _ f isF)
 
 -- ---- bundles
 

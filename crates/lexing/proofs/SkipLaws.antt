@@ -3,6 +3,7 @@
 --     skip_start, skip_on, skip_here, skip_end          white space and comments, as `lexemes::skipped` goes over them
 --     run_start, run_on, run_low, run_other, run_past   a run of symbol characters, as `lexemes::run_end` goes over it
 --     part_more, grows, stops                           one byte more in a run; one that ends it
+--     rest_all                                          the slice from a byte on
 use Prim.Native.Nat.{ℕ, zero, suc, ◌+◌, ◌-◌, ◌*◌, ◌≤◌, ◌<◌}
 use native.Mathlib.Omega.{arith}
 use native.Mathlib.Numerals.{add-one}
@@ -11,12 +12,12 @@ use mathlib.Core.Bool.{Bool, true, false, cond}
 use mathlib.Core.Logic.{◌⊎◌, inl, inr}
 use mathlib.Core.List.{List, [], ◌∷◌, ◌++◌}
 use lib.ListN.{length, get_or, take, drop, length-drop, drop_of_length-le}
-use lib.Seq.{drop-cons, take-suc, get_or-drop}
+use lib.Seq.{drop-cons, take-suc, take-length, get_or-drop}
 use lib.Dec.{eqb}
 use Rattle.grammar.specs.Bytes.{Class, space, lineEnd, semicolon, opening, closing, digit, symbol, other, class_of, word_of}
 use Rattle.grammar.specs.Grammar.{word, Mode, between, comment, within, bracket, ends, outside, onwards, last, lexemes_from}
 use Rattle.lexing.specs.Codes.{class_code}
-use Rattle.lexing.specs.Lexes.{part, lexemes_at, Skipped, RunEnds, skips}
+use Rattle.lexing.specs.Lexes.{lexemes_of, part, Skipped, RunEnds, skips}
 use Rattle.lexing.proofs.ClassLaws.{class_small, is_class}
 
 -- ---- one byte
@@ -39,14 +40,13 @@ module _ (text : List ℕ) (j : ℕ) where
 abbrev skipping : ℕ → Mode
 skipping m = cond (eqb m 1) comment between
 
-pub record Skipping (text : List ℕ) (i m j : ℕ) : Type 0 where
-  pub after : i ≤ j
+pub record Skipping (text : List ℕ) (m j : ℕ) : Type 0 where
   pub inside : j ≤ length text
   pub mode : m < 2
-  pub same : lexemes_at text i ≡ lexemes_from (skipping m) (drop j text)
+  pub same : lexemes_of text ≡ lexemes_from (skipping m) (drop j text)
 
-pub skip_start : (text : List ℕ) (i : ℕ) → i ≤ length text → Skipping text i 0 i
-skip_start text i l = record { after = omega arith; inside = l; mode = omega arith; same = refl }
+pub skip_start : (text : List ℕ) → Skipping text 0 0
+skip_start text = record { inside = omega arith; mode = omega arith; same = refl }
 
 abbrev mode_after : ℕ → Class → ℕ
 mode_after m k = get_or skips (8 * m + class_code k) 0
@@ -118,7 +118,17 @@ starts_here (suc zero) symbol l e = absurd (omega arith)
 starts_here (suc zero) other l e = absurd (omega arith)
 starts_here (suc (suc m)) k l e = absurd (omega arith)
 
-module _ (text : List ℕ) (i m j : ℕ) (h : Skipping text i m j) where
+-- the slice from byte j on
+pub rest_all : (text : List ℕ) (j : ℕ) → take (length text - j) (drop j text) ≡ drop j text
+rest_all text j = ap (λ n. take n (drop j text)) (sym (length-drop j text)) ∙ take-length (drop j text)
+
+rest_fewer : (text : List ℕ) (j : ℕ) → length (drop j text) ≤ length text
+rest_fewer text j = omega (arith, length-drop j text)
+
+rest_first : (text : List ℕ) (j : ℕ) → get_or (drop j text) 0 0 ≡ get_or text j 0
+rest_first text j = let e : j + 0 ≡ j = omega arith in get_or-drop j text 0 0 ∙ ap (λ k. get_or text k 0) e
+
+module _ (text : List ℕ) (m j : ℕ) (h : Skipping text m j) where
   -- the table's index
   pub skip_index : (k : ℕ) → k ≡ class_code (class_of (get_or text j 0)) → 8 * m + k < 16
   skip_index k isClass = omega (arith, h.mode, isClass, class_small (class_of (get_or text j 0)))
@@ -127,41 +137,35 @@ module _ (text : List ℕ) (i m j : ℕ) (h : Skipping text i m j) where
     mode_is : n ≡ mode_after m (class_of (get_or text j 0))
     mode_is = isMode ∙ ap (λ x. get_or skips (8 * m + x) 0) isClass
 
-    pub skip_on : (n ≡ 2 → ⊥) → Skipping text i n (j + 1)
+    pub skip_on : (n ≡ 2 → ⊥) → Skipping text n (j + 1)
     skip_on ne =
         let q : mode_after m (class_of (get_or text j 0)) ≡ 2 → ⊥ = λ e. ne (mode_is ∙ e) in
         rw (add-one j, mode_is) (record {
-          after = omega (arith, h.after);
           inside = l;
           mode = mode_small m (class_of (get_or text j 0)) h.mode q;
           same = h.same ∙ step text j l (skipping m) ∙ goes_on_lem m (get_or text j 0) (class_of (get_or text j 0)) (drop (suc j) text) h.mode q;
         })
 
-    pub skip_here : n ≡ 2 → Skipped text i j
+    pub skip_here : n ≡ 2 → Skipped text (drop j text)
     skip_here e =
         let f = starts_here m (class_of (get_or text j 0)) h.mode (sym mode_is ∙ e) in
         record {
-          after = h.after;
-          inside = h.inside;
+          fewer = rest_fewer text j;
           same = rw f.0 at h.same;
-          starts = λ x. f.1;
+          starts = λ x. omega (arith, f.1, ap (λ c. class_code (class_of c)) (rest_first text j));
         }
 
-  pub skip_end : length text ≤ j → Skipped text i j
-  unfolding last
+  pub skip_end : length text ≤ j → Skipped text []
+  unfolding last lexemes_from
   skip_end l = record {
-    after = h.after;
-    inside = h.inside;
-    same = h.same ∙ past text j l (skipping m) ∙ nothing (eqb m 1) ∙ sym (past text j l between);
-    starts = λ x. absurd (off x);
+    fewer = omega arith;
+    same = h.same ∙ past text j l (skipping m) ∙ nothing (eqb m 1);
+    starts = λ x. absurd (omega arith);
   }
     where
       nothing : (b : Bool) → last (cond b comment between) ≡ last between
       nothing true = refl
       nothing false = refl
-
-      off : j < length text → ⊥
-      off x = omega arith
 
 -- ---- runs
 
@@ -173,26 +177,25 @@ part_more text s j o l =
     (take-suc (drop s text) (j - s) 0 (omega (arith, length-drop s text))
     ∙ ap (λ x. take (j - s) (drop s text) ++ (x ∷ [])) (get_or-drop s text (j - s) 0 ∙ ap (λ j. get_or text j 0) p))
 
-pub record Running (text : List ℕ) (s j : ℕ) : Type 0 where
-  pub some : s < j
+pub record Running (text : List ℕ) (j : ℕ) : Type 0 where
+  pub some : 0 < j
   pub inside : j ≤ length text
-  pub same : lexemes_at text s ≡ lexemes_from (within (part text s j)) (drop j text)
+  pub same : lexemes_of text ≡ lexemes_from (within (take j text)) (drop j text)
 
-pub run_start : (text : List ℕ) (s : ℕ) → s < length text → class_code (class_of (get_or text s 0)) ≡ 6 → Running text s (s + 1)
+pub run_start : (text : List ℕ) → 0 < length text → class_code (class_of (get_or text 0 0)) ≡ 6 → Running text 1
 unfolding ends onwards bracket outside
-run_start text s l e =
-    rw (add-one s) (record {
+run_start text l e =
+    record {
       some = omega arith;
       inside = l;
-      same = step text s l between ∙ first (class_of (get_or text s 0)) (is_class (class_of (get_or text s 0)) 6 e);
-    })
+      same = step text 0 l between ∙ first (class_of (get_or text 0 0)) (is_class (class_of (get_or text 0 0)) 6 e);
+    }
   where
-    one : part text s (suc s) ≡ get_or text s 0 ∷ []
-    one = let q : suc s - s ≡ 1 = omega arith in rw (q, drop-cons text s 0 l)
+    one : take 1 text ≡ get_or text 0 0 ∷ []
+    one = take-suc text 0 0 l
 
     first : (k : Class) → k ≡ symbol
-        → ends between k ++ lexemes_from (onwards between (get_or text s 0) k) (drop (suc s) text)
-        ≡ lexemes_from (within (part text s (suc s))) (drop (suc s) text)
+        → ends between k ++ lexemes_from (onwards between (get_or text 0 0) k) (drop 1 text) ≡ lexemes_from (within (take 1 text)) (drop 1 text)
     first k e = rw (e, one)
 
 -- a byte that goes on a run; one that ends it
@@ -222,38 +225,38 @@ stops w c symbol cs (inl l) = absurd (omega arith)
 stops w c symbol cs (inr e) = absurd (omega arith)
 stops w c other cs h = refl
 
-module _ (text : List ℕ) (s j : ℕ) (h : Running text s j) where
+module _ (text : List ℕ) (j : ℕ) (h : Running text j) where
   module _ (l : j < length text) (k : ℕ) (isClass : k ≡ class_code (class_of (get_or text j 0))) where
-    pub run_on : 5 ≤ k → (k ≡ 7 → ⊥) → Running text s (j + 1)
+    pub run_on : 5 ≤ k → (k ≡ 7 → ⊥) → Running text (j + 1)
     run_on g ne =
         rw (add-one j) (record {
-          some = omega (arith, h.some);
+          some = omega arith;
           inside = l;
           same =
-              h.same ∙ step text j l (within (part text s j))
-              ∙ grows (part text s j) (get_or text j 0) (class_of (get_or text j 0)) (drop (suc j) text) (omega arith) (λ e. ne (isClass ∙ e))
-              ∙ ap (λ w. lexemes_from (within w) (drop (suc j) text)) (sym (part_more text s j (omega (arith, h.some)) l));
+              h.same ∙ step text j l (within (take j text))
+              ∙ grows (take j text) (get_or text j 0) (class_of (get_or text j 0)) (drop (suc j) text) (omega arith) (λ e. ne (isClass ∙ e))
+              ∙ ap (λ w. lexemes_from (within w) (drop (suc j) text)) (sym (take-suc text j 0 l));
         })
 
-    run_stops : (class_code (class_of (get_or text j 0)) < 5) ⊎ (class_code (class_of (get_or text j 0)) ≡ 7) → RunEnds text s j
+    run_stops : (class_code (class_of (get_or text j 0)) < 5) ⊎ (class_code (class_of (get_or text j 0)) ≡ 7) → RunEnds text j
     run_stops f = record {
       some = h.some;
       inside = h.inside;
       whole =
-          h.same ∙ step text j l (within (part text s j)) ∙ stops (part text s j) (get_or text j 0) (class_of (get_or text j 0)) (drop (suc j) text) f
-          ∙ ap (λ xs. word (word_of (part text s j)) ∷ xs) (sym (step text j l between));
+          h.same ∙ step text j l (within (take j text)) ∙ stops (take j text) (get_or text j 0) (class_of (get_or text j 0)) (drop (suc j) text) f
+          ∙ ap (λ xs. word (word_of (take j text)) ∷ xs) (sym (step text j l between));
     }
 
-    pub run_low : k < 5 → RunEnds text s j
+    pub run_low : k < 5 → RunEnds text j
     run_low f = run_stops (inl (omega arith))
 
-    pub run_other : k ≡ 7 → RunEnds text s j
+    pub run_other : k ≡ 7 → RunEnds text j
     run_other f = run_stops (inr (sym isClass ∙ f))
 
-  pub run_past : length text ≤ j → RunEnds text s j
+  pub run_past : length text ≤ j → RunEnds text j
   unfolding last
   run_past l = record {
     some = h.some;
     inside = h.inside;
-    whole = h.same ∙ past text j l (within (part text s j)) ∙ ap (λ xs. word (word_of (part text s j)) ∷ xs) (sym (past text j l between));
+    whole = h.same ∙ past text j l (within (take j text)) ∙ ap (λ xs. word (word_of (take j text)) ∷ xs) (sym (past text j l between));
   }

@@ -1,10 +1,9 @@
--- The numbers by which code knows lexemes and classes of bytes.
+-- The numbers by which code knows words and classes of bytes.
 use Rattle.std.specs.Prelude.{ℕ}
 use Rattle.grammar.specs.Bytes.{Class, space, lineEnd, semicolon, opening, closing, digit, symbol, other, Word, constant, negation, connective}
 use Rattle.grammar.specs.Bytes.{quantifier, letting, sort, name}
-use Rattle.grammar.specs.Grammar.{Lexeme, opens, closes, word, stray}
 
--- the number of a word, by what may stand where it does; of a lexeme
+-- the number of a word, by what may stand where it does
 unfoldable pub word_code : Word → ℕ
 word_code (constant v) = 3
 word_code negation = 4
@@ -13,13 +12,6 @@ word_code (quantifier q) = 6
 word_code letting = 7
 word_code (sort s) = 8
 word_code (name w) = 9
-
-unfoldable pub lexeme_code : Lexeme → ℕ
-unfolding word_code
-lexeme_code opens = 0
-lexeme_code closes = 1
-lexeme_code stray = 2
-lexeme_code (word w) = word_code w
 
 -- the number of a class of bytes
 unfoldable pub class_code : Class → ℕ

@@ -1,5 +1,5 @@
 -- Names of declared symbols and variables, by how many of them a bundle declares.
-use Rattle.std.specs.Prelude.{ℕ, ◌+◌, ◌≡◌, Bool, cond, ◌&&◌, ◌||◌, List, length, eqb, leb, ltb}
+use Rattle.std.specs.Prelude.{ℕ, Option, None, Some, ◌≤◌, ◌+◌, ◌≡◌, Bool, cond, ◌&&◌, ◌||◌, List, length, eqb, leb, ltb}
 use Rattle.bundle.specs.Bundle.{Bundle}
 use Rattle.grammar.specs.Names.{Place, either, symbolOnly, variableOnly}
 use Rattle.reading.specs.Called.{number_after, variable_called, symbol_called, known_as}
@@ -8,6 +8,11 @@ use Rattle.reading.specs.Called.{number_after, variable_called, symbol_called, k
 unfoldable pub number_within : ℕ → ℕ → ℕ → List ℕ → ℕ
 unfolding number_after
 number_within letter low high w = cond (leb low (number_after letter w) && leb (number_after letter w) high) (number_after letter w) 0
+
+-- the same as code has it: `None` for 0
+abbrev pub Numbered : ℕ → Option ℕ → Type 0
+Numbered n None = n ≡ 0
+Numbered n (Some x) = (x ≡ n) × (1 ≤ n)
 
 -- of so many variables, of so many symbols, the one that is so called; 0 for none
 abbrev pub variable_among : ℕ → List ℕ → ℕ

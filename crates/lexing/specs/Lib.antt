@@ -1,9 +1,11 @@
 -- Lexemes of a text, as code finds them. Each file stands on those above it.
---     Codes     the numbers of classes of bytes and of lexemes
+--     Codes     the numbers of classes of bytes and of words
 --     Common    how many bytes two runs have in common
 --     Counted   names of declared symbols and variables, by how many there are
+--     Words     words and lexemes as the code names them
 --     Lexes     THE NEXT LEXEME, and what is skipped before it
 pub mod Codes
 pub mod Common
 pub mod Counted
+pub mod Words
 pub mod Lexes

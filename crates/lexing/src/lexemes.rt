@@ -1,17 +1,26 @@
-// The next lexeme of a text.
-ghost use Rattle.std.specs.Prelude.{◌≡◌, ◌≤◌, ◌<◌, get_or, length};
+// The next lexeme of a text, and what follows it.
+ghost use Rattle.std.specs.Prelude.{MatchOption, ◌≡◌, ◌<◌, [], length, get_or};
 ghost use Rattle.grammar.specs.Bytes.{class_of};
 ghost use Rattle.lexing.specs.Codes.{class_code};
-ghost use Rattle.lexing.specs.Lexes.{skips, Skipped, RunEnds, Lexes};
+ghost use Rattle.lexing.specs.Lexes.{skips, Skipped, RunEnds, lexemes_of, Found};
 
-use crate::runs::{class_code, word_code};
+use crate::runs::class_code;
+use crate::words::{Word, word_of};
 
-// A lexeme from `start` up to before `end`: 0 '(', 1 ')', 2 a stray byte, 3 to 9 a word by its number (9 a name); 10 the text's end.
 #[derive(Clone, Copy)]
-pub struct Lexed {
-    pub code: usize,
-    pub start: usize,
-    pub end: usize,
+pub enum Lexeme<'a> {
+    Opens,
+    Closes,
+    // A byte that no lexeme starts with.
+    Stray,
+    Word(Word<'a>),
+}
+
+// A lexeme, and the text behind it.
+#[derive(Clone, Copy)]
+pub struct Lexed<'a> {
+    pub lexeme: Lexeme<'a>,
+    pub rest: &'a [u8],
 }
 
 // What a byte of a class does, between lexemes and (8 on) in a comment.
@@ -23,28 +32,27 @@ fn skip_mode(at: usize) -> u8
     table[at]
 }
 
-// The first byte from i on that is no white space and in no comment, or the text's end.
-fn skipped(text: &[u8], i: usize) -> usize
-    requires { i ≤ length text.now }
-    ensures { Skipped text.now i result }
+// The text behind its white space and comments.
+fn skipped(text: &[u8]) -> &[u8]
+    ensures { Skipped text.now result.now }
 {
     let mut mode = 0;
-    for j in i..text.len() {
+    for j in 0..text.len() {
         let class = class_code(text[j]);
         mode = usize::from(skip_mode(8 * mode + class));
         if mode == 2 {
-            return j;
+            return &text[j..];
         }
     }
-    text.len()
+    &text[text.len()..]
 }
 
-// The end of the run of symbol characters that starts at `start`.
-fn run_end(text: &[u8], start: usize) -> usize
-    requires { (start < length text.now) × (class_code (class_of (get_or text.now start 0)) ≡ 6) }
-    ensures { RunEnds text.now start result }
+// The end of the run of symbol characters at the start of a text.
+fn run_end(text: &[u8]) -> usize
+    requires { (0 < length text.now) × (class_code (class_of (get_or text.now 0 0)) ≡ 6) }
+    ensures { RunEnds text.now result }
 {
-    for j in start + 1..text.len() {
+    for j in 1..text.len() {
         let class = class_code(text[j]);
         if class < 5 {
             return j;
@@ -56,33 +64,31 @@ fn run_end(text: &[u8], start: usize) -> usize
     text.len()
 }
 
-// The next lexeme from byte i on.
-pub fn next_lexeme(text: &[u8], i: usize) -> Lexed
-    requires { i ≤ length text.now }
-    ensures { Lexes text.now i result }
+// The first lexeme of a text; `None` where there is no more.
+pub fn next_lexeme<'a>(text: &'a [u8]) -> Option<Lexed<'a>>
+    ensures { MatchOption result (lexemes_of text.now ≡ []) (Found text.now) }
 {
-    let start = skipped(text, i);
-    if start >= text.len() {
-        return Lexed {
-            code: 10,
-            start,
-            end: start,
-        };
+    let start = skipped(text);
+    if start.len() == 0 {
+        return None;
     }
-    let class = class_code(text[start]);
+    let class = class_code(start[0]);
     if class == 6 {
-        let end = run_end(text, start);
-        let code = word_code(&text[start..end]);
-        return Lexed { code, start, end };
+        let end = run_end(start);
+        return Some(Lexed {
+            lexeme: Lexeme::Word(word_of(&start[..end])),
+            rest: &start[end..],
+        });
     }
-    let end = start + 1;
-    if class > 4 {
-        return Lexed {
-            code: 2,
-            start,
-            end,
-        };
-    }
-    let code = class - 3;
-    Lexed { code, start, end }
+    let lexeme = if class == 3 {
+        Lexeme::Opens
+    } else if class == 4 {
+        Lexeme::Closes
+    } else {
+        Lexeme::Stray
+    };
+    Some(Lexed {
+        lexeme,
+        rest: &start[1..],
+    })
 }

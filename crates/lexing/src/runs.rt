@@ -1,9 +1,9 @@
-// Runs of symbol characters: the class of a byte, a run compared with a word, and the lexeme that a run is.
+// Runs of symbol characters: the class of a byte, and a run compared with a word.
 ghost use Rattle.std.specs.Prelude.{◌≡◌, cond, ◌<◌};
 ghost use Rattle.bundle.specs.Lists.{same_list};
-ghost use Rattle.grammar.specs.Bytes.{class_of, word_of};
+ghost use Rattle.grammar.specs.Bytes.{class_of};
 ghost use Rattle.grammar.specs.Parser.{starts};
-ghost use Rattle.lexing.specs.Codes.{class_code, word_code};
+ghost use Rattle.lexing.specs.Codes.{class_code};
 ghost use Rattle.lexing.specs.Common.{common};
 
 // The class of a byte that is a symbol character, or of no other use.
@@ -93,61 +93,4 @@ pub fn starts_word(run: &[u8], other: &[u8]) -> bool
 {
     let n = in_common(run, other);
     n == run.len()
-}
-
-// A code where a run is a word, else that of a name.
-fn code_if(run: &[u8], other: &[u8], code: usize) -> usize
-    ensures { result ≡ cond (same_list run.now other.now) code 9 }
-{
-    if is_word(run, other) {
-        return code;
-    }
-    9
-}
-
-// The number of the lexeme that a run is: at most two words start with its first byte.
-pub fn word_code(run: &[u8]) -> usize
-    ensures { result ≡ word_code (word_of run.now) }
-{
-    if run.len() == 0 {
-        return 9;
-    }
-    let c = run[0];
-    if c == b't' {
-        return code_if(run, b"true", 3);
-    }
-    if c == b'f' {
-        if is_word(run, b"false") {
-            return 3;
-        }
-        return code_if(run, b"forall", 6);
-    }
-    if c == b'n' {
-        return code_if(run, b"not", 4);
-    }
-    if c == b'a' {
-        return code_if(run, b"and", 5);
-    }
-    if c == b'o' {
-        return code_if(run, b"or", 5);
-    }
-    if c == b'=' {
-        if is_word(run, b"=>") {
-            return 5;
-        }
-        return code_if(run, b"=", 5);
-    }
-    if c == b'e' {
-        return code_if(run, b"exists", 6);
-    }
-    if c == b'l' {
-        return code_if(run, b"let", 7);
-    }
-    if c == b'B' {
-        return code_if(run, b"Bool", 8);
-    }
-    if c == b'I' {
-        return code_if(run, b"Item", 8);
-    }
-    9
 }

@@ -14,6 +14,7 @@
 --     Readings     what the tests of a step read besides the records
 --     ReflWalk     the walk of whole-term REFL over pairs of records, with the number of pairs that it visits
 --     Rules        the five rules as tests on record numbers; checks 12, 21, 13 and 14
+--     Named        kinds, entries and rules as the code names them
 --     WellFormed   what document 01 says of the header, the tables and the contexts, in propositions
 --     Nameless     terms without the names of their binders
 --     Replacement  CAPTURE-AVOIDING REPLACEMENT, up to the names of binders; terms that are the same up to names
@@ -38,6 +39,7 @@ pub mod Contexts
 pub mod Readings
 pub mod ReflWalk
 pub mod Rules
+pub mod Named
 pub mod WellFormed
 pub mod Nameless
 pub mod Replacement

@@ -1,46 +1,122 @@
-// The kinds of terms and of contexts by name. Their numbers stand here for code and in specs/ for what is said of it, and are tied below.
-ghost use Rattle.std.specs.Prelude.{◌≡◌, [], ◌∷◌, map};
-ghost use Rattle.logic.specs.Terms.{number_of, kinds, is_binder};
-ghost use Rattle.logic.specs.Contexts.{entry_of, fixing, replacing};
+// The kinds of terms and the entries of contexts by name, with the numbers that records have for them.
+ghost use Rattle.std.specs.Prelude.{◌≡◌};
+ghost use Rattle.logic.specs.Terms.{number_of, kind_of, binds, is_binder, binder};
+ghost use Rattle.logic.specs.Contexts.{entry_of};
+ghost use Rattle.logic.specs.Named.{binder_in, kind_in, kind_named, entry_in, entry_named};
 
 // ---- Terms
 
-pub const VARIABLE: usize = 1;
-
-pub const APPLICATION: usize = 2;
-
-pub const FOR_ALL: usize = 3;
-
-pub const EXISTS: usize = 4;
-
-pub const LET: usize = 5;
-
-pub const TERM_KINDS: usize = 5;
-
-// Ties them to the numbers in specs/.
-fn kinds_of_terms() -> [usize; TERM_KINDS]
-    ensures { result ≡ map number_of kinds }
-{
-    [VARIABLE, APPLICATION, FOR_ALL, EXISTS, LET]
+// What binds one variable in a body.
+#[derive(Clone, Copy, Debug, PartialEq, Eq)]
+pub enum Binder {
+    ForAll,
+    Exists,
 }
 
-// Whether terms of a kind bind one variable in a body.
+impl Binder {
+    // The number of its kind.
+    pub fn number(self) -> usize
+        ensures { result ≡ number_of (binder (binder_in self)) }
+    {
+        match self {
+            Binder::ForAll => 3,
+            Binder::Exists => 4,
+        }
+    }
+}
+
+#[derive(Clone, Copy, Debug, PartialEq, Eq)]
+pub enum Kind {
+    Variable,
+    Application,
+    Binder(Binder),
+    Let,
+}
+
+impl Kind {
+    // How many numbers stand for kinds, from 1 on.
+    pub const COUNT: usize = 5;
+
+    // The kind that a number stands for.
+    pub fn of(number: usize) -> Option<Kind>
+        ensures { kind_of number ≡ kind_named result }
+    {
+        match number {
+            1 => Some(Kind::Variable),
+            2 => Some(Kind::Application),
+            3 => Some(Kind::Binder(Binder::ForAll)),
+            4 => Some(Kind::Binder(Binder::Exists)),
+            5 => Some(Kind::Let),
+            _ => None,
+        }
+    }
+
+    // Its number.
+    pub fn number(self) -> usize
+        ensures { result ≡ number_of (kind_in self) }
+    {
+        match self {
+            Kind::Variable => 1,
+            Kind::Application => 2,
+            Kind::Binder(binder) => binder.number(),
+            Kind::Let => 5,
+        }
+    }
+
+    // Whether terms of it bind one variable in a body.
+    pub fn binds(self) -> bool
+        ensures { result ≡ binds (kind_in self) }
+    {
+        match self {
+            Kind::Binder(_) => true,
+            Kind::Variable => false,
+            Kind::Application => false,
+            Kind::Let => false,
+        }
+    }
+}
+
+// The same of a number; one that is no kind's binds nothing.
 pub fn is_binder(kind: usize) -> bool
     ensures { result ≡ is_binder kind }
 {
-    (kind == FOR_ALL) | (kind == EXISTS)
+    match Kind::of(kind) {
+        Some(k) => k.binds(),
+        None => false,
+    }
 }
 
 // ---- Contexts
 
-pub const FIXES: usize = 1;
+// What a context does: it fixes a variable, or it replaces variables.
+#[derive(Clone, Copy, Debug, PartialEq, Eq)]
+pub enum Entry {
+    Fixes,
+    Replaces,
+}
 
-pub const REPLACES: usize = 2;
+impl Entry {
+    // How many numbers stand for entries, from 1 on.
+    pub const COUNT: usize = 2;
 
-pub const CONTEXT_KINDS: usize = 2;
+    // The entry that a number stands for.
+    pub fn of(number: usize) -> Option<Entry>
+        ensures { entry_of number ≡ entry_named result }
+    {
+        match number {
+            1 => Some(Entry::Fixes),
+            2 => Some(Entry::Replaces),
+            _ => None,
+        }
+    }
 
-fn kinds_of_contexts() -> [usize; CONTEXT_KINDS]
-    ensures { map entry_of result ≡ fixing ∷ replacing ∷ [] }
-{
-    [FIXES, REPLACES]
+    // Its number.
+    pub fn number(self) -> usize
+        ensures { entry_of result ≡ entry_in self }
+    {
+        match self {
+            Entry::Fixes => 1,
+            Entry::Replaces => 2,
+        }
+    }
 }

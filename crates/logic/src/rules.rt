@@ -1,22 +1,45 @@
-// The rules by name.
-ghost use Rattle.std.specs.Prelude.{◌≡◌, [], ◌∷◌, map};
-ghost use Rattle.logic.specs.Rules.{rule_of, REFL as refl, CONG as cong, TRANS as trans, BIND as bind, LET as let_rule};
+// The rules by name, with the numbers that steps have for them.
+ghost use Rattle.std.specs.Prelude.{◌≡◌};
+ghost use Rattle.logic.specs.Rules.{rule_of};
+ghost use Rattle.logic.specs.Named.{rule_in, rule_named};
 
-pub const REFL: usize = 1;
+#[derive(Clone, Copy, Debug, PartialEq, Eq)]
+pub enum Rule {
+    Refl,
+    Cong,
+    Trans,
+    Bind,
+    Let,
+}
 
-pub const CONG: usize = 2;
+impl Rule {
+    // How many numbers stand for rules, from 1 on.
+    pub const COUNT: usize = 5;
 
-pub const TRANS: usize = 3;
+    // The rule that a number stands for.
+    pub fn of(number: usize) -> Option<Rule>
+        ensures { rule_of number ≡ rule_named result }
+    {
+        match number {
+            1 => Some(Rule::Refl),
+            2 => Some(Rule::Cong),
+            3 => Some(Rule::Trans),
+            4 => Some(Rule::Bind),
+            5 => Some(Rule::Let),
+            _ => None,
+        }
+    }
 
-pub const BIND: usize = 4;
-
-pub const LET: usize = 5;
-
-pub const RULES: usize = 5;
-
-// Ties them to the rules in specs/.
-fn numbers_of_rules() -> [usize; RULES]
-    ensures { map rule_of result ≡ refl ∷ cong ∷ trans ∷ bind ∷ let_rule ∷ [] }
-{
-    [REFL, CONG, TRANS, BIND, LET]
+    // Its number.
+    pub fn number(self) -> usize
+        ensures { rule_of result ≡ rule_in self }
+    {
+        match self {
+            Rule::Refl => 1,
+            Rule::Cong => 2,
+            Rule::Trans => 3,
+            Rule::Bind => 4,
+            Rule::Let => 5,
+        }
+    }
 }

@@ -1,4 +1,5 @@
-// The calls of the library for other languages, whose answers are one number each: crate nezkaldo_c exports them to C.
+// The calls of the library for other languages, whose answers are one number each: crate nezkaldo_c exports them to C. The areas stand apart in each
+// call, as C lends them.
 #![tactic(auto)]
 
 ghost use Rattle.std.specs.Prelude.{◌≡◌, ◌+◌, ◌*◌, ◌≤◌, length};

@@ -7,7 +7,8 @@ ghost use Rattle.nezkaldo_links.specs.Links.{walk_number, links_number};
 
 use declarations::header::opened;
 use logic::Walk;
-use logic::rules::CONG;
+use logic::rules::Rule;
+use premises::Taken;
 use rules::rules::step_walk;
 
 // What a walk found, as one number: the links that it read, and 13 · 2^32 more where the test fails.
@@ -32,9 +33,9 @@ pub fn nezkaldo_links(file: &[u8], step: usize) -> u64
         Err(check) => return 4294967296 * (check.number() as u64),
     };
     let s = bundle.step_words(step);
-    if s.rule != CONG {
+    if s.rule != Rule::Cong.number() {
         return 51539607552;
     }
-    let walked = step_walk(&bundle, &[0], s);
+    let walked = step_walk(&Taken::of(&bundle, &[0]), s);
     walk_number(walked)
 }

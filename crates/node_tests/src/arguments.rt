@@ -1,64 +1,57 @@
-// Names alone, and symbols with their arguments.
-ghost use Rattle.std.specs.Prelude.{◌≡◌, ◌≤◌, length};
+// Words alone, and symbols with their arguments.
+ghost use Rattle.std.specs.Prelude.{◌≡◌};
 ghost use Rattle.bundle.specs.Links.{items};
 ghost use Rattle.bundle.specs.Lists.{same_list};
-ghost use Rattle.lexing.specs.Lexes.{lexemes_at};
+ghost use Rattle.lexing.specs.Words.{word_in};
+ghost use Rattle.lexing.specs.Lexes.{lexemes_of};
 ghost use Rattle.reading.specs.Called.{symbol_called};
 ghost use Rattle.bracketing.specs.Brackets.{parts_from};
-ghost use Rattle.bracketing.specs.Nodes.{takes, sort_from};
-ghost use Rattle.bracketing.specs.Places.{Lies, name_here};
-ghost use Rattle.node_tests.specs.Tests.{named_fine};
+ghost use Rattle.bracketing.specs.Nodes.{takes, word_fine, sort_from};
 
 use bracketing::brackets::{after_formula, part_at};
-use bracketing::sorts::{sort_at, symbol_here, variable_here};
+use bracketing::sorts::sort_at;
 use bundle::Bundle;
-use lexing::lexemes::Lexed;
+use lexing::names::{symbol_called, variable_called};
+use lexing::words::Word;
 
-// Whether the formulas from byte i on up to the closing bracket have the sorts of a list, one each.
-fn arguments_fit(bundle: &Bundle, text: &[u8], i: usize, list: usize) -> bool
-    requires { i ≤ length text.now }
-    ensures { result ≡ same_list (items bundle.now list)
-        (parts_from (sort_from bundle.now) (lexemes_at text.now i)) }
+// Whether the formulas of a text up to the closing bracket have the sorts of a list, one each.
+fn arguments_fit(bundle: &Bundle, text: &[u8], list: usize) -> bool
+    ensures { result ≡ same_list (items bundle.now list) (parts_from (sort_from bundle.now) (lexemes_of text.now)) }
 {
-    let mut at = i;
+    let mut rest = text;
     for sort in bundle.items(list) {
-        let here = part_at(text, at);
-        let s = sort_at(bundle, text, at);
+        let here = part_at(rest);
+        let s = sort_at(bundle, rest);
         if !here | (sort != s) {
             return false;
         }
-        at = after_formula(text, at);
+        rest = after_formula(rest);
     }
-    !part_at(text, at)
+    !part_at(rest)
 }
 
-// Whether the symbol that a head names takes what follows it; a head that names no symbol is no node's.
-pub fn symbol_fine(bundle: &Bundle, text: &[u8], h: Lexed) -> bool
-    requires { Lies text.now h }
-    ensures { result ≡ takes bundle.now (symbol_called bundle.now (name_here text.now h))
-        (parts_from (sort_from bundle.now) (lexemes_at text.now h.end)) }
+// Whether the symbol that is called so takes what follows it; a head that names no symbol is no node's.
+pub fn symbol_fine(bundle: &Bundle, name: &[u8], rest: &[u8]) -> bool
+    ensures { result ≡ takes bundle.now (symbol_called bundle.now name.now) (parts_from (sort_from bundle.now) (lexemes_of rest.now)) }
 {
-    let end = h.end;
-    let f = symbol_here(bundle, text, h);
-    if f == 0 {
-        return true;
+    match symbol_called(bundle.symbols(), name) {
+        Some(f) => arguments_fit(bundle, rest, bundle.symbol_field(f - 32, 1)),
+        None => true,
     }
-    let list = bundle.symbol_field(f - 32, 1);
-    arguments_fit(bundle, text, end, list)
 }
 
-// Whether a name alone is a variable, or a symbol that takes no argument.
-pub fn name_fine(bundle: &Bundle, text: &[u8], l: Lexed) -> bool
-    requires { Lies text.now l }
-    ensures { result ≡ named_fine bundle.now (name_here text.now l) }
+// Whether a word alone is a variable, or a symbol that takes no argument; a word that is no name passes.
+pub fn word_fine(bundle: &Bundle, word: Word) -> bool
+    ensures { result ≡ word_fine bundle.now (word_in word.entry) }
 {
-    let x = variable_here(bundle, text, l);
-    let f = symbol_here(bundle, text, l);
-    if x != 0 {
+    let Word::Name(name) = word else {
+        return true;
+    };
+    if variable_called(bundle.variables(), name).is_some() {
         return true;
     }
-    if f == 0 {
-        return true;
+    match symbol_called(bundle.symbols(), name) {
+        Some(f) => bundle.first_link(bundle.symbol_field(f - 32, 1)) == 0,
+        None => true,
     }
-    bundle.first_link(bundle.symbol_field(f - 32, 1)) == 0
 }

@@ -1,81 +1,79 @@
 // Every node of a text, and the whole text.
-ghost use Rattle.std.specs.Prelude.{◌≡◌, false, ◌≤◌, length};
-ghost use Rattle.lexing.specs.Lexes.{lexemes_at};
-ghost use Rattle.bracketing.specs.Nodes.{inside_fine, fine_from};
-ghost use Rattle.bracketing.specs.Places.{Lies};
-ghost use Rattle.node_tests.specs.Tests.{node_here, Judges};
+ghost use Rattle.std.specs.Prelude.{◌≡◌, ◌∷◌, false};
+ghost use Rattle.lexing.specs.Words.{word_in, lexeme_in};
+ghost use Rattle.lexing.specs.Lexes.{lexemes_of};
+ghost use Rattle.bracketing.specs.Nodes.{head_fine, inside_fine, node_fine, fine_from};
+ghost use Rattle.node_tests.specs.Tests.{Judges};
 
-use super::arguments::{name_fine, symbol_fine};
+use super::arguments::{symbol_fine, word_fine};
 use super::heads::{connective_fine, let_fine, quantifier_fine};
 use bracketing::sorts::sort_at;
 use bundle::Bundle;
-use lexing::lexemes::{Lexed, next_lexeme};
+use lexing::lexemes::{Lexed, Lexeme, next_lexeme};
+use lexing::words::Word;
 
-// The test of the bracket whose head is at byte i.
-fn bracket_fine(bundle: &Bundle, text: &[u8], i: usize) -> bool
-    requires { i ≤ length text.now }
-    ensures { result ≡ inside_fine bundle.now (lexemes_at text.now i) }
+// The test of a bracket, by its head and what follows the head.
+#[tactic(auto, unfolding(bracketing::specs::Nodes::head_fine))]
+fn head_fine(bundle: &Bundle, head: Word, rest: &[u8]) -> bool
+    ensures { result ≡ head_fine bundle.now (word_in head.entry) (lexemes_of rest.now) }
 {
-    let h = next_lexeme(text, i);
-    let end = h.end;
-    let code = h.code;
-    if code == 9 {
-        return symbol_fine(bundle, text, h);
+    match head {
+        Word::Name(name) => symbol_fine(bundle, name, rest),
+        Word::Negation => sort_at(bundle, rest) == 0,
+        Word::Connective(connective) => connective_fine(bundle, connective, rest),
+        Word::Quantifier(_) => quantifier_fine(bundle, rest),
+        Word::Let => let_fine(bundle, rest),
+        Word::Constant(_) | Word::Sort(_) => true,
     }
-    if code == 4 {
-        return 0 == sort_at(bundle, text, end);
+}
+
+// The test of the bracket whose head is at the front; a bracket that starts a list has no head.
+fn bracket_fine(bundle: &Bundle, text: &[u8]) -> bool
+    ensures { result ≡ inside_fine bundle.now (lexemes_of text.now) }
+{
+    let Some(h) = next_lexeme(text) else {
+        return true;
+    };
+    match h.lexeme {
+        Lexeme::Word(head) => head_fine(bundle, head, h.rest),
+        Lexeme::Opens | Lexeme::Closes | Lexeme::Stray => true,
     }
-    if code == 5 {
-        return connective_fine(bundle, text, h);
-    }
-    if code == 6 {
-        return quantifier_fine(bundle, text, end);
-    }
-    if code == 7 {
-        return let_fine(bundle, text, end);
-    }
-    true
 }
 
 // The test of the node that a lexeme starts; `head` says that a bracket stands just before it.
-fn node_fine(bundle: &Bundle, text: &[u8], head: bool, l: Lexed) -> bool
-    requires { Lies text.now l }
-    ensures { result ≡ node_here bundle.now text.now head l }
+#[tactic(auto, unfolding(bracketing::specs::Nodes::node_fine))]
+fn node_fine(bundle: &Bundle, head: bool, l: Lexed) -> bool
+    ensures { result ≡ node_fine bundle.now head (lexeme_in l.entry.lexeme ∷ lexemes_of l.entry.rest.now) }
 {
-    let end = l.end;
-    if l.code == 0 {
-        return bracket_fine(bundle, text, end);
+    match l.lexeme {
+        Lexeme::Opens => bracket_fine(bundle, l.rest),
+        Lexeme::Word(word) => head || word_fine(bundle, word),
+        Lexeme::Closes | Lexeme::Stray => true,
     }
-    if head {
-        return true;
-    }
-    name_fine(bundle, text, l)
 }
 
 // The tests of all nodes of a text, one after another.
 fn all_fine(bundle: &Bundle, text: &[u8]) -> bool
-    ensures { result ≡ fine_from bundle.now false (lexemes_at text.now 0) }
+    ensures { result ≡ fine_from bundle.now false (lexemes_of text.now) }
 {
     let mut head = false;
-    let mut at = 0;
-    loop {
-        let l = next_lexeme(text, at);
-        if l.code == 10 {
-            return true;
-        }
-        if !node_fine(bundle, text, head, l) {
+    let mut rest = text;
+    // No `for`: a node's test reads on behind its lexeme.
+    while let Some(l) = next_lexeme(rest) {
+        if !node_fine(bundle, head, l) {
             return false;
         }
-        head = l.code == 0;
-        at = l.end;
+        head = matches!(l.lexeme, Lexeme::Opens);
+        rest = l.rest;
     }
+    true
 }
 
 // Whether the formula of a text, where its names are known, is well sorted and Bool.
 pub fn text_fine(bundle: &Bundle, text: &[u8]) -> bool
     ensures { Judges bundle.now text.now result }
 {
-    let sort = sort_at(bundle, text, 0);
+    let sort = sort_at(bundle, text);
     if sort != 0 {
         return false;
     }

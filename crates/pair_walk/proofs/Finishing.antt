@@ -25,7 +25,7 @@ use Rattle.logic.specs.ReflWalk.{Crossed, cross_all, let_crossed, go_on, lists_w
 use Rattle.logic.proofs.ReflWalk.{within_below}
 use Rattle.logic.proofs.Tests.{and_left, and_right}
 use Rattle.crossings.specs.Pairs.{meets_as, meets_by}
-use Rattle.pair_walk.specs.Agenda.{Frame, pending, frames, crossed_by, has_body, bound_as, body_as, opened_as, closes, opened, leaves}
+use Rattle.pair_walk.specs.Agenda.{Frame, pending, crossed_by, has_body, bound_as, body_as, opened_as, closes, opened, leaves}
 use Rattle.pair_walk.specs.Agenda.{under, closing, finish}
 
 pub go_on_on : (a : Limited) (f g : ℕ → Limited) → go_on (go_on a f) g ≡ go_on a (λ n. go_on (f n) g)
@@ -187,6 +187,6 @@ module _ (free : ℕ → ℕ → Bool) (image : ℕ → Image) (b : Bundle) wher
 
   -- ---- nothing is left
 
-  pub finish_none : (w : List ℕ) (h n : ℕ) → h ≡ 0 → finish free image b (frames w h) n ≡ Same n
-  unfolding finish frames
-  finish_none w h n e = rw e
+  pub finish_none : (fs : List Frame) (n : ℕ) → fs ≡ [] → finish free image b fs n ≡ Same n
+  unfolding finish
+  finish_none fs n e = rw e

@@ -3,11 +3,14 @@
 --     frames_same                     words from its height on do not matter
 --     frames_pushed, frames_advanced  a frame stored, and two of its words
 --     frames_top                      the frame on top
---     crossed_few, crossing_few       no more variables are crossed than there are frames
+--     crossed_few                     no more variables are crossed than there are frames
 --     frame_pending, frame_leave      a frame whose first word is not 0, and one whose first word is
---     place_fits, other_fits, crossing_more     a pair of variables crossed
+--     place_fits, other_fits          the places of variables crossed
+--     kept_more                       a pair of variables crossed
+--     kept_same                       the same variables crossed
 --     turn_none, turn_lower, turn_other, turn_at     the next pair, by the code's tests
---     closes_at, closes_here, closes_rising, follows_none     the test for an application of which nothing is left, by the nexts of two links
+--     taken_off, taken_on             the frame after that
+--     closes_here, closes_rising, follows_none     the test for an application of which nothing is left, by the nexts of two links
 use mathlib.Core.Path.{◌≡◌, refl, ap, ap₂, ◌∙◌}
 use mathlib.Core.Bool.{Bool, true, false, cond, ◌&&◌, and-false}
 use mathlib.Core.List.{List, [], ◌∷◌}
@@ -17,13 +20,16 @@ use lib.ListN.{length, get_or, set}
 use lib.Dec.{eqb, ltb, leb}
 use lib.Seq.{lt-length-set, get_or-set_same, get_or-set_other}
 use borrow.Author.Tests.{lt-ltb, le-ltb, ne_eqb}
-use Rattle.bundle.specs.Links.{follows}
+use Rattle.std.specs.Prelude.{Result, Ok, Err}
+use Rattle.bundle.specs.Bundle.{Bundle, term_of}
+use Rattle.bundle.specs.Links.{follows, next_of}
+use Rattle.logic.specs.declared.Limited.{Limited}
 use Rattle.logic.specs.declared.Limited.TheVariants.{Different, Spent}
 use Rattle.logic.specs.ReflWalk.{Crossed, lefts, rights}
-use Rattle.crossings.specs.Places.{stamp, Places}
+use Rattle.crossings.specs.Places.{stamp, Binders, HaveCrossed}
 use Rattle.crossings.proofs.Stamps.{stamp_le, lefts_length, rights_length}
-use Rattle.pair_walk.specs.declared.Turn.{Turn}
-use Rattle.pair_walk.specs.Agenda.{Frame, pending, leave, frame_of, frames, crossed_by, closes, turn_to, Crossing}
+use Rattle.pair_walk.specs.declared.turns.Pair.{Pair}
+use Rattle.pair_walk.specs.Agenda.{Frame, pending, leave, frame_of, frames, crossed_by, rest, advanced, closes, Kept, Path, with_frames, turn_to}
 
 pub frame_pending : (l r i j e : ℕ) → 1 ≤ l → frame_of l r i j e ≡ pending l r i j
 unfolding frame_of
@@ -114,24 +120,24 @@ frames_top w h = refl
 
 -- ---- turns
 
-module _ (l x y h depth left : ℕ) where
-  pub turn_none : left ≡ 0 → Turn.Ended Spent ≡ turn_to l x y h depth left
+module _ (l x y left : ℕ) where
+  pub turn_none : left ≡ 0 → Err Spent ≡ turn_to l x y left
   unfolding turn_to
   turn_none e = rw e
 
-  pub turn_lower : (left ≡ 0 → ⊥) → x < l → Turn.Pair x y h depth (left - 1) ≡ turn_to l x y h depth left
+  pub turn_lower : (left ≡ 0 → ⊥) → x < l → Ok (record { l = x; r = y; left = left - 1 }) ≡ turn_to l x y left
   unfolding turn_to
   turn_lower ne lower = go left refl
     where
-      go : (n : ℕ) → left ≡ n → Turn.Pair x y h depth (left - 1) ≡ turn_to l x y h depth n
+      go : (n : ℕ) → left ≡ n → Ok (record { l = x; r = y; left = left - 1 }) ≡ turn_to l x y n
       go zero e = absurd (ne e)
       go (suc n) e = let less : left - 1 ≡ n = omega arith in rw (lt-ltb x l lower, less)
 
-  pub turn_other : (left ≡ 0 → ⊥) → l ≤ x → Turn.Ended (Different (left - 1)) ≡ turn_to l x y h depth left
+  pub turn_other : (left ≡ 0 → ⊥) → l ≤ x → Err (Different (left - 1)) ≡ turn_to l x y left
   unfolding turn_to
   turn_other ne high = go left refl
     where
-      go : (n : ℕ) → left ≡ n → Turn.Ended (Different (left - 1)) ≡ turn_to l x y h depth n
+      go : (n : ℕ) → left ≡ n → Err (Different (left - 1)) ≡ turn_to l x y n
       go zero e = absurd (ne e)
       go (suc n) e = let less : left - 1 ≡ n = omega arith in rw (le-ltb x l high, less)
 
@@ -145,40 +151,45 @@ pub other_fits : (ps : Crossed) (y : ℕ) {t depth : ℕ} → t ≡ stamp (right
 other_fits ps y e d = omega (arith, e, d, stamp_le (rights ps) y, rights_length ps)
 
 -- a pair of variables more, and its frame
-module _ (variables n : ℕ) (w w' p s : List ℕ) (h depth x y o q : ℕ) where
-  pub crossing_more : depth ≡ length (crossed_by (frames w h)) → frames w' (suc h) ≡ frame_of 0 x y o q ∷ frames w h
-      → o ≡ stamp (lefts (crossed_by (frames w h))) x → q ≡ stamp (rights (crossed_by (frames w h))) y
-      → Places variables n p s ((x, y) ∷ crossed_by (frames w h))
-      → Crossing variables n w' p s (suc h) (suc depth)
-      × (frames w' (suc h) ≡ leave x y (stamp (lefts (crossed_by (frames w h))) x) (stamp (rights (crossed_by (frames w h))) y) ∷ frames w h)
-  unfolding frame_of crossed_by
-  crossing_more d e left right placed =
-      (record { placed = rw e placed; deep = rw e (ap suc d) }, e ∙ rw (left, right))
+pub kept_more : (b b' : Binders) (w w' : List ℕ) (most h depth x y o q : ℕ) → Kept b w most h depth → h < most → length w' ≡ length w
+    → frames w' (suc h) ≡ frame_of 0 x y o q ∷ frames w h → HaveCrossed b' ((x, y) ∷ crossed_by (frames w h)) → Kept b' w' most (suc h) (suc depth)
+unfolding frame_of crossed_by
+kept_more b b' w w' most h depth x y o q kept room len e placed = record {
+  long = omega (arith, kept.long, len);
+  high = omega arith;
+  few = kept.few;
+  crossing = record { placed = rw e placed; deep = rw e (ap suc kept.crossing.deep) };
+}
+
+-- other frames that cross the same
+pub kept_same : (b : Binders) (w w' : List ℕ) (most h h' depth : ℕ) → Kept b w most h depth → h' ≤ most → length w' ≡ length w
+    → crossed_by (frames w' h') ≡ crossed_by (frames w h) → Kept b w' most h' depth
+kept_same b w w' most h h' depth kept room len e = record {
+  long = omega (arith, kept.long, len);
+  high = room;
+  few = kept.few;
+  crossing = record { placed = rw e kept.crossing.placed; deep = rw e kept.crossing.deep };
+}
 
 -- ---- taken pairs
 
--- the next pair and the frame, said of equal numbers
-pub turn_at : (l depth left : ℕ) {x y u v h k d : ℕ} {t : Turn} → x ≡ u → y ≡ v → h ≡ k → depth ≡ d → t ≡ turn_to l x y h depth left → t ≡ turn_to l u v k d left
-turn_at l depth left p q r s e = e ∙ rw (p, q, r, s)
+-- the next pair, said of equal numbers
+pub turn_at : (l left : ℕ) {x y u v : ℕ} {t : Result Pair Limited} → x ≡ u → y ≡ v → t ≡ turn_to l x y left → t ≡ turn_to l u v left
+turn_at l left p q e = e ∙ rw (p, q)
 
-pub links_at_lem : (g k e : ℕ) (fs : List Frame) {i j u v : ℕ} {gs : List Frame} → i ≡ u → j ≡ v → gs ≡ frame_of g k i j e ∷ fs → gs ≡ frame_of g k u v e ∷ fs
-links_at_lem g k e fs p q d = d ∙ rw (p, q)
+-- what `take` leaves, by its test for an application of which nothing is left
+module _ (b : Bundle) (p : Path) (l i j : ℕ) {k u v : ℕ} (dk : k ≡ (term_of b l).kind) (du : u ≡ next_of b.links i) (dv : v ≡ next_of b.links j) {q : Path} where
+  pub taken_off : closes k u v ≡ true → q ≡ with_frames p (rest p.frames)
+      → q ≡ with_frames p (cond (closes (term_of b l).kind (next_of b.links i) (next_of b.links j)) (rest p.frames)
+      (advanced (next_of b.links i) (next_of b.links j) p.frames))
+  taken_off e d = let e' : closes (term_of b l).kind (next_of b.links i) (next_of b.links j) ≡ true = rw (← dk, ← du, ← dv) e in d ∙ rw e' refl
 
--- no more variables are crossed than the agenda is high
-pub crossing_few : (variables n : ℕ) (w p s : List ℕ) (h depth : ℕ) → Crossing variables n w p s h depth → depth ≤ h
-crossing_few variables n w p s h depth crossing = omega (arith, crossing.deep, crossed_few (frames w h), frames_length w h)
+  pub taken_on : closes k u v ≡ false → q ≡ with_frames p (advanced u v p.frames)
+      → q ≡ with_frames p (cond (closes (term_of b l).kind (next_of b.links i) (next_of b.links j)) (rest p.frames)
+      (advanced (next_of b.links i) (next_of b.links j) p.frames))
+  taken_on e d = let e' : closes (term_of b l).kind (next_of b.links i) (next_of b.links j) ≡ false = rw (← dk, ← du, ← dv) e in d ∙ rw (e', du, dv) refl
 
--- what `take` gives, by its test for an application of which nothing is left
-module _ (w' : List ℕ) (fs : List Frame) (g : Frame) (l x y h depth left : ℕ) (t : Turn) {p : Bool} where
-  pub taken_at : (q : Bool) → q ≡ p → t ≡ turn_to l x y (cond q h (suc h)) depth left → frames w' (cond q h (suc h)) ≡ cond q fs (g ∷ fs)
-      → (t ≡ turn_to l x y (cond p h (suc h)) depth left) × (frames w' (cond p h (suc h)) ≡ cond p fs (g ∷ fs))
-  taken_at q e d is = (d ∙ ap (λ (o : Bool). turn_to l x y (cond o h (suc h)) depth left) e, rw (← e) is)
-
--- that test, said of equal numbers
-pub closes_at : {k i j m u v : ℕ} → k ≡ m → i ≡ u → j ≡ v → closes k i j ≡ closes m u v
-closes_at p q r = rw (p, q, r)
-
--- its answer where both nexts are 0, and where the first rises
+-- that test where both nexts are 0, and where the first rises
 pub closes_here : (k i j : ℕ) → k ≡ 2 → (eqb i 0 && eqb j 0) ≡ true → closes k i j ≡ true
 closes_here k i j e h = rw e h
 

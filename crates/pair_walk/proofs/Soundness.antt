@@ -3,18 +3,19 @@
 --     known_kind                 a number of a kind is a term's
 --     met_known                  terms that meet, and are no variables, are terms of the file
 --     sorts_known, all_known_lem, bound_known     the variables of terms that meet are variables of the file
---     opened_sound, leaves_sound     a pair that has met, and variables crossed
---     held_opened, held_left, held_closed, held_taken, held_bodies, held_same     the same of the arrays
+--     opened_sound, open_sound, leaves_sound     a pair that has met, and variables crossed
+--     leave_held, pending_held, taken_sound, bodies_room, bodies_sound     the frame on top
 --     turn_held                  what the next pair is to a walk
 use mathlib.Core.Path.{◌≡◌, refl, sym, ap, ◌∙◌}
 use mathlib.Core.Bool.{Bool, true, false, cond, ◌&&◌, false≢true}
 use mathlib.Core.List.{List, [], ◌∷◌}
-use Prim.Native.Nat.{ℕ, zero, suc, ◌+◌, ◌-◌, ◌≤◌, ◌<◌}
+use Prim.Native.Nat.{ℕ, zero, suc, ◌+◌, ◌≤◌, ◌<◌}
 use native.Mathlib.Omega.{arith}
 use native.Mathlib.Decide.{dec_le}
 use lib.ListN.{length, get_or-eq_default}
 use lib.Dec.{eqb, ltb}
 use borrow.Author.Tests.{eqb-true}
+use Rattle.std.specs.Prelude.{Ok, Err}
 use Rattle.bundle.specs.Bundle.{Bundle, TermRecord, no_term, term_of, sort_of_variable}
 use Rattle.bundle.specs.Links.{items, starts_at, next_of}
 use Rattle.bundle.specs.Lists.{numbers}
@@ -27,22 +28,12 @@ use Rattle.logic.specs.Terms.{Kind, kind_of, variable, application, binder, lett
 use Rattle.logic.specs.ReflWalk.{Crossed, lefts, rights, sorts_meet, all_sorts_meet, application_meets, binder_meets, let_meets, go_on, none_within, within_by}
 use Rattle.logic.proofs.Tests.{and_left, and_right, numbers_of_lem}
 use Rattle.logic.proofs.TermKinds.{kind_number}
-use Rattle.crossings.specs.Places.{stamp, Places}
+use Rattle.crossings.specs.Places.{stamp}
 use Rattle.crossings.specs.Pairs.{meets_as, meets_by}
-use Rattle.pair_walk.specs.declared.Turn.{Turn}
-use Rattle.pair_walk.specs.Agenda.{Frame, pending, leave, frames, crossed_by, bound_as, opened_as, leaves, under, finish, MetAs}
+use Rattle.pair_walk.specs.Agenda.{Frame, pending, leave, crossed_by, bound_as, opened_as, closes, opened, leaves, under, finish, MetAs}
 use Rattle.pair_walk.specs.Agenda.{PendingHeld, LeaveHeld}
-use Rattle.pair_walk.specs.Agenda.{Sound, Crossing, Held, turn_to, TurnHeld}
-use Rattle.pair_walk.proofs.FrameWords.{frames_length}
+use Rattle.pair_walk.specs.Agenda.{Sound, Path, turn_to, TurnHeld}
 use Rattle.pair_walk.proofs.Finishing.{under_spent}
-
-pub opened_crossed : (b : Bundle) (k : Kind) (l r : ℕ) (fs : List Frame) → crossed_by (opened_as b k l r fs) ≡ crossed_by fs
-unfolding opened_as crossed_by
-opened_crossed b variable l r fs = refl
-opened_crossed b application l r fs = refl
-opened_crossed b (binder q) l r fs = refl
-opened_crossed b letting l r fs = refl
-opened_crossed b other l r fs = refl
 
 module _ (b : Bundle) where
   -- ---- numbers of terms and of variables
@@ -207,115 +198,79 @@ module _ (b : Bundle) where
   unfolding meets_by
   opened_sound free image l r ps fs most left e room s = opened_as_lem free image (kind_of (term_of b l).kind) l r ps fs most left refl e room s
 
-  -- ---- the arrays
+  opened_length_as : (k : Kind) (l r : ℕ) (fs : List Frame) → length (opened_as b k l r fs) ≤ length fs + 1
+  unfolding opened_as
+  opened_length_as variable l r fs = omega arith
+  opened_length_as application l r fs = omega arith
+  opened_length_as (binder q) l r fs = omega arith
+  opened_length_as letting l r fs = omega arith
+  opened_length_as other l r fs = omega arith
 
-  module _ (free : ℕ → ℕ → Bool) (image : ℕ → Image) (n most : ℕ) (w p s : List ℕ) (h depth left : ℕ) (held : Held b n most w p s h depth left) where
-    pub held_opened : (w' : List ℕ) (t l r : ℕ) → length w' ≡ length w
-        → frames w' t ≡ opened_as b (kind_of (term_of b l).kind) l r (frames w h)
-        → meets_by free image b (term_of b l) (crossed_by (frames w h)) r ≡ true → h + left < most → Held b n most w' p s t depth left
-    held_opened w' t l r len e m room =
-        let same : crossed_by (frames w' t) ≡ crossed_by (frames w h) = ap crossed_by e ∙ opened_crossed b (kind_of (term_of b l).kind) l r (frames w h) in
-        record {
-          long = omega (arith, held.long, len);
-          crossing = record { placed = rw same held.crossing.placed; deep = rw same held.crossing.deep };
-          sound = rw e (opened_sound free image l r (crossed_by (frames w h)) (frames w h) most left m (omega (arith, frames_length w h, room)) held.sound);
-        }
+  -- the same where an application with no arguments has no frame
+  pub open_sound : (free : ℕ → ℕ → Bool) (image : ℕ → Image) (l r : ℕ) (fs : List Frame) (most left : ℕ)
+      → meets_by free image b (term_of b l) (crossed_by fs) r ≡ true → length fs + left < most
+      → Sound b most left fs → Sound b most left (opened b l r fs) × (length (opened b l r fs) ≤ length fs + 1)
+  unfolding opened
+  open_sound free image l r fs most left e room s =
+      go (closes (term_of b l).kind (starts_at (length b.links) (term_of b l).b) (starts_at (length b.links) (term_of b r).b))
+    where
+      go : (o : Bool) → Sound b most left (cond o fs (opened_as b (kind_of (term_of b l).kind) l r fs))
+          × (length (cond o fs (opened_as b (kind_of (term_of b l).kind) l r fs)) ≤ length fs + 1)
+      go true = (s, omega arith)
+      go false = (opened_sound free image l r (crossed_by fs) fs most left e room s, opened_length_as (kind_of (term_of b l).kind) l r fs)
 
-  module _ (n most : ℕ) (w p s : List ℕ) (top depth left : ℕ) (held : Held b n most w p s (suc top) depth left) where
-    pub left_held : (x y o q : ℕ) → frames w (suc top) ≡ leave x y o q ∷ frames w top
-        → LeaveHeld (length b.variables) x y o q (crossed_by (frames w top)) × Sound b most left (frames w top)
+  -- ---- the frame on top
+
+  pub leave_held : (most left x y o q : ℕ) (fs : List Frame) → Sound b most left (leave x y o q ∷ fs)
+      → LeaveHeld (length b.variables) x y o q (crossed_by fs) × Sound b most left fs
+  unfolding Sound
+  leave_held most left x y o q fs s = s
+
+  module _ (most left l r i j : ℕ) (fs : List Frame) (s : Sound b most left (pending l r i j ∷ fs)) where
+    pub pending_held : PendingHeld b most left l r i j fs × Sound b most left fs
     unfolding Sound
-    left_held x y o q e = rw e at held.sound
+    pending_held = s
 
-    pub left_placed : (x y o q : ℕ) → frames w (suc top) ≡ leave x y o q ∷ frames w top
-        → Places (length b.variables) n p s ((x, y) ∷ crossed_by (frames w top)) × (depth ≡ suc (length (crossed_by (frames w top))))
-    unfolding crossed_by
-    left_placed x y o q e = (rw e at held.crossing.placed, rw e at held.crossing.deep)
-
-    pub held_left : (p' s' : List ℕ) (x y o q : ℕ) → frames w (suc top) ≡ leave x y o q ∷ frames w top
-        → Places (length b.variables) n p' s' (crossed_by (frames w top)) → Held b n most w p' s' top (depth - 1) left
-    held_left p' s' x y o q e placed =
-        record {
-          long = held.long;
-          crossing = record { placed = placed; deep = omega (arith, (left_placed x y o q e).1) };
-          sound = (left_held x y o q e).1;
-        }
-
-    module _ (l r i j : ℕ) (e : frames w (suc top) ≡ pending l r i j ∷ frames w top) where
-      pub pending_held : PendingHeld b most left l r i j (frames w top) × Sound b most left (frames w top)
-      unfolding Sound
-      pending_held = rw e at held.sound
-
-      pub pending_crossing : Crossing (length b.variables) n w p s top depth
-      unfolding crossed_by
-      pending_crossing = record { placed = rw e at held.crossing.placed; deep = rw e at held.crossing.deep }
-
-      pub held_closed : Held b n most w p s top depth left
-      held_closed = record { long = held.long; crossing = pending_crossing; sound = pending_held.1 }
-
-      pub held_taken : (w' : List ℕ) (m : ℕ) → (i ≡ 0 → ⊥) → length w' ≡ length w
-          → frames w' (suc top) ≡ pending l r (next_of b.links i) (next_of b.links j) ∷ frames w top
-          → left ≡ suc m → Held b n most w' p s (suc top) depth m
-      unfolding crossed_by Sound
-      held_taken w' m ni len e' more =
-          let was = pending_held.0 in
-          let fewer : length (items b i) ≡ length (items b (next_of b.links i)) + 1 = walk_length b i (next_of b.links i) ni was.left_link refl in
+    pub taken_sound : (m : ℕ) → (i ≡ 0 → ⊥) → left ≡ suc m → Sound b most m (pending l r (next_of b.links i) (next_of b.links j) ∷ fs)
+    unfolding Sound
+    taken_sound m ni more =
+        let was = pending_held.0 in
+        let fewer : length (items b i) ≡ length (items b (next_of b.links i)) + 1 = walk_length b i (next_of b.links i) ni was.left_link refl in (
           record {
-            long = omega (arith, held.long, len);
-            crossing = record { placed = rw e' pending_crossing.placed; deep = rw e' pending_crossing.deep };
-            sound = rw e' (
-              record {
-                met = was.met;
-                known = was.known;
-                left_link = walk_le b i (next_of b.links i) refl;
-                right_link = walk_le b j (next_of b.links j) refl;
-                room = omega (arith, was.room);
-              },
-              sound_less most left m (frames w top) (omega arith) pending_held.1,
-            );
-          }
+            met = was.met;
+            known = was.known;
+            left_link = walk_le b i (next_of b.links i) refl;
+            right_link = walk_le b j (next_of b.links j) refl;
+            room = omega (arith, was.room);
+          },
+          sound_less most left m fs (omega arith) pending_held.1,
+        )
 
-      -- there is room for the variables once both lists have ended
-      pub bodies_room : i ≡ 0 → top + length (bound_as b (kind_of (term_of b l).kind) l) + left ≤ most
-      bodies_room z' = let none : length (items b i) ≡ 0 = ap length (walk_nil b i z') in omega (arith, pending_held.0.room, frames_length w top)
+    -- there is room for the variables once both lists have ended
+    pub bodies_room : i ≡ 0 → length fs + length (bound_as b (kind_of (term_of b l).kind) l) + left ≤ most
+    bodies_room z = let none : length (items b i) ≡ 0 = ap length (walk_nil b i z) in omega (arith, pending_held.0.room)
 
-      pub held_bodies : (w' p' s' : List ℕ) (height deep m : ℕ) → length w' ≡ length w → Crossing (length b.variables) n w' p' s' height deep
-          → frames w' height ≡ leaves (bound_as b (kind_of (term_of b l).kind) l) (bound_as b (kind_of (term_of b l).kind) r) (crossed_by (frames w top)) (frames
-          w top)
-          → left ≡ suc m → Held b n most w' p' s' height deep m
-      held_bodies w' p' s' height deep m len crossing e' more =
-          let known = bound_known (kind_of (term_of b l).kind) l r pending_held.0.met in
-          record {
-            long = omega (arith, held.long, len);
-            crossing = crossing;
-            sound = rw e'
-                (leaves_sound most m (bound_as b (kind_of (term_of b l).kind) l) (bound_as b (kind_of (term_of b l).kind) r) (crossed_by (frames w top)) (frames w
-                top) refl
-                known.0 known.1 (sound_less most left m (frames w top) (omega arith) pending_held.1));
-          }
-
-  -- the same frames in another agenda, with fewer pairs left
-  pub held_same : (n most : ℕ) (w w' p s : List ℕ) (h h' depth left less : ℕ) → Held b n most w p s h depth left → frames w' h' ≡ frames w h
-      → length w' ≡ length w → less ≤ left → Held b n most w' p s h' depth less
-  held_same n most w w' p s h h' depth left less held e len few =
-      record {
-        long = omega (arith, held.long, len);
-        crossing = record { placed = rw e held.crossing.placed; deep = rw e held.crossing.deep };
-        sound = rw e (sound_less most left less (frames w h) few held.sound);
-      }
+    pub bodies_sound : (m : ℕ) → left ≡ suc m
+        → Sound b most m (leaves (bound_as b (kind_of (term_of b l).kind) l) (bound_as b (kind_of (term_of b l).kind) r) (crossed_by fs) fs)
+    bodies_sound m more =
+        let known = bound_known (kind_of (term_of b l).kind) l r pending_held.0.met in
+        leaves_sound most m (bound_as b (kind_of (term_of b l).kind) l) (bound_as b (kind_of (term_of b l).kind) r) (crossed_by fs) fs refl known.0 known.1
+        (sound_less most left m fs (omega arith) pending_held.1)
 
 -- ---- the next pair
 
-module _ (free : ℕ → ℕ → Bool) (image : ℕ → Image) (b : Bundle) (n most : ℕ) (whole : Limited) (w p s : List ℕ) (l x y h depth : ℕ) where
-  pub turn_held : (left : ℕ) → whole ≡ go_on (under free image b l x (crossed_by (frames w h)) y left) (finish free image b (frames w h))
-      → ((m : ℕ) → left ≡ suc m → Held b n most w p s h depth m) → h + left ≤ most
-      → TurnHeld free image b n most whole w p s left (turn_to l x y h depth left)
+module _ (free : ℕ → ℕ → Bool) (image : ℕ → Image) (whole : Limited) (p : Path) (l x y : ℕ) where
+  pub turn_held : (left : ℕ)
+      → whole ≡ go_on (under free image p.sets.bundle l x (crossed_by p.frames) y left) (finish free image p.sets.bundle p.frames)
+      → ((m : ℕ) → left ≡ suc m → Sound p.sets.bundle p.most m p.frames) → length p.frames + left ≤ p.most
+      → TurnHeld free image whole left p (turn_to l x y left)
   unfolding turn_to go_on
-  turn_held zero e held room =
-      e ∙ ap (λ (a : Limited). go_on a (finish free image b (frames w h))) (under_spent free image b l x (crossed_by (frames w h)) y)
-  turn_held (suc m) e held room = go (ltb x l) e
+  turn_held zero e sound room =
+      e ∙ ap (λ (a : Limited). go_on a (finish free image p.sets.bundle p.frames)) (under_spent free image p.sets.bundle l x (crossed_by p.frames) y)
+  turn_held (suc m) e sound room = go (ltb x l) e
     where
-      go : (t : Bool) → whole ≡ go_on (cond t (within_by free image b x) none_within (crossed_by (frames w h)) y (suc m)) (finish free image b (frames w h))
-          → TurnHeld free image b n most whole w p s (suc m) (cond t (Turn.Pair x y h depth m) (Turn.Ended (Different m)))
-      go true d = (d, held m refl, omega arith, omega arith)
+      go : (t : Bool)
+          → whole ≡ go_on (cond t (within_by free image p.sets.bundle x) none_within (crossed_by p.frames) y (suc m)) (finish free image p.sets.bundle p.frames)
+          → TurnHeld free image whole (suc m) p (cond t (Ok (record { l = x; r = y; left = m })) (Err (Different m)))
+      go true d = (d, sound m refl, omega arith, omega arith)
       go false d = d

@@ -1,19 +1,22 @@
 -- The agenda of the walk of whole-term REFL: a stack of frames in words of 16 bits, five words a frame, and what is left to do where a pair of terms
 -- has been walked. A frame says that two lists of terms are still to be walked, and then the bodies; or that a crossed pair of variables is left.
 use Rattle.std.specs.Prelude.{ℕ, zero, suc, ◌+◌, ◌*◌, ◌≤◌, ◌<◌, ◌≡◌, Bool, true, false, ◌&&◌, length, get_or, eqb, ltb}
+use Rattle.std.specs.Prelude.{Option, None, Some, Result, Ok, Err}
 use Rattle.std.proofs.Math.Bool.{cond}
 use mathlib.Core.List.{List, [], ◌∷◌}
-use Rattle.bundle.specs.Bundle.{Bundle, term_of}
-use Rattle.bundle.specs.Links.{items, starts_at}
+use Rattle.bundle.specs.Bundle.{Bundle, term_of, link_of}
+use Rattle.bundle.specs.Links.{items, starts_at, next_of}
 use Rattle.logic.specs.declared.Image.{Image}
 use Rattle.logic.specs.declared.Limited.{Limited}
 use Rattle.logic.specs.declared.Limited.TheVariants.{Same, Different, Spent}
 use Rattle.logic.specs.Lists.{Number}
 use Rattle.logic.specs.Table.{below}
 use Rattle.logic.specs.Terms.{Kind, kind_of, variable, application, binder, letting, other}
-use Rattle.logic.specs.ReflWalk.{Crossed, lefts, rights, binder_meets, let_meets, cross_all, go_on, lists_within, none_within, within_by}
-use Rattle.crossings.specs.Places.{stamp, Places}
-use Rattle.pair_walk.specs.declared.Turn.{Turn}
+use Rattle.logic.specs.ReflWalk.{Crossed, lefts, rights, binder_meets, let_meets, cross_all, go_on, lists_within, none_within, within_by, pair_limit}
+use Rattle.free_variables.specs.TermSets.{TermSets}
+use Rattle.crossings.specs.Places.{stamp, Binders, HaveCrossed}
+use Rattle.pair_walk.specs.declared.path.Top.{Top}
+use Rattle.pair_walk.specs.declared.turns.Pair.{Pair}
 
 -- ---- frames
 
@@ -43,6 +46,28 @@ unfoldable pub crossed_by : List Frame → Crossed
 crossed_by [] = []
 crossed_by (pending l r i j ∷ fs) = crossed_by fs
 crossed_by (leave x y o p ∷ fs) = (x, y) ∷ crossed_by fs
+
+-- the frame of a pair is on top
+abbrev pub IsPending : List Frame → Type 0
+IsPending [] = ⊥
+IsPending (pending l r i j ∷ fs) = Unit {0}
+IsPending (leave x y o p ∷ fs) = ⊥
+
+-- what is below the top
+abbrev pub rest : List Frame → List Frame
+rest [] = []
+rest (f ∷ fs) = fs
+
+-- with other links in the frame of a pair on top
+abbrev pub advanced : ℕ → ℕ → List Frame → List Frame
+advanced i j [] = []
+advanced i j (pending l r i' j' ∷ fs) = pending l r i j ∷ fs
+advanced i j (leave x y o p ∷ fs) = leave x y o p ∷ fs
+
+-- the words of the frame on top, `None` where there is none
+abbrev pub IsTop : List Frame → Option Top → Type 0
+IsTop fs None = fs ≡ []
+IsTop fs (Some t) = fs ≡ frame_of t.l t.r t.i t.j t.e ∷ rest fs
 
 -- ---- by the kind of a pair
 
@@ -153,30 +178,53 @@ Sound b most left [] = Unit {0}
 Sound b most left (pending l r i j ∷ fs) = PendingHeld b most left l r i j fs × Sound b most left fs
 Sound b most left (leave x y o p ∷ fs) = LeaveHeld (length b.variables) x y o p (crossed_by fs) × Sound b most left fs
 
+-- ---- the path of a walk
+
 -- the arrays have the variables that the agenda of height h says are crossed, `depth` pairs of them
-pub record Crossing (variables n : ℕ) (agenda places bound : List ℕ) (h depth : ℕ) : Type 0 where
-  pub placed : Places variables n places bound (crossed_by (frames agenda h))
+pub record Crossing (binders : Binders) (agenda : List ℕ) (h depth : ℕ) : Type 0 where
+  pub placed : HaveCrossed binders (crossed_by (frames agenda h))
   pub deep : depth ≡ length (crossed_by (frames agenda h))
 
--- the arrays and the agenda of height h are those of a walk that may still visit `left` of `most` pairs
-pub record Held (b : Bundle) (n most : ℕ) (agenda places bound : List ℕ) (h depth left : ℕ) : Type 0 where
+-- and the agenda has room for `most` frames
+pub record Kept (binders : Binders) (agenda : List ℕ) (most h depth : ℕ) : Type 0 where
   pub long : 5 * most ≤ length agenda
-  pub crossing : Crossing (length b.variables) n agenda places bound h depth
-  pub sound : Sound b most left (frames agenda h)
+  pub high : h ≤ most
+  pub few : most ≤ pair_limit
+  pub crossing : Crossing binders agenda h depth
+
+-- what is said of a path: the sets of its file's terms, the frames that there is room for, and the frames
+pub record Path : Type 0 where
+  pub sets : TermSets
+  pub most : ℕ
+  pub frames : List Frame
+
+abbrev pub with_frames : Path → List Frame → Path
+with_frames p fs = record { sets = p.sets; most = p.most; frames = fs }
 
 -- ---- turns
 
 -- the terms x and y below l are taken up as the next pair, where so many are left
-unfoldable pub turn_to : ℕ → ℕ → ℕ → ℕ → ℕ → ℕ → Turn
-turn_to l x y h depth zero = Turn.Ended Spent
-turn_to l x y h depth (suc n) = cond (ltb x l) (Turn.Pair x y h depth n) (Turn.Ended (Different n))
+unfoldable pub turn_to : ℕ → ℕ → ℕ → ℕ → Result Pair Limited
+turn_to l x y zero = Err Spent
+turn_to l x y (suc n) = cond (ltb x l) (Ok (record { l = x; r = y; left = n })) (Err (Different n))
+
+-- The frame of a pair is on top, and i and j are links of the file.
+abbrev pub Takes : Path → ℕ → ℕ → Type 0
+Takes p i j = IsPending p.frames × ((i ≡ 0 → ⊥) × (i ≤ length p.sets.bundle.links)) × ((j ≡ 0 → ⊥) × (j ≤ length p.sets.bundle.links))
+
+-- The terms at the links are the next pair; the frame has the next links, or an application's is taken off where there are none.
+abbrev pub Taken : Path → ℕ → ℕ → ℕ → ℕ → Path → Result Pair Limited → Type 0
+Taken p l i j left q t =
+    (t ≡ turn_to l (link_of p.sets.bundle i).value (link_of p.sets.bundle j).value left)
+    × (q ≡ with_frames p (cond (closes (term_of p.sets.bundle l).kind (next_of p.sets.bundle.links i) (next_of p.sets.bundle.links j)) (rest p.frames)
+    (advanced (next_of p.sets.bundle.links i) (next_of p.sets.bundle.links j) p.frames)))
 
 -- What a turn is to a walk: it has ended, or the pair that is taken up, and then what is left to do, is the whole.
-abbrev pub TurnHeld : (ℕ → ℕ → Bool) → (ℕ → Image) → Bundle → ℕ → ℕ → Limited → List ℕ → List ℕ → List ℕ → ℕ → Turn → Type 0
-TurnHeld free image b n most whole agenda places bound left (Turn.Ended a) = whole ≡ a
-TurnHeld free image b n most whole agenda places bound left (Turn.Pair l r h depth m) =
-    (whole ≡ go_on (within_by free image b l (crossed_by (frames agenda h)) r (suc m)) (finish free image b (frames agenda h)))
-    × Held b n most agenda places bound h depth m × (h + m < most) × (m < left)
+abbrev pub TurnHeld : (ℕ → ℕ → Bool) → (ℕ → Image) → Limited → ℕ → Path → Result Pair Limited → Type 0
+TurnHeld free image whole left path (Err a) = whole ≡ a
+TurnHeld free image whole left path (Ok p) =
+    (whole ≡ go_on (within_by free image path.sets.bundle p.l (crossed_by path.frames) p.r (suc p.left)) (finish free image path.sets.bundle path.frames))
+    × Sound path.sets.bundle path.most p.left path.frames × (length path.frames + p.left < path.most) × (p.left < left)
 
 -- the pairs that a walk is tried with first: any number up to the limit would do
 abbrev pub few_pairs : ℕ

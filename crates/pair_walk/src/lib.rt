@@ -3,79 +3,55 @@
 
 ghost use Rattle.std.specs.Prelude.{◌≡◌, [], ◌+◌, ◌*◌, ◌≤◌, length};
 ghost use Rattle.bundle.specs.Limits.{set_words};
+ghost use Rattle.free_variables.specs.TermSets.{free_in};
 ghost use Rattle.logic.specs.ReflWalk.{within_by, pair_limit};
 ghost use Rattle.images.specs.ContextRows.{image_at};
-ghost use Rattle.images.specs.LentReading.{free_in};
 ghost use Rattle.crossings.specs.Places.{Places};
 
 use bundle::Bundle;
-use crossings::pair_meets;
+use crossings::Binders;
+use free_variables::term_sets::TermSets;
 use logic::{Limited, PAIR_LIMIT};
+use path::Path;
 
 mod frames; // frames.rt: frames of the agenda
-mod bodies; // bodies.rt: variables crossed on the way into bodies
+mod path; // path.rt: the agenda, and the binders crossed
 mod turns; // turns.rt: from one pair to the next
 
-// What follows a pair that has been visited: the next pair, already counted, with the height of the agenda, the number of pairs of variables crossed
-// and the pairs left; or the walk has ended.
-#[derive(Clone, Copy)]
-pub enum Turn {
-    Pair {
-        l: usize,
-        r: usize,
-        height: usize,
-        depth: usize,
-        left: usize,
-    },
-    Ended(Limited),
-}
-
-// The walk from the terms l and r, which may visit `most` pairs, in arrays that are lent.
-fn walk(
-    bundle: &Bundle,
-    area: &[u64],
-    n: usize,
+// The walk from the terms l and r, which may visit `most` pairs, in arrays that are lent. The path is made here: so its fields are locals of the loop.
+fn walk<'s, 'a>(
+    sets: &TermSets<'s>,
     images: &[u16],
     context: usize,
-    places: &mut [u16],
-    bound: &mut [u64],
-    agenda: &mut [u16],
+    places: &'a mut [u16],
+    bound: &'a mut [u64],
+    agenda: &'a mut [u16],
     left: usize,
     right: usize,
     most: usize,
 ) -> Limited
-    requires { (n * length bundle.now.terms ≤ length area.now) × (length bundle.now.variables * (context + 1) ≤ length images.now) × (length bundle.now.variables ≤ 64 * n)
-        × Places (length bundle.now.variables) n places.old bound.old [] × (5 * most ≤ length agenda.old) × (1 ≤ most) × (most ≤ pair_limit) }
-    ensures { result ≡ within_by (free_in (length bundle.now.terms) area.now n) (image_at (length bundle.now.variables) images.now context)
-        bundle.now left [] right most }
+    requires { (length sets.now.bundle.variables * (context + 1) ≤ length images.now) × (length sets.now.bundle.variables ≤ 64 * sets.now.n)
+        × Places (length sets.now.bundle.variables) sets.now.n places.old bound.old [] × (5 * most ≤ length agenda.old) × (1 ≤ most) × (most ≤ pair_limit) }
+    ensures { result ≡ within_by (free_in sets.now) (image_at (length sets.now.bundle.variables) images.now context) sets.now.bundle left [] right most }
 {
+    let mut path = Path::of(Binders::of(sets, places, bound), agenda, most);
     let mut l = left;
     let mut r = right;
-    let mut height = 0;
-    let mut depth = 0;
     let mut spare = most - 1;
+    // A turn visits a pair, and finds the next.
     loop {
-        if !pair_meets(bundle, area, n, images, context, places, bound, l, r) {
+        if !path.meets(images, context, l, r) {
             return Limited::Different(spare);
         }
-        let opened = frames::open(bundle, agenda, height, l, r);
-        let turn = turns::next(bundle, n, most, places, bound, agenda, opened, depth, spare);
-        match turn {
-            Turn::Ended(a) => {
-                return a;
+        path.open(l, r);
+        match turns::next(&mut path, spare) {
+            Err(ended) => {
+                return ended;
             }
-            Turn::Pair {
-                l: x,
-                r: y,
-                height: h,
-                depth: d,
-                left: m,
-            } => {
-                l = x;
-                r = y;
-                height = h;
-                depth = d;
-                spare = m;
+            Ok(pair) => {
+                l = pair.l;
+                r = pair.r;
+                spare = pair.left;
             }
         }
     }
@@ -90,27 +66,22 @@ const LIMIT_WORDS: usize = 5 * PAIR_LIMIT;
 
 // The walk in arrays of its own. AGENDA, the words of the agenda, is given too, since a const argument is never computed.
 fn walk_within<const PAIRS: usize, const AGENDA: usize>(
-    bundle: &Bundle,
-    area: &[u64],
-    n: usize,
+    sets: &TermSets,
     images: &[u16],
     context: usize,
     left: usize,
     right: usize,
 ) -> Limited
-    requires { (n * length bundle.now.terms ≤ length area.now) × (length bundle.now.variables * (context + 1) ≤ length images.now) × (length bundle.now.variables ≤ 64 * n)
-        × (n ≤ set_words) × (AGENDA ≡ 5 * PAIRS) × (1 ≤ PAIRS) × (PAIRS ≤ pair_limit) }
-    ensures { result ≡ within_by (free_in (length bundle.now.terms) area.now n) (image_at (length bundle.now.variables) images.now context)
-        bundle.now left [] right PAIRS }
+    requires { (length sets.now.bundle.variables * (context + 1) ≤ length images.now) × (length sets.now.bundle.variables ≤ 64 * sets.now.n)
+        × (sets.now.n ≤ set_words) × (AGENDA ≡ 5 * PAIRS) × (1 ≤ PAIRS) × (PAIRS ≤ pair_limit) }
+    ensures { result ≡ within_by (free_in sets.now) (image_at (length sets.now.bundle.variables) images.now context) sets.now.bundle left [] right PAIRS }
 {
-    prove!(bundle.variables() <= Bundle::VARIABLES);
+    prove!(sets.bundle().variables() <= Bundle::VARIABLES);
     let mut places = [0u16; 2 * Bundle::VARIABLES];
     let mut bound = [0u64; Bundle::SET_WORDS];
     let mut agenda = [0u16; AGENDA];
     walk(
-        bundle,
-        area,
-        n,
+        sets,
         images,
         context,
         &mut places,
@@ -124,25 +95,22 @@ fn walk_within<const PAIRS: usize, const AGENDA: usize>(
 
 // THE WALK from the terms `left` and `right`, where no binder is crossed yet: how it ends, and how many of the pairs that it may visit are left.
 pub fn pair_walk(
-    bundle: &Bundle,
-    area: &[u64],
-    n: usize,
+    sets: &TermSets,
     images: &[u16],
     context: usize,
     left: usize,
     right: usize,
 ) -> Limited
-    requires { (n * length bundle.now.terms ≤ length area.now) × (length bundle.now.variables * (context + 1) ≤ length images.now) × (length bundle.now.variables ≤ 64 * n)
-        × (n ≤ set_words) }
-    ensures { result ≡ within_by (free_in (length bundle.now.terms) area.now n) (image_at (length bundle.now.variables) images.now context)
-        bundle.now left [] right pair_limit }
+    requires { (length sets.now.bundle.variables * (context + 1) ≤ length images.now) × (length sets.now.bundle.variables ≤ 64 * sets.now.n)
+        × (sets.now.n ≤ set_words) }
+    ensures { result ≡ within_by (free_in sets.now) (image_at (length sets.now.bundle.variables) images.now context) sets.now.bundle left [] right pair_limit }
 {
-    let walked = walk_within::<FEW, FEW_WORDS>(bundle, area, n, images, context, left, right);
+    let walked = walk_within::<FEW, FEW_WORDS>(sets, images, context, left, right);
     match walked {
         Limited::Same(m) => Limited::Same(m + (PAIR_LIMIT - FEW)),
         Limited::Different(m) => Limited::Different(m + (PAIR_LIMIT - FEW)),
-        Limited::Spent => walk_within::<PAIR_LIMIT, LIMIT_WORDS>(
-            bundle, area, n, images, context, left, right,
-        ),
+        Limited::Spent => {
+            walk_within::<PAIR_LIMIT, LIMIT_WORDS>(sets, images, context, left, right)
+        }
     }
 }

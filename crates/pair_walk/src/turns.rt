@@ -1,200 +1,178 @@
 // Turns: from a pair that has been visited to the next.
-ghost use Rattle.std.specs.Prelude.{◌≡◌, Bool, true, cond, ◌∷◌, ℕ, suc, ◌+◌, ◌*◌, ◌-◌, ◌≤◌, ◌<◌, length, get_or};
-ghost use Rattle.bundle.specs.Bundle.{link_of, term_of};
-ghost use Rattle.bundle.specs.Links.{next_of};
+ghost use Rattle.std.specs.Prelude.{◌≡◌, Bool, true, [], ◌∷◌, ℕ, ◌+◌, ◌≤◌, length};
+ghost use Rattle.bundle.specs.Bundle.{term_of};
+ghost use Rattle.bundle.specs.Links.{items};
 ghost use Rattle.logic.specs.declared.Image.{Image};
-ghost use Rattle.logic.specs.Terms.{kind_of};
-ghost use Rattle.logic.specs.ReflWalk.{pair_limit};
-ghost use Rattle.pair_walk.specs.Agenda.{frame_of, frames, crossed_by, has_body, bound_as, body_as, leaves, MetAs, Crossing, finish, Held, closes, turn_to};
-ghost use Rattle.pair_walk.specs.Agenda.{TurnHeld};
+ghost use Rattle.logic.specs.ReflWalk.{sorts_meet, all_sorts_meet};
+ghost use Rattle.pair_walk.specs.Agenda.{crossed_by, leaves, finish, with_frames, Sound, turn_to, Takes, Taken, TurnHeld};
 
-use super::Turn;
-use super::bodies::{body_of, enter};
-use super::frames::advance;
-use bundle::Bundle;
+use super::path::Path;
 use bundle::items::followed;
-use crossings::uncross;
 use logic::Limited;
-use logic::kinds::{APPLICATION, LET, is_binder};
+use logic::kinds::Kind;
+
+// The next pair, already counted, and the pairs left after it.
+#[derive(Clone, Copy)]
+pub struct Pair {
+    pub l: usize,
+    pub r: usize,
+    pub left: usize,
+}
 
 // Takes the terms x and y, parts of terms of which the left one is l, up as the next pair: it is counted, where one is left.
-fn turn_to(l: usize, x: usize, y: usize, height: usize, depth: usize, left: usize) -> Turn
-    ensures { result ≡ turn_to l x y height depth left }
+fn turn_to(l: usize, x: usize, y: usize, left: usize) -> Result<Pair, Limited>
+    ensures { result ≡ turn_to l x y left }
 {
     if left == 0 {
-        return Turn::Ended(Limited::Spent);
+        return Err(Limited::Spent);
     }
     if x < l {
-        Turn::Pair {
+        Ok(Pair {
             l: x,
             r: y,
-            height: height,
-            depth: depth,
             left: left - 1,
-        }
+        })
     } else {
-        Turn::Ended(Limited::Different(left - 1))
+        Err(Limited::Different(left - 1))
     }
 }
 
-// Takes the terms at the links i and j up, which the frame of l on an agenda of height h + 1 has, whatever their nexts are. The frame has the next
-// links then; an application's is taken off where there are none.
+// Takes the terms at the links i and j up, which the frame of l on top has, whatever their nexts are. The frame has the next links then; an
+// application's is taken off where there are none.
 fn take_any(
-    bundle: &Bundle,
-    agenda: &mut [u16],
-    h: usize,
-    depth: usize,
+    path: &mut Path<'_, '_>,
     l: usize,
     i: usize,
     j: usize,
     left: usize,
-) -> Turn
-    requires { (5 * h + 5 ≤ length agenda.old) × ((i ≡ 0 → ⊥) × (i ≤ length bundle.now.links)) × ((j ≡ 0 → ⊥) × (j ≤ length bundle.now.links)) }
-    ensures { let closed = closes (term_of bundle.now l).kind (next_of bundle.now.links i) (next_of bundle.now.links j) in
-        (length agenda.new ≡ length agenda.old)
-        × (result ≡ turn_to l (link_of bundle.now i).value (link_of bundle.now j).value (cond closed h (suc h)) depth left)
-        × (frames agenda.new (cond closed h (suc h)) ≡ cond closed (frames agenda.old h)
-        (frame_of (get_or agenda.old (5 * h) 0) (get_or agenda.old (5 * h + 1) 0)
-        (next_of bundle.now.links i) (next_of bundle.now.links j) (get_or agenda.old (5 * h + 4) 0) ∷ frames agenda.old h)) }
+) -> Result<Pair, Limited>
+    requires { Takes path.old i j }
+    ensures { Taken path.old l i j left path.new result }
 {
+    let bundle = path.bundle();
     let links = bundle.links();
     let first = bundle.link(i);
     let second = bundle.link(j);
-    let x = first.value;
-    let y = second.value;
     let after = followed(links, i, first.next);
     let other = followed(links, j, second.next);
     let kind = bundle.term_field(l, 0);
-    if (kind == APPLICATION) & (after == 0) & (other == 0) {
-        return turn_to(l, x, y, h, depth, left);
+    if (kind == Kind::Application.number()) & (after == 0) & (other == 0) {
+        path.pop();
+    } else {
+        path.advance(after, other);
     }
-    advance(agenda, h, after, other);
-    turn_to(l, x, y, h + 1, depth, left)
+    turn_to(l, first.value, second.value, left)
 }
 
 // The same. In most lists both nexts rise, or both are 0: branches that are foreseen, where `followed` makes each turn wait for its choices.
-fn take(
-    bundle: &Bundle,
-    agenda: &mut [u16],
-    h: usize,
-    depth: usize,
-    l: usize,
-    i: usize,
-    j: usize,
-    left: usize,
-) -> Turn
-    requires { (5 * h + 5 ≤ length agenda.old) × ((i ≡ 0 → ⊥) × (i ≤ length bundle.now.links)) × ((j ≡ 0 → ⊥) × (j ≤ length bundle.now.links)) }
-    ensures { let closed = closes (term_of bundle.now l).kind (next_of bundle.now.links i) (next_of bundle.now.links j) in
-        (length agenda.new ≡ length agenda.old)
-        × (result ≡ turn_to l (link_of bundle.now i).value (link_of bundle.now j).value (cond closed h (suc h)) depth left)
-        × (frames agenda.new (cond closed h (suc h)) ≡ cond closed (frames agenda.old h)
-        (frame_of (get_or agenda.old (5 * h) 0) (get_or agenda.old (5 * h + 1) 0)
-        (next_of bundle.now.links i) (next_of bundle.now.links j) (get_or agenda.old (5 * h + 4) 0) ∷ frames agenda.old h)) }
+fn take(path: &mut Path<'_, '_>, l: usize, i: usize, j: usize, left: usize) -> Result<Pair, Limited>
+    requires { Takes path.old i j }
+    ensures { Taken path.old l i j left path.new result }
 {
+    let bundle = path.bundle();
     let links = bundle.links();
     let first = bundle.link(i);
     let second = bundle.link(j);
-    let x = first.value;
-    let y = second.value;
     let next = first.next;
     let other = second.next;
     if (next == 0) & (other == 0) {
         let kind = bundle.term_field(l, 0);
-        if kind == APPLICATION {
-            return turn_to(l, x, y, h, depth, left);
+        if kind == Kind::Application.number() {
+            path.pop();
+            return turn_to(l, first.value, second.value, left);
         }
     }
     if i < next {
         if j < other {
             if next <= links {
                 if other <= links {
-                    advance(agenda, h, next, other);
-                    return turn_to(l, x, y, h + 1, depth, left);
+                    path.advance(next, other);
+                    return turn_to(l, first.value, second.value, left);
                 }
             }
         }
     }
-    take_any(bundle, agenda, h, depth, l, i, j, left)
+    take_any(path, l, i, j, left)
 }
 
-// Takes the bodies of l and r up, inside their variables.
-fn into_bodies(
-    bundle: &Bundle,
-    n: usize,
-    places: &mut [u16],
-    bound: &mut [u64],
-    agenda: &mut [u16],
-    h: usize,
-    depth: usize,
-    kind: usize,
-    l: usize,
-    r: usize,
-    left: usize,
-) -> Turn
-    requires { Crossing (length bundle.now.variables) n agenda.old places.old bound.old h depth × (has_body (kind_of kind) ≡ true)
-        × MetAs bundle.now (kind_of kind) l r × (5 * (h + length (bound_as bundle.now (kind_of kind) l)) ≤ length agenda.old) × (length bundle.now.variables ≤ 64 * n)
-        × (depth + length (bound_as bundle.now (kind_of kind) l) ≤ 65535) × (h + length (bound_as bundle.now (kind_of kind) l) ≤ 65535) }
-    ensures { let height = h + length (bound_as bundle.now (kind_of kind) l) in
-        let deep = depth + length (bound_as bundle.now (kind_of kind) l) in
-        (length agenda.new ≡ length agenda.old)
-        × (result ≡ turn_to l (body_as bundle.now (kind_of kind) l) (body_as bundle.now (kind_of kind) r) height deep left)
-        × Crossing (length bundle.now.variables) n agenda.new places.new bound.new height deep
-        × (frames agenda.new height ≡ leaves (bound_as bundle.now (kind_of kind) l) (bound_as bundle.now (kind_of kind) r)
-        (crossed_by (frames agenda.old h)) (frames agenda.old h)) }
+// Crosses the variables of two lists in pairs.
+fn cross_lists(path: &mut Path<'_, '_>, first: usize, second: usize)
+    requires { let b = path.old.sets.bundle in
+        (length path.old.frames + length (items b first) ≤ path.old.most) × (all_sorts_meet b (items b first) (items b second) ≡ true) }
+    ensures { let b = path.old.sets.bundle in
+        path.new ≡ with_frames path.old (leaves (items b first) (items b second) (crossed_by path.old.frames) path.old.frames) }
 {
-    let height = enter(bundle, n, places, bound, agenda, h, depth, kind, l, r);
-    let x = body_of(bundle, kind, l);
-    let y = body_of(bundle, kind, r);
-    turn_to(l, x, y, height, depth + (height - h), left)
+    let bundle = path.bundle();
+    let mut others = bundle.items(second);
+    for x in bundle.items(first) {
+        let Some(y) = others.next() else {
+            return;
+        };
+        path.cross(x, y);
+    }
 }
 
-// What follows where a pair has been visited, on an agenda of height h.
-pub fn next(
-    bundle: &Bundle,
-    n: usize,
-    most: usize,
-    places: &mut [u16],
-    bound: &mut [u64],
-    agenda: &mut [u16],
-    h: usize,
-    depth: usize,
-    left: usize,
-) -> Turn
-    requires { Held bundle.now n most agenda.old places.old bound.old h depth left × (h + left ≤ most)
-        × (most ≤ pair_limit) × (length bundle.now.variables ≤ 64 * n) }
-    ensures { (free : ℕ → ℕ → Bool) (image : ℕ → Image) → TurnHeld free image bundle.now n most (finish free image bundle.now (frames agenda.old h) left)
-        agenda.new places.new bound.new left result }
+// Takes the bodies of the quantifiers l and r up, inside their variables.
+fn into_body(path: &mut Path<'_, '_>, l: usize, r: usize, left: usize) -> Result<Pair, Limited>
+    requires { let b = path.old.sets.bundle in
+        (length path.old.frames + 1 ≤ path.old.most) × (sorts_meet b (term_of b l).a (term_of b r).a ≡ true) }
+    ensures { let b = path.old.sets.bundle in
+        (result ≡ turn_to l (term_of b l).b (term_of b r).b left)
+        × (path.new ≡ with_frames path.old (leaves ((term_of b l).a ∷ []) ((term_of b r).a ∷ []) (crossed_by path.old.frames) path.old.frames)) }
 {
-    let mut height = h;
-    let mut deep = depth;
-    while height != 0 {
-        let top = height - 1;
-        let from = 5 * top;
-        let l = usize::from(agenda[from]);
-        let r = usize::from(agenda[from + 1]);
-        let i = usize::from(agenda[from + 2]);
-        let j = usize::from(agenda[from + 3]);
+    let bundle = path.bundle();
+    path.cross(bundle.term_field(l, 1), bundle.term_field(r, 1));
+    turn_to(l, bundle.term_field(l, 2), bundle.term_field(r, 2), left)
+}
+
+// The same of lets.
+fn into_let(path: &mut Path<'_, '_>, l: usize, r: usize, left: usize) -> Result<Pair, Limited>
+    requires { let b = path.old.sets.bundle in
+        (length path.old.frames + length (items b (term_of b l).a) ≤ path.old.most)
+        × (all_sorts_meet b (items b (term_of b l).a) (items b (term_of b r).a) ≡ true) }
+    ensures { let b = path.old.sets.bundle in
+        (result ≡ turn_to l (term_of b l).c (term_of b r).c left)
+        × (path.new ≡ with_frames path.old (leaves (items b (term_of b l).a) (items b (term_of b r).a) (crossed_by path.old.frames) path.old.frames)) }
+{
+    let bundle = path.bundle();
+    cross_lists(path, bundle.term_field(l, 1), bundle.term_field(r, 1));
+    turn_to(l, bundle.term_field(l, 3), bundle.term_field(r, 3), left)
+}
+
+// What follows where a pair has been visited: the next pair, or how the walk has ended.
+pub fn next(path: &mut Path<'_, '_>, left: usize) -> Result<Pair, Limited>
+    requires { Sound path.old.sets.bundle path.old.most left path.old.frames × (length path.old.frames + left ≤ path.old.most) }
+    ensures { (path.new ≡ with_frames path.old path.new.frames)
+        × ((free : ℕ → ℕ → Bool) (image : ℕ → Image)
+        → TurnHeld free image (finish free image path.old.sets.bundle path.old.frames left) left path.new result) }
+{
+    // A stack of frames: a turn takes one off, or ends at it.
+    while let Some(top) = path.top() {
+        let l = top.l;
         if l == 0 {
-            let p = usize::from(agenda[from + 4]);
-            uncross(bundle, n, places, bound, r, i, j, p);
-            deep -= 1;
+            path.uncross(top.r, top.i, top.j, top.e);
         } else {
-            if i != 0 {
-                if j != 0 {
-                    return take(bundle, agenda, top, deep, l, i, j, left);
+            if top.i != 0 {
+                if top.j != 0 {
+                    return take(path, l, top.i, top.j, left);
                 }
             }
-            if (i != 0) | (j != 0) {
-                return Turn::Ended(Limited::Different(left));
+            if (top.i != 0) | (top.j != 0) {
+                return Err(Limited::Different(left));
             }
-            let kind = bundle.term_field(l, 0);
-            if is_binder(kind) | (kind == LET) {
-                return into_bodies(
-                    bundle, n, places, bound, agenda, top, deep, kind, l, r, left,
-                );
+            path.pop();
+            match Kind::of(path.bundle().term_field(l, 0)) {
+                Some(Kind::Binder(_)) => {
+                    return into_body(path, l, top.r, left);
+                }
+                Some(Kind::Let) => {
+                    return into_let(path, l, top.r, left);
+                }
+                Some(Kind::Variable) => {}
+                Some(Kind::Application) => {}
+                None => {}
             }
         }
-        height = top;
     }
-    Turn::Ended(Limited::Same(left))
+    Err(Limited::Same(left))
 }

@@ -1,188 +1,166 @@
 // A formula of a text read in one pass, by functions that call on each other. Each call stands at a later byte than its caller's, or at the same byte and
 // nearer to a formula. `left` is how many levels of terms may still be opened.
-ghost use Rattle.std.specs.Prelude.{IfSome, ◌≡◌, true, List, ◌∷◌, ◌≤◌};
+ghost use Rattle.std.specs.Prelude.{IfSome, ◌≡◌, List, ◌∷◌, ◌≤◌, length};
 ghost use Rattle.bundle.specs.Words.{largest_word};
-ghost use Rattle.logic.specs.Terms.{Binder, binder, number_of, is_binder};
+ghost use Rattle.logic.specs.Named.{binder_in};
 ghost use Rattle.grammar.specs.Bytes.{Word, letting};
 ghost use Rattle.grammar.specs.Grammar.{Lexeme, opens, word};
-ghost use Rattle.lexing.specs.Lexes.{lexemes_at};
-ghost use Rattle.pass_formulas.specs.PassGives.{Asks, SymbolIs, Gives, GivesUnder, GivesBound};
+ghost use Rattle.lexing.specs.Lexes.{lexemes_of};
+ghost use Rattle.pass_formulas.specs.PassGives.{SymbolIs, Gives, GivesUnder, GivesBound};
 
 use bundle::Bundle;
 use filing::Filed;
+use logic::kinds::Binder;
 use pass_terms::ends::{apply, closed_truth, name_pair, place_alone, place_bound, place_named};
 use pass_terms::places::{bound_in, head_in, sorted_in, word_in};
 use pass_terms::sorts::{equal_on, is_new};
-use pass_tokens::Meaning;
-use pass_tokens::blanks::{byte_at, past_blanks};
+use pass_terms::stack::Stack;
+use pass_tokens::{Meaning, Text};
 use scratch::pairs::half;
 
-// The formula at byte i.
+// The formula that stands next.
 #[cycle(pass_applied_pass_bound_pass_bracketed_pass_formula_pass_let_pass_quantified)]
 pub fn pass_formula(
     bundle: &Bundle,
-    text: &[u8],
+    text: &mut Text<'_>,
     filed: &mut Filed<'_>,
-    stack: &mut [u64; Bundle::LINKS],
-    height: usize,
-    i: usize,
+    stack: &mut Stack,
     left: usize,
-) -> Option<usize>
-    requires { Asks text.now stack.old height i }
-    ensures { IfSome result (Gives bundle.now text.now filed.old stack.old height i (lexemes_at text.now i) filed.new stack.new) }
+) -> Option<()>
+    ensures { IfSome result (λ _. Gives bundle.now text.old filed.old stack.old (lexemes_of text.old) text.new filed.new stack.new) }
 {
-    if byte_at(text, i) == b'(' {
-        return pass_bracketed(bundle, text, filed, stack, height, i + 1, left);
+    if text.first() == b'(' {
+        text.skip();
+        return pass_bracketed(bundle, text, filed, stack, left);
     }
-    let token = word_in(bundle, text, i)?;
-    place_alone(bundle, filed, stack, height, token.meaning)?;
-    Some(token.end)
+    let meaning = word_in(bundle, text)?;
+    place_alone(bundle, filed, stack, meaning)
 }
 
-// The formula whose opening bracket ends before byte i.
+// The formula whose opening bracket has been read.
 #[cycle(pass_applied_pass_bound_pass_bracketed_pass_formula_pass_let_pass_quantified)]
 fn pass_bracketed(
     bundle: &Bundle,
-    text: &[u8],
+    text: &mut Text<'_>,
     filed: &mut Filed<'_>,
-    stack: &mut [u64; Bundle::LINKS],
-    height: usize,
-    i: usize,
+    stack: &mut Stack,
     left: usize,
-) -> Option<usize>
-    requires { Asks text.now stack.old height i }
-    ensures { IfSome result (Gives bundle.now text.now filed.old stack.old height i (opens ∷ lexemes_at text.now i) filed.new stack.new) }
+) -> Option<()>
+    ensures { IfSome result (λ _. Gives bundle.now text.old filed.old stack.old (opens ∷ lexemes_of text.old) text.new filed.new stack.new) }
 {
     if left == 0 {
         return None;
     }
-    let head = head_in(bundle, text, i)?;
-    match head.meaning {
-        Meaning::Symbol(f) => {
-            pass_applied(bundle, text, filed, stack, height, head.end, left - 1, f)
-        }
-        Meaning::Binder(kind) => {
-            pass_quantified(bundle, text, filed, stack, height, head.end, left, kind)
-        }
-        Meaning::Let => pass_let(bundle, text, filed, stack, height, head.end, left - 1),
+    match head_in(bundle, text)? {
+        Meaning::Symbol(f) => pass_applied(bundle, text, filed, stack, left - 1, f),
+        Meaning::Binder(q) => pass_quantified(bundle, text, filed, stack, left, q),
+        Meaning::Let => pass_let(bundle, text, filed, stack, left - 1),
         Meaning::Variable(_) | Meaning::Sort(_) => None,
     }
 }
 
-// The arguments from byte i on of a symbol, up to their closing bracket.
+// The arguments of a symbol, up to their closing bracket.
 #[cycle(pass_applied_pass_bound_pass_bracketed_pass_formula_pass_let_pass_quantified)]
 fn pass_applied(
     bundle: &Bundle,
-    text: &[u8],
+    text: &mut Text<'_>,
     filed: &mut Filed<'_>,
-    stack: &mut [u64; Bundle::LINKS],
-    height: usize,
-    i: usize,
+    stack: &mut Stack,
     left: usize,
     symbol: usize,
-) -> Option<usize>
-    requires { Asks text.now stack.old height i × (symbol ≤ largest_word) }
+) -> Option<()>
+    requires { symbol ≤ largest_word }
     ensures { (w : Word) → SymbolIs bundle.now w symbol
-        → IfSome result (Gives bundle.now text.now filed.old stack.old height i (opens ∷ word w ∷ lexemes_at text.now i) filed.new stack.new) }
+        → IfSome result (λ _. Gives bundle.now text.old filed.old stack.old (opens ∷ word w ∷ lexemes_of text.old) text.new filed.new stack.new) }
 {
-    let mut top = height;
-    let mut at = past_blanks(text, i);
+    let height = stack.height();
+    text.skip_blanks();
     // No `for`: a turn reads a formula and goes on behind it.
-    while byte_at(text, at) != b')' {
-        let end = pass_formula(bundle, text, filed, stack, top, at, left)?;
-        top += 1;
-        at = past_blanks(text, end);
+    while text.first() != b')' {
+        pass_formula(bundle, text, filed, stack, left)?;
+        text.skip_blanks();
     }
-    if top == height {
+    text.skip();
+    let arguments = stack.above(height);
+    if arguments.len() == 0 {
         return None;
     }
-    let first = half(stack[height], false);
+    let first = half(arguments[0], false);
     if first > 1 {
         return None;
     }
-    apply(bundle, filed, stack, equal_on(symbol, first), height, top)?;
-    Some(at + 1)
+    apply(bundle, filed, stack, equal_on(symbol, first), height)
 }
 
-// The variables of a quantifier from byte i on, its body and its closing bracket.
+// The variables of a quantifier, its body and its closing bracket.
 #[cycle(pass_applied_pass_bound_pass_bracketed_pass_formula_pass_let_pass_quantified)]
 fn pass_quantified(
     bundle: &Bundle,
-    text: &[u8],
+    text: &mut Text<'_>,
     filed: &mut Filed<'_>,
-    stack: &mut [u64; Bundle::LINKS],
-    height: usize,
-    i: usize,
+    stack: &mut Stack,
     left: usize,
-    kind: usize,
-) -> Option<usize>
-    requires { Asks text.now stack.old height i × (is_binder kind ≡ true) × (kind ≤ 4) }
-    ensures { (q : Binder) → kind ≡ number_of (binder q)
-        → IfSome result (GivesUnder bundle.now text.now filed.old stack.old height i q filed.new stack.new) }
+    q: Binder,
+) -> Option<()>
+    ensures { IfSome result (λ _. GivesUnder bundle.now text.old filed.old stack.old (binder_in q) text.new filed.new stack.new) }
 {
-    let at = past_blanks(text, i);
-    if byte_at(text, at) == b')' {
-        let from = past_blanks(text, at + 1);
-        let body = pass_formula(bundle, text, filed, stack, height, from, left)?;
-        return closed_truth(text, stack, height, body);
+    text.skip_blanks();
+    if text.first() == b')' {
+        text.skip();
+        text.skip_blanks();
+        pass_formula(bundle, text, filed, stack, left)?;
+        return closed_truth(text, stack);
     }
     if left == 0 {
         return None;
     }
-    let x = sorted_in(bundle, text, at)?;
-    let body = pass_quantified(bundle, text, filed, stack, height, x.end, left - 1, kind)?;
-    place_bound(filed, stack, height, kind, x.variable)?;
-    Some(body)
+    let x = sorted_in(bundle, text)?;
+    pass_quantified(bundle, text, filed, stack, left - 1, q)?;
+    place_bound(filed, stack, q, x)
 }
 
-// A pair of a let at byte i, whose variable is not among those of the pairs from `height` to before `top`.
+// A pair of a let, whose variable is not among those of the pairs above a height.
 #[cycle(pass_applied_pass_bound_pass_bracketed_pass_formula_pass_let_pass_quantified)]
 fn pass_bound(
     bundle: &Bundle,
-    text: &[u8],
+    text: &mut Text<'_>,
     filed: &mut Filed<'_>,
-    stack: &mut [u64; Bundle::LINKS],
+    stack: &mut Stack,
     height: usize,
-    top: usize,
-    i: usize,
     left: usize,
-) -> Option<usize>
-    requires { Asks text.now stack.old top i × (height ≤ top) }
-    ensures { IfSome result (GivesBound bundle.now text.now filed.old stack.old height top i filed.new stack.new) }
+) -> Option<()>
+    requires { height ≤ length stack.old }
+    ensures { IfSome result (λ _. GivesBound bundle.now text.old filed.old stack.old height text.new filed.new stack.new) }
 {
-    let x = bound_in(bundle, text, i)?;
-    if !is_new(&stack[height..top], x.variable) {
+    let x = bound_in(bundle, text)?;
+    if !is_new(stack.above(height), x) {
         return None;
     }
-    let end = pass_formula(bundle, text, filed, stack, top, x.end, left)?;
-    name_pair(bundle, text, stack, top, x.variable, end)
+    pass_formula(bundle, text, filed, stack, left)?;
+    name_pair(bundle, text, stack, x)
 }
 
-// The pairs of a let from byte i on, its body and its closing bracket.
+// The pairs of a let, its body and its closing bracket.
 #[cycle(pass_applied_pass_bound_pass_bracketed_pass_formula_pass_let_pass_quantified)]
 fn pass_let(
     bundle: &Bundle,
-    text: &[u8],
+    text: &mut Text<'_>,
     filed: &mut Filed<'_>,
-    stack: &mut [u64; Bundle::LINKS],
-    height: usize,
-    i: usize,
+    stack: &mut Stack,
     left: usize,
-) -> Option<usize>
-    requires { Asks text.now stack.old height i }
-    ensures { (ls : List Lexeme) → lexemes_at text.now i ≡ opens ∷ ls
-        → IfSome result (Gives bundle.now text.now filed.old stack.old height i
-        (opens ∷ word letting ∷ opens ∷ lexemes_at text.now i) filed.new stack.new) }
+) -> Option<()>
+    ensures { (ls : List Lexeme) → lexemes_of text.old ≡ opens ∷ ls
+        → IfSome result (λ _. Gives bundle.now text.old filed.old stack.old (opens ∷ word letting ∷ opens ∷ lexemes_of text.old) text.new filed.new stack.new) }
 {
-    let mut top = height;
-    let mut at = past_blanks(text, i);
+    let height = stack.height();
+    text.skip_blanks();
     // No `for`: a turn reads a pair and goes on behind it.
-    while byte_at(text, at) != b')' {
-        let end = pass_bound(bundle, text, filed, stack, height, top, at, left)?;
-        top += 1;
-        at = past_blanks(text, end);
+    while text.first() != b')' {
+        pass_bound(bundle, text, filed, stack, height, left)?;
+        text.skip_blanks();
     }
-    let from = past_blanks(text, at + 1);
-    let body = pass_formula(bundle, text, filed, stack, top, from, left)?;
-    place_named(text, filed, stack, height, top, body)
+    text.skip();
+    text.skip_blanks();
+    pass_formula(bundle, text, filed, stack, left)?;
+    place_named(text, filed, stack, height)
 }

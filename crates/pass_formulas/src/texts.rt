@@ -5,21 +5,25 @@ ghost use Rattle.pass_formulas.specs.PassGives.{TextRead};
 use super::one_pass::pass_formula;
 use bundle::Bundle;
 use filing::Filed;
-use pass_tokens::blanks::past_blanks;
+use pass_terms::stack::Stack;
+use pass_tokens::Text;
 use scratch::pairs::half;
 
 // The term of a text's formula, of the sort truth, whose records are appended to those in the scratch.
 pub fn pass_text(bundle: &Bundle, text: &[u8], filed: &mut Filed<'_>) -> Option<usize>
     ensures { IfSome result (TextRead bundle.now text.now filed.old filed.new) }
 {
-    let mut stack = [0u64; Bundle::LINKS];
-    let start = past_blanks(text, 0);
-    let end = pass_formula(bundle, text, filed, &mut stack, 0, start, Bundle::TERMS)?;
-    if past_blanks(text, end) < text.len() {
+    let mut rest = Text::of(text);
+    let mut stack = Stack::empty();
+    rest.skip_blanks();
+    pass_formula(bundle, &mut rest, filed, &mut stack, Bundle::TERMS)?;
+    rest.skip_blanks();
+    if !rest.is_empty() {
         return None;
     }
-    if half(stack[0], false) != 0 {
+    let formula = stack.top()?;
+    if half(formula, false) != 0 {
         return None;
     }
-    Some(half(stack[0], true))
+    Some(half(formula, true))
 }

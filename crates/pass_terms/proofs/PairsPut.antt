@@ -1,33 +1,55 @@
 -- From a placement, and its pair on the stack, to what is promised of both.
---     laid_kept                  a pair that is laid on the stack leaves what is below it
---     laid_put                   the pair of a placement
-use mathlib.Core.Path.{◌≡◌, refl, sym, ap, ◌∙◌, subst}
+--     laid_put                                         the pair of a placement
+--     application_put, alone_put, binder_put, let_put  what each function puts
+use Prim.Native.Nat.{ℕ}
+use mathlib.Core.Path.{◌≡◌, refl, ap, ◌∙◌}
 use mathlib.Core.Bool.{true, false}
-use mathlib.Core.List.{List}
-use Prim.Native.Nat.{ℕ, ◌<◌}
-use native.Mathlib.Omega.{arith}
-use lib.ListN.{length, get_or}
-use lib.Seq.{get_or-set_same}
+use mathlib.Core.List.{List, [], ◌∷◌, ◌++◌}
+use lib.ListN.{length, take, drop}
+use lib.Seq.{take-length, drop-length}
 use Rattle.std.specs.Prelude.{Some}
 use Rattle.bundle.specs.Bundle.{Bundle}
-use Rattle.scratch.specs.Stack.{half_of}
-use Rattle.expansion.specs.Placed.{PlacedTerm}
-use Rattle.placing.specs.Outcomes.{PlaceOutcome, StackKept}
+use Rattle.logic.specs.Named.{binder_in}
+use Rattle.logic.specs.Symbols.{signature_of, result_sort, truth_sort}
+use Rattle.logic.specs.declared.kinds.Binder.{Binder}
+use Rattle.scratch.specs.Stack.{half_of, halves_of}
+use Rattle.expansion.specs.Placed.{PlacedTerm, place_application, place_binder, place_let}
+use Rattle.placing.specs.Outcomes.{PlaceOutcome}
 use Rattle.placing.proofs.OutcomeFacts.{outcome_done}
-use Rattle.placing.proofs.Pairs.{below_set}
-use Rattle.pass_terms.specs.Passing.{PairPut, Laid}
+use Rattle.reading.specs.Local.{accepts}
+use Rattle.pass_tokens.specs.Tokens.{Closed}
+use Rattle.pass_terms.specs.Passing.{PairPut, Laid, ApplicationPut, BinderPut, LetPut}
 
-module _ {st st' : List ℕ} {h n s : ℕ} (l : Laid st h n s st') where
-  pub laid_kept : StackKept st st' h
-  laid_kept = subst (λ (x : List ℕ). StackKept st x h) (sym l.stored) (below_set st h h l.pair (omega arith))
+pub laid_put : {p : PlacedTerm} {b' : Bundle} {st st' : List ℕ} {n s s' : ℕ} → PlaceOutcome p b' (Some n) → s ≡ s' → Laid st n s st' → PairPut p s' st b' st'
+laid_put o same l =
+    let d = outcome_done o refl in
+    record { bundle = d.bundle; laid = record { pair = l.pair; upper = l.upper ∙ d.value; lower = l.lower ∙ same; stacked = l.stacked } }
 
-  pub laid_put : {p : PlacedTerm} {b' : Bundle} → PlaceOutcome p b' (Some n) → h < length st → {s' : ℕ} → s ≡ s' → PairPut p s' h b' st'
-  laid_put o high same =
-      let d = outcome_done o refl in
-      let there : get_or st' h 0 ≡ l.pair = ap (λ (x : List ℕ). get_or x h 0) l.stored ∙ get_or-set_same st h l.pair 0 high in
-      record {
-        room = l.room;
-        bundle = d.bundle;
-        term = ap (half_of true) there ∙ l.upper ∙ d.value;
-        sort = ap (half_of false) there ∙ l.lower ∙ same;
-      }
+module _ {b b' : Bundle} {st st' : List ℕ} where
+  module _ {D : Bundle} {h f : ℕ} where
+    pub application_put : {pairs cut : List ℕ} {n s : ℕ} → accepts D f (halves_of false (drop h st)) ≡ true → pairs ≡ drop h st → cut ≡ take h st
+        → PlaceOutcome (place_application b f (halves_of true pairs)) b' (Some n) → s ≡ result_sort D (signature_of D f) → Laid cut n s st'
+        → ApplicationPut D b st f h b' st'
+    application_put taken above below o same l = record { takes = taken; put = rw (← above, ← below) (laid_put o same l) }
+
+    -- with no argument
+    pub alone_put : h ≡ length st → ApplicationPut D b st f h b' st'
+        → (accepts D f [] ≡ true) × PairPut (place_application b f []) (result_sort D (signature_of D f)) st b' st'
+    alone_put e p =
+        let none : drop h st ≡ [] = ap (λ (n : ℕ). drop n st) e ∙ drop-length st in
+        let whole : take h st ≡ st = ap (λ (n : ℕ). take n st) e ∙ take-length st in
+        (rw none at p.takes, rw (none, whole) at p.put)
+
+  pub binder_put : (below : List ℕ) (body : ℕ) {q : Binder} {x half n : ℕ} → st ≡ below ++ (body ∷ []) → half ≡ half_of true body
+      → PlaceOutcome (place_binder b (binder_in q) x half) b' (Some n) → Laid below n truth_sort st' → BinderPut b st q x b' st'
+  binder_put below body {q} {x} stacked upper o l =
+      let put : PairPut (place_binder b (binder_in q) x (half_of true body)) truth_sort below b' st' = rw (← upper) (laid_put o refl l) in
+      record { body = body; top = record { below = below; stacked = stacked }; put = put }
+
+  pub let_put : (below : List ℕ) (body : ℕ) {text rest pairs cut : List ℕ} {h half n s : ℕ} → Closed text rest → st ≡ below ++ (body ∷ []) → half ≡ half_of true body
+      → pairs ≡ drop h below → PlaceOutcome (place_let b (halves_of false pairs) (halves_of true pairs) half) b' (Some n) → cut ≡ take h below
+      → s ≡ half_of false body → Laid cut n s st' → LetPut text b st h rest b' st'
+  let_put below body {h = h} closed stacked upper above o under same l =
+      let put : PairPut (place_let b (halves_of false (drop h below)) (halves_of true (drop h below)) (half_of true body)) (half_of false body)
+      (take h below) b' st' = rw (← above, ← upper, ← under) (laid_put o same l) in
+      record { closed = closed; body = body; top = record { below = below; stacked = stacked }; put = put }

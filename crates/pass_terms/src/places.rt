@@ -1,42 +1,36 @@
 // Words, heads and variables of a text beside declarations.
-ghost use Rattle.std.specs.Prelude.{◌≤◌, length};
-ghost use Rattle.pass_tokens.specs.Tokens.{WordAt, HeadAt, BoundAt};
-ghost use Rattle.pass_terms.specs.Passing.{DeclaredAt};
+ghost use Rattle.std.specs.Prelude.{IfSome, length};
+ghost use Rattle.pass_tokens.specs.Tokens.{WordTo, HeadTo, BoundTo};
+ghost use Rattle.pass_terms.specs.Passing.{DeclaredTo};
 
 use bundle::Bundle;
-use pass_tokens::places::{bound_at, head_at, sorted_at};
-use pass_tokens::words::word_at;
-use pass_tokens::{Bound, Sorted, Token};
+use pass_tokens::{Meaning, Text};
 
-pub fn word_in(bundle: &Bundle, text: &[u8], i: usize) -> Option<Token>
-    requires { i ≤ length text.now }
-    ensures { WordAt (length bundle.now.symbols) (length bundle.now.variables) text.now i result }
+pub fn word_in(bundle: &Bundle, text: &mut Text<'_>) -> Option<Meaning>
+    ensures { IfSome result (WordTo (length bundle.now.symbols) (length bundle.now.variables) text.old text.new) }
 {
-    word_at(text, bundle.symbols(), bundle.variables(), i)
+    text.word(bundle.symbols(), bundle.variables())
 }
 
-pub fn head_in(bundle: &Bundle, text: &[u8], i: usize) -> Option<Token>
-    requires { i ≤ length text.now }
-    ensures { HeadAt (length bundle.now.symbols) text.now i result }
+pub fn head_in(bundle: &Bundle, text: &mut Text<'_>) -> Option<Meaning>
+    ensures { IfSome result (HeadTo (length bundle.now.symbols) text.old text.new) }
 {
-    head_at(text, bundle.symbols(), bundle.variables(), i)
+    text.head(bundle.symbols(), bundle.variables())
 }
 
-pub fn bound_in(bundle: &Bundle, text: &[u8], i: usize) -> Option<Bound>
-    requires { i ≤ length text.now }
-    ensures { BoundAt (length bundle.now.variables) text.now i result }
+pub fn bound_in(bundle: &Bundle, text: &mut Text<'_>) -> Option<usize>
+    ensures { IfSome result (BoundTo (length bundle.now.variables) text.old text.new) }
 {
-    bound_at(text, bundle.symbols(), bundle.variables(), i)
+    text.bound(bundle.symbols(), bundle.variables())
 }
 
 // A variable of a quantifier's list, with its declared sort.
-pub fn sorted_in(bundle: &Bundle, text: &[u8], i: usize) -> Option<Sorted>
-    requires { i ≤ length text.now }
-    ensures { DeclaredAt bundle.now text.now i result }
+pub fn sorted_in(bundle: &Bundle, text: &mut Text<'_>) -> Option<usize>
+    ensures { IfSome result (DeclaredTo bundle.now text.old text.new) }
 {
-    let x = sorted_at(text, bundle.symbols(), bundle.variables(), i)?;
-    if bundle.variable_sort(x.variable) != x.sort {
+    let x = text.sorted(bundle.symbols(), bundle.variables())?;
+    if bundle.variable_sort(x.variable) != x.sort.number() {
         return None;
     }
-    Some(x)
+    Some(x.variable)
 }

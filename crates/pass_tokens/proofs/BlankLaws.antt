@@ -1,23 +1,23 @@
 -- Laws of white space, comments and brackets, byte by byte.
 --     line_start, line_on, line_feed, line_return, line_past   a comment up to its line's end, as `blanks::line_end` goes over it
---     blanks_start, on_space, on_other, comment_on              white space and comments, as `blanks::past_blanks` goes over them
---     seen_byte, opens_at, closes_at                           a byte that stands there; brackets
---     closed                                                   the answer of `blanks::closed_at`
+--     Skipping, blanks_start, on_space, on_other, comment_on    white space and comments, as `skip_blanks` goes over them
+--     skipped                                                   what is left behind them
+--     opens_next, closes_next                                   brackets
 use Prim.Native.Nat.{ℕ, suc, ◌+◌, ◌≤◌, ◌<◌}
 use native.Mathlib.Omega.{arith}
 use native.Mathlib.Numerals.{add-one}
 use mathlib.Core.Path.{◌≡◌, refl, sym, ap, ◌∙◌}
 use mathlib.Core.Bool.{Bool, true, false, cond, not, ◌&&◌, ◌||◌, false≢true}
 use mathlib.Core.Logic.{◌⊎◌, inl, inr}
-use mathlib.Core.List.{List, ◌∷◌, ◌++◌}
-use lib.ListN.{length, get_or, drop, get_or-eq_default}
-use lib.Dec.{eqb, leb, ltb}
-use borrow.Author.Tests.{eqb-true, ne_eqb, ltb-true, ltb-false}
+use mathlib.Core.List.{List, [], ◌∷◌, ◌++◌}
+use lib.ListN.{length, get_or, drop, length-drop}
+use lib.Dec.{eqb, leb}
+use borrow.Author.Tests.{eqb-true, ne_eqb}
 use Rattle.grammar.specs.Bytes.{Class, space, lineEnd, semicolon, opening, closing, digit, symbol, other, is_symbol, class_of}
-use Rattle.grammar.specs.Grammar.{opens, closes, Mode, between, comment, bracket, ends, outside, onwards, last, lexemes_from}
-use Rattle.lexing.specs.Lexes.{lexemes_at}
+use Rattle.grammar.specs.Grammar.{Lexeme, opens, closes, Mode, between, comment, bracket, ends, outside, onwards, last, lexemes_from}
+use Rattle.lexing.specs.Lexes.{lexemes_of, lexemes_at}
 use Rattle.lexing.proofs.SkipLaws.{step, past}
-use Rattle.pass_tokens.specs.Tokens.{LineEnd, Blanks, ClosedTo}
+use Rattle.pass_tokens.specs.Tokens.{LineEnd, Blanks}
 
 -- one byte of a known class
 module _ (text : List ℕ) (j : ℕ) (l : j < length text) (m : Mode) (k : Class) where
@@ -83,11 +83,20 @@ module _ (text : List ℕ) (i j : ℕ) (h : Commenting text i j) where
 
 -- ---- white space and comments
 
-pub blanks_start : (text : List ℕ) (i : ℕ) → i ≤ length text → Blanks text i i
+-- they stand from i up to j
+pub record Skipping (text : List ℕ) (i j : ℕ) : Type 0 where
+  pub after : i ≤ j
+  pub inside : j ≤ length text
+  pub same : lexemes_at text i ≡ lexemes_at text j
+
+pub skipped : {text : List ℕ} {i j : ℕ} → Skipping text i j → Blanks (drop i text) (drop j text)
+skipped {text} {i} {j} h = record { fewer = omega (arith, length-drop i text, length-drop j text, h.after); same = h.same }
+
+pub blanks_start : (text : List ℕ) (i : ℕ) → i ≤ length text → Skipping text i i
 blanks_start text i l = record { after = omega arith; inside = l; same = refl }
 
-module _ (text : List ℕ) (i j : ℕ) (h : Blanks text i j) (l : j < length text) where
-  space_on : (k : Class) → (k ≡ space) ⊎ (k ≡ lineEnd) → class_of (get_or text j 0) ≡ k → Blanks text i (j + 1)
+module _ (text : List ℕ) (i j : ℕ) (h : Skipping text i j) (l : j < length text) where
+  space_on : (k : Class) → (k ≡ space) ⊎ (k ≡ lineEnd) → class_of (get_or text j 0) ≡ k → Skipping text i (j + 1)
   unfolding ends onwards bracket outside
   space_on k s e =
       rw (add-one j) (record {
@@ -100,33 +109,33 @@ module _ (text : List ℕ) (i j : ℕ) (h : Blanks text i j) (l : j < length tex
       go (inl f) = rw f
       go (inr f) = rw f
 
-  pub on_space : get_or text j 0 ≡ 32 → Blanks text i (j + 1)
+  pub on_space : get_or text j 0 ≡ 32 → Skipping text i (j + 1)
   unfolding class_of
   on_space e = space_on space (inl refl) (ap class_of e)
 
-  on_tab : get_or text j 0 ≡ 9 → Blanks text i (j + 1)
+  on_tab : get_or text j 0 ≡ 9 → Skipping text i (j + 1)
   unfolding class_of
   on_tab e = space_on space (inl refl) (ap class_of e)
 
-  on_feed : get_or text j 0 ≡ 10 → Blanks text i (j + 1)
+  on_feed : get_or text j 0 ≡ 10 → Skipping text i (j + 1)
   unfolding class_of
   on_feed e = space_on lineEnd (inr refl) (ap class_of e)
 
-  on_return : get_or text j 0 ≡ 13 → Blanks text i (j + 1)
+  on_return : get_or text j 0 ≡ 13 → Skipping text i (j + 1)
   unfolding class_of
   on_return e = space_on lineEnd (inr refl) (ap class_of e)
 
-  pub on_other : ((not (eqb (get_or text j 0) 10) && not (eqb (get_or text j 0) 13)) && not (eqb (get_or text j 0) 9)) ≡ false → Blanks text i (j + 1)
+  pub on_other : ((not (eqb (get_or text j 0) 10) && not (eqb (get_or text j 0) 13)) && not (eqb (get_or text j 0) 9)) ≡ false → Skipping text i (j + 1)
   on_other e = go (eqb (get_or text j 0) 10) (eqb (get_or text j 0) 13) (eqb (get_or text j 0) 9) refl refl refl e
     where
       go : (p q r : Bool) → eqb (get_or text j 0) 10 ≡ p → eqb (get_or text j 0) 13 ≡ q → eqb (get_or text j 0) 9 ≡ r → ((not p && not q) && not r) ≡ false
-          → Blanks text i (j + 1)
+          → Skipping text i (j + 1)
       go true q r a b c f = on_feed (eqb-true (get_or text j 0) 10 a)
       go false true r a b c f = on_return (eqb-true (get_or text j 0) 13 b)
       go false false true a b c f = on_tab (eqb-true (get_or text j 0) 9 c)
       go false false false a b c f = absurd (false≢true (sym f))
 
-  pub comment_on : (r : ℕ) → get_or text j 0 ≡ 59 → LineEnd text (j + 1) r → Blanks text i r
+  pub comment_on : (r : ℕ) → get_or text j 0 ≡ 59 → LineEnd text (j + 1) r → Skipping text i r
   unfolding ends onwards bracket outside class_of
   comment_on r e f = record {
     after = omega (arith, h.after, f.after);
@@ -136,27 +145,25 @@ module _ (text : List ℕ) (i j : ℕ) (h : Blanks text i j) (l : j < length tex
 
 -- ---- brackets
 
--- a byte that is not 0 is in the text
-pub seen_byte : (text : List ℕ) (i c : ℕ) → get_or text i 0 ≡ c → 0 < c → i < length text
-seen_byte text i c e p = go (ltb i (length text)) refl
-  where
-    go : (b : Bool) → ltb i (length text) ≡ b → i < length text
-    go true t = ltb-true i (length text) t
-    go false t = absurd (omega (arith, e, p, get_or-eq_default text 0 {n = i} (ltb-false i (length text) t)))
+-- a text whose first byte is not 0 has one
+some_byte : (text : List ℕ) (c : ℕ) → get_or text 0 0 ≡ c → 0 < c → 0 < length text
+some_byte [] c e p = absurd (omega (arith, e, p))
+some_byte (x ∷ xs) c e p = omega arith
 
-pub opens_at : (text : List ℕ) (i : ℕ) → get_or text i 0 ≡ 40 → (i < length text) × (lexemes_at text i ≡ opens ∷ lexemes_at text (i + 1))
+-- there is a byte, and behind it the others
+pub record ByteNext (l : Lexeme) (text : List ℕ) : Type 0 where
+  pub some : 0 < length text
+  pub fewer : length (drop 1 text) < length text
+  pub next : lexemes_of text ≡ l ∷ lexemes_of (drop 1 text)
+
+pub opens_next : (text : List ℕ) → get_or text 0 0 ≡ 40 → ByteNext opens text
 unfolding ends onwards bracket outside class_of
-opens_at text i e =
-    let l = seen_byte text i 40 e (omega arith) in
-    (l, rw (add-one i) (step_class text i l between opening (ap class_of e)))
+opens_next text e =
+    let l = some_byte text 40 e (omega arith) in
+    record { some = l; fewer = omega (arith, length-drop 1 text); next = step_class text 0 l between opening (ap class_of e) }
 
-pub closes_at : (text : List ℕ) (i : ℕ) → get_or text i 0 ≡ 41 → (i < length text) × (lexemes_at text i ≡ closes ∷ lexemes_at text (i + 1))
+pub closes_next : (text : List ℕ) → get_or text 0 0 ≡ 41 → ByteNext closes text
 unfolding ends onwards bracket outside class_of
-closes_at text i e =
-    let l = seen_byte text i 41 e (omega arith) in
-    (l, rw (add-one i) (step_class text i l between closing (ap class_of e)))
-
-pub closed : (text : List ℕ) (i j : ℕ) → Blanks text i j → get_or text j 0 ≡ 41 → ClosedTo text i (j + 1)
-closed text i j h e =
-    let f = closes_at text j e in
-    record { further = omega (arith, h.after); inside = omega (arith, f.0); closed = h.same ∙ f.1 }
+closes_next text e =
+    let l = some_byte text 41 e (omega arith) in
+    record { some = l; fewer = omega (arith, length-drop 1 text); next = step_class text 0 l between closing (ap class_of e) }

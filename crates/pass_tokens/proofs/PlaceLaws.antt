@@ -1,46 +1,66 @@
 -- The answers of `places`.
 --     head_list     the head of a formula, after which a list opens
 --     bound         a variable of a let's list
-use Prim.Native.Nat.{ℕ, ◌+◌}
+--     sorted        a variable of a quantifier's list
+use Prim.Native.Nat.{ℕ}
 use native.Mathlib.Omega.{arith}
 use mathlib.Core.Path.{◌≡◌, ap, ◌∙◌}
 use mathlib.Core.Logic.{◌⊎◌, inl, inr}
 use mathlib.Core.List.{List, ◌∷◌}
-use lib.ListN.{get_or}
-use Rattle.grammar.specs.Bytes.{quantifier, letting, name}
-use Rattle.grammar.specs.Grammar.{opens, word}
-use Rattle.lexing.specs.Lexes.{lexemes_at}
-use Rattle.pass_tokens.specs.declared.Meaning.TheVariants.{Variable, Binder, Let}
-use Rattle.pass_tokens.specs.declared.Token.{Token}
-use Rattle.pass_tokens.specs.Tokens.{Blanks, WordTo, Heads, HeadTo, BoundTo}
-use Rattle.pass_tokens.proofs.BlankLaws.{opens_at}
+use lib.ListN.{get_or, drop}
+use Rattle.logic.specs.declared.kinds.Binder.{Binder as BinderName}
+use Rattle.logic.specs.Named.{binder_in}
+use Rattle.grammar.specs.Bytes.{quantifier, letting, sort, name}
+use Rattle.grammar.specs.Grammar.{Lexeme, opens, closes, word}
+use Rattle.lexing.specs.Lexes.{lexemes_of}
+use Rattle.lexing.specs.Words.{sort_in}
+use Rattle.lexing.specs.declared.words.SortWord.{SortWord}
+use Rattle.pass_tokens.specs.declared.Meaning.{Meaning}
+use Rattle.pass_tokens.specs.declared.Meaning.TheVariants.{Variable, Binder, Let, Sort}
+use Rattle.pass_tokens.specs.Tokens.{Blanks, Opened, Closed, WordTo, Heads, HeadTo, SortedTo, BoundTo}
+use Rattle.pass_tokens.proofs.BlankLaws.{opens_next}
 
-module _ (symbols variables : ℕ) (text : List ℕ) (i f : ℕ) (b : Blanks text i f) (t : Token) (h : WordTo symbols variables text f t) where
-  -- a list opens at o, and its first part at p
-  module _ (o p : ℕ) (k : Blanks text t.end o) (a : get_or text o 0 ≡ 40) (m : Blanks text (o + 1) p) (d : get_or text p 0 ≡ 40) where
-    rest : lexemes_at text t.end ≡ opens ∷ lexemes_at text p
-    rest = k.same ∙ (opens_at text o a).1 ∙ ap (λ xs. opens ∷ xs) m.same
+-- the texts as they are read: t₀ has the head behind white space, and another list opens in t₃
+module _ (symbols variables : ℕ) {t₀ t t₁ t₂ t₃ : List ℕ} {m : Meaning} (b : Blanks t₀ t) (h : WordTo symbols variables t t₁ m) (k : Blanks t₁ t₂)
+    (o : Opened t₂ t₃) (next : get_or t₃ 0 0 ≡ 40) where
+  rest : lexemes_of t₁ ≡ opens ∷ lexemes_of t₃
+  rest = k.same ∙ o.opened
 
-    opened : ((n : ℕ) × (t.meaning ≡ Binder n)) ⊎ (t.meaning ≡ Let) → Heads symbols text i p t.meaning
-    opened (inl q) =
-        let v = rw q.1 at h.means in
-        rw q.1 (v.0, lexemes_at text (p + 1), b.same ∙ v.1 ∙ ap (λ xs. word (quantifier v.0) ∷ xs) rest, v.2, (opens_at text p d).1)
-    opened (inr q) = rw q (lexemes_at text (p + 1), b.same ∙ (rw q at h.means) ∙ ap (λ xs. word letting ∷ xs) rest, (opens_at text p d).1)
+  opened : ((q : BinderName) × (m ≡ Binder q)) ⊎ (m ≡ Let) → Heads symbols t₀ t₃ m
+  opened (inl (q, e)) =
+      let said = rw e at h.means in
+      rw e
+      (lexemes_of (drop 1 t₃), b.same ∙ said ∙ ap (λ (ls : List Lexeme). word (quantifier (binder_in q)) ∷ ls) rest, (opens_next t₃ next).next)
+  opened (inr e) =
+      let said = rw e at h.means in
+      rw e (lexemes_of (drop 1 t₃), b.same ∙ said ∙ ap (λ (ls : List Lexeme). word letting ∷ ls) rest, (opens_next t₃ next).next)
 
-    pub head_list : ((n : ℕ) × (t.meaning ≡ Binder n)) ⊎ (t.meaning ≡ Let) → HeadTo symbols text i (record { meaning = t.meaning; end = p })
-    head_list q = record { further = omega (arith, b.after, h.further, k.after, m.after); inside = m.inside; heads = opened q }
+  pub head_list : ((q : BinderName) × (m ≡ Binder q)) ⊎ (m ≡ Let) → HeadTo symbols t₀ t₃ m
+  head_list e = record { fewer = omega (arith, b.fewer, h.fewer, k.fewer, o.fewer); heads = opened e }
 
-module _ (symbols variables : ℕ) (text : List ℕ) (i : ℕ) (starts : get_or text i 0 ≡ 40) (a : ℕ) (b : Blanks text (i + 1) a) (x : Token)
-    (h : WordTo symbols variables text a x) where
-  pub bound : (n : ℕ) → x.meaning ≡ Variable n → (o : ℕ) → Blanks text x.end o → BoundTo variables text i (record { variable = n; end = o })
-  bound n e o k =
+module _ (symbols variables : ℕ) {t₀ t₁ t₂ t₃ : List ℕ} {m : Meaning} where
+  pub bound : Opened t₀ t₁ → WordTo symbols variables t₁ t₂ m → (n : ℕ) → m ≡ Variable n → Blanks t₂ t₃ → BoundTo variables t₀ t₃ n
+  bound o h n e k =
       let v = rw e at h.means in
       record {
-        further = omega (arith, b.after, h.further, k.after);
-        inside = k.inside;
+        fewer = omega (arith, o.fewer, h.fewer, k.fewer);
         small = v.0;
         some = v.1.3;
         called = v.1.0;
-        listed = (opens_at text i starts).1 ∙ ap (λ xs. opens ∷ xs) (b.same ∙ v.1.1 ∙ ap (λ xs. word (name v.1.0) ∷ xs) k.same);
+        listed = o.opened ∙ ap (λ (ls : List Lexeme). opens ∷ ls) (v.1.1 ∙ ap (λ (ls : List Lexeme). word (name v.1.0) ∷ ls) k.same);
         variable = v.1.2;
+      }
+
+  pub sorted : {n : ℕ} → BoundTo variables t₀ t₁ n → WordTo symbols variables t₁ t₂ m → (s : SortWord) → m ≡ Sort s → Closed t₂ t₃
+      → SortedTo variables t₀ t₃ (record { variable = n; sort = s })
+  sorted x h s e z =
+      let said = rw e at h.means in
+      record {
+        fewer = omega (arith, x.fewer, h.fewer, z.fewer);
+        small = x.small;
+        some = x.some;
+        called = x.called;
+        listed = x.listed
+            ∙ ap (λ (ls : List Lexeme). opens ∷ word (name x.called) ∷ ls) (said ∙ ap (λ (ls : List Lexeme). word (sort (sort_in s)) ∷ ls) z.closed);
+        variable = x.variable;
       }

@@ -15,23 +15,23 @@ use Rattle.std.proofs.lemmas.Option.{IfSome_then}
 use Rattle.bundle.specs.Limits.{limits}
 use Rattle.bundle.specs.Lists.{each, same_list}
 use Rattle.logic.specs.Tests.{up_to}
-use Rattle.logic.specs.Terms.{forAll, exists}
+use Rattle.logic.specs.declared.kinds.Binder.TheVariants.{ForAll, Exists}
 use Rattle.logic.proofs.Tests.{up_to_lem, and_left, and_right, and_both}
-use Rattle.grammar.specs.Bytes.{Word, conjunction, disjunction, implication, equality, bool, item, constant, negation, connective}
+use Rattle.grammar.specs.Bytes.{Word, conjunction, disjunction, implication, equality, constant, negation, connective}
 use Rattle.grammar.specs.Bytes.{name, bytes, class_of, twelve, word_of}
 use Rattle.grammar.specs.Grammar.{word}
 use Rattle.reading.specs.Called.{decimal, is_digit, is_numeral, number_after}
-use Rattle.reading.specs.Typing.{sort_number}
 use Rattle.lexing.specs.Codes.{class_code}
 use Rattle.lexing.specs.Counted.{number_within}
 use Rattle.lexing.specs.Lexes.{part, lexemes_at}
+use Rattle.lexing.specs.declared.words.SortWord.TheVariants.{Bool, Item}
 use Rattle.heads.specs.HeadSymbols.{symbol_for}
 use Rattle.heads.proofs.WordCases.{word_cases}
 use Rattle.pass_tokens.specs.declared.Meaning.{Meaning}
 use Rattle.pass_tokens.specs.declared.Meaning.TheVariants.{Variable, Symbol, Binder, Let, Sort}
-use Rattle.pass_tokens.specs.declared.Token.{Token}
+use Rattle.pass_tokens.specs.declared.words.Token.{Token}
 use Rattle.pass_tokens.specs.declared.words.Digits.{Digits}
-use Rattle.pass_tokens.specs.Tokens.{goes_on, equal_on, RunStops, DigitsTo, WordIf, Means, WordTo, WordAt}
+use Rattle.pass_tokens.specs.Tokens.{goes_on, equal_on, RunStops, DigitsTo, WordIf, Means, TokenTo, WordAt}
 use Rattle.pass_tokens.proofs.RunLaws.{is_run, run_stands, part_cons}
 
 -- ---- the twelve words
@@ -39,7 +39,7 @@ use Rattle.pass_tokens.proofs.RunLaws.{is_run, run_stands, part_cons}
 module _ (symbols variables : ℕ) (text : List ℕ) (s : ℕ) where
   -- the word w, which means m
   said : (w : List ℕ) (m : Meaning) → is_run w ≡ true → 0 < length w
-      → (lexemes_at text s ≡ word (word_of w) ∷ lexemes_at text (s + length w) → Means symbols variables text s (s + length w) m) → (r : Option Token)
+      → (lexemes_at text s ≡ word (word_of w) ∷ lexemes_at text (s + length w) → Means symbols variables (drop s text) (drop (s + length w) text) m) → (r : Option Token)
       → WordIf text s w m r → WordAt symbols variables text s r
   said w m run some means r h =
       IfSome_then r h (λ t p.
@@ -83,25 +83,25 @@ module _ (symbols variables : ℕ) (text : List ℕ) (s : ℕ) where
   unfolding bytes each class_code class_of word_of same_list
   word_equals = said (bytes "=") (Symbol 7) refl (omega arith) (λ l. (omega arith, (connective equality, l, equal, λ z. omega arith)))
 
-  pub word_forall : (r : Option Token) → WordIf text s (bytes "forall") (Binder 3) r → WordAt symbols variables text s r
+  pub word_forall : (r : Option Token) → WordIf text s (bytes "forall") (Binder ForAll) r → WordAt symbols variables text s r
   unfolding bytes each class_code class_of word_of same_list
-  word_forall = said (bytes "forall") (Binder 3) refl (omega arith) (λ l. (forAll, l, refl))
+  word_forall = said (bytes "forall") (Binder ForAll) refl (omega arith) (λ l. l)
 
-  pub word_exists : (r : Option Token) → WordIf text s (bytes "exists") (Binder 4) r → WordAt symbols variables text s r
+  pub word_exists : (r : Option Token) → WordIf text s (bytes "exists") (Binder Exists) r → WordAt symbols variables text s r
   unfolding bytes each class_code class_of word_of same_list
-  word_exists = said (bytes "exists") (Binder 4) refl (omega arith) (λ l. (exists, l, refl))
+  word_exists = said (bytes "exists") (Binder Exists) refl (omega arith) (λ l. l)
 
   pub word_let : (r : Option Token) → WordIf text s (bytes "let") Let r → WordAt symbols variables text s r
   unfolding bytes each class_code class_of word_of same_list
   word_let = said (bytes "let") Let refl (omega arith) (λ l. l)
 
-  pub word_bool : (r : Option Token) → WordIf text s (bytes "Bool") (Sort 0) r → WordAt symbols variables text s r
-  unfolding bytes each class_code class_of word_of same_list sort_number
-  word_bool = said (bytes "Bool") (Sort 0) refl (omega arith) (λ l. (bool, l, refl))
+  pub word_bool : (r : Option Token) → WordIf text s (bytes "Bool") (Sort Bool) r → WordAt symbols variables text s r
+  unfolding bytes each class_code class_of word_of same_list
+  word_bool = said (bytes "Bool") (Sort Bool) refl (omega arith) (λ l. l)
 
-  pub word_item : (r : Option Token) → WordIf text s (bytes "Item") (Sort 1) r → WordAt symbols variables text s r
-  unfolding bytes each class_code class_of word_of same_list sort_number
-  word_item = said (bytes "Item") (Sort 1) refl (omega arith) (λ l. (item, l, refl))
+  pub word_item : (r : Option Token) → WordIf text s (bytes "Item") (Sort Item) r → WordAt symbols variables text s r
+  unfolding bytes each class_code class_of word_of same_list
+  word_item = said (bytes "Item") (Sort Item) refl (omega arith) (λ l. l)
 
 -- ---- a letter and a numeral
 
@@ -159,7 +159,7 @@ within_is letter low high ds n k e v a b = rw (k, e, v, le-leb low n a, le-leb n
 
 module _ (symbols variables : ℕ) (text : List ℕ) (s : ℕ) (n : Digits) (i : s < length text) (stop : RunStops text n.end) where
   pub word_variable : get_or text s 0 ≡ 118 → DigitsTo text (s + 1) variables n → variables ≤ limits.variables
-      → WordTo symbols variables text s (record { meaning = Variable n.value; end = n.end })
+      → TokenTo symbols variables text s (record { meaning = Variable n.value; end = n.end })
   unfolding class_code class_of
   word_variable c h l =
       let ds = part text (s + 1) n.end in
@@ -174,7 +174,7 @@ module _ (symbols variables : ℕ) (text : List ℕ) (s : ℕ) (n : Digits) (i :
       }
 
   pub word_name : get_or text s 0 ≡ 102 → DigitsTo text (s + 1) (32 + symbols) n → symbols ≤ limits.symbols → 32 < n.value
-      → WordTo symbols variables text s (record { meaning = Symbol n.value; end = n.end })
+      → TokenTo symbols variables text s (record { meaning = Symbol n.value; end = n.end })
   unfolding class_code class_of symbol_for
   word_name c h l low =
       let ds = part text (s + 1) n.end in

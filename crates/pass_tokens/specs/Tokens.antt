@@ -1,21 +1,19 @@
--- What stands at a byte of a text, where it is what is due: the lexemes from there on. Nothing is said where it is not.
+-- What stands at the start of a text, where it is what is due: its lexemes, and the bytes that are left behind it. Nothing is said where it is not.
 use Rattle.std.specs.Prelude.{IfSome, ℕ, ◌+◌, ◌≤◌, ◌<◌, ◌≡◌, Bool, true, cond, Option, ◌&&◌, ◌||◌, List, ◌∷◌, length, drop, eqb}
 use Rattle.bundle.specs.Words.{largest_word}
-use Rattle.logic.specs.Terms as terms
-use Rattle.logic.specs.Terms.{binder, number_of}
-use Rattle.grammar.specs.Bytes.{class_of, Word, SortWord, quantifier, letting, sort, name, word_of}
+use Rattle.logic.specs.Named.{binder_in}
+use Rattle.grammar.specs.Bytes.{class_of, Word, quantifier, letting, sort, name, word_of}
 use Rattle.grammar.specs.Grammar.{Lexeme, opens, closes, word, comment, within, lexemes_from}
-use Rattle.reading.specs.Typing.{sort_number}
 use Rattle.reading.specs.Called.{decimal, is_numeral}
 use Rattle.lexing.specs.Codes.{class_code}
 use Rattle.lexing.specs.Counted.{variable_among}
-use Rattle.lexing.specs.Lexes.{part, lexemes_at}
+use Rattle.lexing.specs.Words.{sort_in}
+use Rattle.lexing.specs.Lexes.{part, lexemes_of, lexemes_at}
 use Rattle.heads.specs.HeadSymbols.{symbol_for}
 use Rattle.pass_tokens.specs.declared.Meaning.{Meaning}
 use Rattle.pass_tokens.specs.declared.Meaning.TheVariants.{Variable, Symbol, Binder, Let, Sort}
-use Rattle.pass_tokens.specs.declared.Token.{Token}
 use Rattle.pass_tokens.specs.declared.Sorted.{Sorted}
-use Rattle.pass_tokens.specs.declared.Bound.{Bound}
+use Rattle.pass_tokens.specs.declared.words.Token.{Token}
 use Rattle.pass_tokens.specs.declared.words.Digits.{Digits}
 
 -- ---- white space, comments, brackets
@@ -26,20 +24,19 @@ pub record LineEnd (text : List ℕ) (i r : ℕ) : Type 0 where
   pub inside : r ≤ length text
   pub same : lexemes_from comment (drop i text) ≡ lexemes_at text r
 
--- white space and comments stand from i up to r
-pub record Blanks (text : List ℕ) (i r : ℕ) : Type 0 where
-  pub after : i ≤ r
-  pub inside : r ≤ length text
-  pub same : lexemes_at text i ≡ lexemes_at text r
+-- white space and comments stand before the rest
+pub record Blanks (text rest : List ℕ) : Type 0 where
+  pub fewer : length rest ≤ length text
+  pub same : lexemes_of text ≡ lexemes_of rest
 
--- a closing bracket is next, and ends before e
-pub record ClosedTo (text : List ℕ) (i e : ℕ) : Type 0 where
-  pub further : i < e
-  pub inside : e ≤ length text
-  pub closed : lexemes_at text i ≡ closes ∷ lexemes_at text e
+-- an opening bracket is next, a closing one
+pub record Opened (text rest : List ℕ) : Type 0 where
+  pub fewer : length rest < length text
+  pub opened : lexemes_of text ≡ opens ∷ lexemes_of rest
 
-abbrev pub ClosedAt : List ℕ → ℕ → Option ℕ → Type 0
-ClosedAt text i r = IfSome r (ClosedTo text i)
+pub record Closed (text rest : List ℕ) : Type 0 where
+  pub fewer : length rest < length text
+  pub closed : lexemes_of text ≡ closes ∷ lexemes_of rest
 
 -- ---- words
 
@@ -77,73 +74,63 @@ equal_on f s = cond (eqb f 7 && eqb s 1) 8 f
 abbrev pub WordIf : List ℕ → ℕ → List ℕ → Meaning → Option Token → Type 0
 WordIf text s w m r = IfSome r (λ t. WordStands text s w × (t ≡ record { meaning = m; end = s + length w }))
 
--- What the word from byte i up to before byte e means, where so many symbols and variables are declared.
-abbrev pub Means : (symbols variables : ℕ) (text : List ℕ) (i e : ℕ) → Meaning → Type 0
-Means symbols variables text i e (Variable n) =
-    (n ≤ largest_word) × ((w : List ℕ) × (lexemes_at text i ≡ word (name w) ∷ lexemes_at text e) × (variable_among variables w ≡ n) × (n ≡ 0 → ⊥))
-Means symbols variables text i e (Symbol n) =
+-- What the word before the rest means, where so many symbols and variables are declared.
+abbrev pub Means : (symbols variables : ℕ) (text rest : List ℕ) → Meaning → Type 0
+Means symbols variables text rest (Variable n) =
+    (n ≤ largest_word) × ((w : List ℕ) × (lexemes_of text ≡ word (name w) ∷ lexemes_of rest) × (variable_among variables w ≡ n) × (n ≡ 0 → ⊥))
+Means symbols variables text rest (Symbol n) =
     (n ≤ largest_word)
-    × ((w : Word) × (lexemes_at text i ≡ word w ∷ lexemes_at text e) × ((s : ℕ) → s ≤ 1 → symbol_for symbols w s ≡ equal_on n s) × (n ≡ 0 → ⊥))
-Means symbols variables text i e (Binder k) = (q : terms.Binder) × (lexemes_at text i ≡ word (quantifier q) ∷ lexemes_at text e) × (k ≡ number_of (binder q))
-Means symbols variables text i e Let = lexemes_at text i ≡ word letting ∷ lexemes_at text e
-Means symbols variables text i e (Sort s) = (o : SortWord) × (lexemes_at text i ≡ word (sort o) ∷ lexemes_at text e) × (s ≡ sort_number o)
-
-pub record WordTo (symbols variables : ℕ) (text : List ℕ) (i : ℕ) (t : Token) : Type 0 where
-  pub further : i < t.end
-  pub inside : t.end ≤ length text
-  pub means : Means symbols variables text i t.end t.meaning
+    × ((w : Word) × (lexemes_of text ≡ word w ∷ lexemes_of rest) × ((s : ℕ) → s ≤ 1 → symbol_for symbols w s ≡ equal_on n s) × (n ≡ 0 → ⊥))
+Means symbols variables text rest (Binder q) = lexemes_of text ≡ word (quantifier (binder_in q)) ∷ lexemes_of rest
+Means symbols variables text rest Let = lexemes_of text ≡ word letting ∷ lexemes_of rest
+Means symbols variables text rest (Sort s) = lexemes_of text ≡ word (sort (sort_in s)) ∷ lexemes_of rest
 
 -- The word at byte i.
+pub record TokenTo (symbols variables : ℕ) (text : List ℕ) (i : ℕ) (t : Token) : Type 0 where
+  pub further : i < t.end
+  pub inside : t.end ≤ length text
+  pub means : Means symbols variables (drop i text) (drop t.end text) t.meaning
+
 abbrev pub WordAt : (symbols variables : ℕ) (text : List ℕ) (i : ℕ) → Option Token → Type 0
-WordAt symbols variables text i r = IfSome r (WordTo symbols variables text i)
+WordAt symbols variables text i r = IfSome r (TokenTo symbols variables text i)
+
+-- The word that stands next.
+pub record WordTo (symbols variables : ℕ) (text rest : List ℕ) (m : Meaning) : Type 0 where
+  pub fewer : length rest < length text
+  pub means : Means symbols variables text rest m
 
 -- ---- heads and variables
 
 -- what the head of a formula means, after which a formula's parts stand, or the list of a binder's variables or of a let's pairs, which is not empty
-abbrev pub Heads : (symbols : ℕ) (text : List ℕ) (i e : ℕ) → Meaning → Type 0
-Heads symbols text i e (Variable n) = ⊥
-Heads symbols text i e (Symbol n) =
+abbrev pub Heads : (symbols : ℕ) (text rest : List ℕ) → Meaning → Type 0
+Heads symbols text rest (Variable n) = ⊥
+Heads symbols text rest (Symbol n) =
     (n ≤ largest_word)
-    × ((w : Word) × (lexemes_at text i ≡ word w ∷ lexemes_at text e) × ((s : ℕ) → s ≤ 1 → symbol_for symbols w s ≡ equal_on n s))
-Heads symbols text i e (Binder k) =
-    (q : terms.Binder) × (ls : List Lexeme) × (lexemes_at text i ≡ word (quantifier q) ∷ opens ∷ lexemes_at text e) × (k ≡ number_of (binder q))
-    × (lexemes_at text e ≡ opens ∷ ls)
-Heads symbols text i e Let = (ls : List Lexeme) × (lexemes_at text i ≡ word letting ∷ opens ∷ lexemes_at text e) × (lexemes_at text e ≡ opens ∷ ls)
-Heads symbols text i e (Sort s) = ⊥
+    × ((w : Word) × (lexemes_of text ≡ word w ∷ lexemes_of rest) × ((s : ℕ) → s ≤ 1 → symbol_for symbols w s ≡ equal_on n s))
+Heads symbols text rest (Binder q) =
+    (ls : List Lexeme) × (lexemes_of text ≡ word (quantifier (binder_in q)) ∷ opens ∷ lexemes_of rest) × (lexemes_of rest ≡ opens ∷ ls)
+Heads symbols text rest Let = (ls : List Lexeme) × (lexemes_of text ≡ word letting ∷ opens ∷ lexemes_of rest) × (lexemes_of rest ≡ opens ∷ ls)
+Heads symbols text rest (Sort s) = ⊥
 
 -- The head of a formula, after its opening bracket.
-pub record HeadTo (symbols : ℕ) (text : List ℕ) (i : ℕ) (t : Token) : Type 0 where
-  pub further : i < t.end
-  pub inside : t.end ≤ length text
-  pub heads : Heads symbols text i t.end t.meaning
-
-abbrev pub HeadAt : (symbols : ℕ) (text : List ℕ) (i : ℕ) → Option Token → Type 0
-HeadAt symbols text i r = IfSome r (HeadTo symbols text i)
+pub record HeadTo (symbols : ℕ) (text rest : List ℕ) (m : Meaning) : Type 0 where
+  pub fewer : length rest < length text
+  pub heads : Heads symbols text rest m
 
 -- A variable of a quantifier's list.
-pub record SortedTo (variables : ℕ) (text : List ℕ) (i : ℕ) (x : Sorted) : Type 0 where
-  pub further : i < x.end
-  pub inside : x.end ≤ length text
+pub record SortedTo (variables : ℕ) (text rest : List ℕ) (x : Sorted) : Type 0 where
+  pub fewer : length rest < length text
   pub small : x.variable ≤ largest_word
   pub some : x.variable ≡ 0 → ⊥
   pub called : List ℕ
-  pub said : SortWord
-  pub listed : lexemes_at text i ≡ opens ∷ word (name called) ∷ word (sort said) ∷ closes ∷ lexemes_at text x.end
+  pub listed : lexemes_of text ≡ opens ∷ word (name called) ∷ word (sort (sort_in x.sort)) ∷ closes ∷ lexemes_of rest
   pub variable : variable_among variables called ≡ x.variable
-  pub sort : x.sort ≡ sort_number said
 
-abbrev pub SortedAt : (variables : ℕ) (text : List ℕ) (i : ℕ) → Option Sorted → Type 0
-SortedAt variables text i r = IfSome r (SortedTo variables text i)
-
--- A variable of a let's list, up to its bound formula.
-pub record BoundTo (variables : ℕ) (text : List ℕ) (i : ℕ) (x : Bound) : Type 0 where
-  pub further : i < x.end
-  pub inside : x.end ≤ length text
-  pub small : x.variable ≤ largest_word
-  pub some : x.variable ≡ 0 → ⊥
+-- The variable x of a let's list, up to its bound formula.
+pub record BoundTo (variables : ℕ) (text rest : List ℕ) (x : ℕ) : Type 0 where
+  pub fewer : length rest < length text
+  pub small : x ≤ largest_word
+  pub some : x ≡ 0 → ⊥
   pub called : List ℕ
-  pub listed : lexemes_at text i ≡ opens ∷ word (name called) ∷ lexemes_at text x.end
-  pub variable : variable_among variables called ≡ x.variable
-
-abbrev pub BoundAt : (variables : ℕ) (text : List ℕ) (i : ℕ) → Option Bound → Type 0
-BoundAt variables text i r = IfSome r (BoundTo variables text i)
+  pub listed : lexemes_of text ≡ opens ∷ word (name called) ∷ lexemes_of rest
+  pub variable : variable_among variables called ≡ x

@@ -1,15 +1,10 @@
 // White space and comments skipped; brackets.
-ghost use Rattle.std.specs.Prelude.{◌≡◌, ◌≤◌, length, get_or};
-ghost use Rattle.pass_tokens.specs.Tokens.{LineEnd, Blanks, ClosedAt};
+ghost use Rattle.std.specs.Prelude.{IfSome, ◌≤◌, length};
+ghost use Rattle.pass_tokens.specs.Tokens.{LineEnd, Blanks, Opened, Closed};
 
-// Byte i; 0 past the text's end.
-pub fn byte_at(text: &[u8], i: usize) -> u8
-    ensures { result ≡ get_or text.now i 0 }
-{
-    if i < text.len() { text[i] } else { 0 }
-}
+use super::Text;
 
-// The end of the line of byte i, on which a comment goes on from there.
+// The end of the line of byte i, on which a comment goes on from there. By a place: with a slice from there on the pass took 1.5 % more instructions.
 fn line_end(text: &[u8], i: usize) -> usize
     requires { i ≤ length text.now }
     ensures { LineEnd text.now i result }
@@ -26,40 +21,54 @@ fn line_end(text: &[u8], i: usize) -> usize
     text.len()
 }
 
-// A byte from i on, no white space and no comment before it.
-pub fn past_blanks(text: &[u8], i: usize) -> usize
-    requires { i ≤ length text.now }
-    ensures { Blanks text.now i result }
-{
-    let mut j = i;
-    // No `for`: a comment is skipped as a whole.
-    while j < text.len() {
-        let c = text[j];
-        if c > 32 {
-            if c != b';' {
-                return j;
-            }
-            j = line_end(text, j + 1);
-        } else {
-            if c != 32 {
-                if (c != 10) & (c != 13) & (c != 9) {
-                    return j;
+impl<'a> Text<'a> {
+    // Goes past white space and comments.
+    pub fn skip_blanks(&mut self)
+        ensures { Blanks self.old self.new }
+    {
+        let text = self.bytes;
+        let mut j = self.at;
+        // No `for`: a comment is skipped as a whole.
+        while j < text.len() {
+            let c = text[j];
+            if c > 32 {
+                if c != b';' {
+                    break;
                 }
+                j = line_end(text, j + 1);
+            } else {
+                if c != 32 {
+                    if (c != 10) & (c != 13) & (c != 9) {
+                        break;
+                    }
+                }
+                j += 1;
             }
-            j += 1;
         }
+        self.at = j;
     }
-    j
-}
 
-// The byte after the closing bracket that stands at byte i, after white space and comments.
-pub fn closed_at(text: &[u8], i: usize) -> Option<usize>
-    requires { i ≤ length text.now }
-    ensures { ClosedAt text.now i result }
-{
-    let at = past_blanks(text, i);
-    if byte_at(text, at) == b')' {
-        return Some(at + 1);
+    // Goes past the opening bracket that stands next, and past white space and comments after it.
+    pub fn open(&mut self) -> Option<()>
+        ensures { IfSome result (λ _. Opened self.old self.new) }
+    {
+        if self.first() != b'(' {
+            return None;
+        }
+        self.skip();
+        self.skip_blanks();
+        Some(())
     }
-    None
+
+    // Goes past the closing bracket that stands next, after white space and comments.
+    pub fn close(&mut self) -> Option<()>
+        ensures { IfSome result (λ _. Closed self.old self.new) }
+    {
+        self.skip_blanks();
+        if self.first() != b')' {
+            return None;
+        }
+        self.skip();
+        Some(())
+    }
 }

@@ -1,73 +1,34 @@
-// Heads of formulas, and variables as they stand in lists.
-ghost use Rattle.std.specs.Prelude.{◌≡◌, ◌≤◌, length};
+// Variables as they stand in lists.
+ghost use Rattle.std.specs.Prelude.{IfSome, ◌≤◌};
 ghost use Rattle.bundle.specs.Limits.{limits};
-ghost use Rattle.pass_tokens.specs.Tokens.{HeadAt, SortedAt, BoundAt};
+ghost use Rattle.pass_tokens.specs.Tokens.{SortedTo, BoundTo};
 
-use super::blanks::{byte_at, closed_at, past_blanks};
-use super::words::word_at;
-use super::{Bound, Meaning, Sorted, Token};
+use super::{Meaning, Sorted, Text};
 
-// The head of a formula whose opening bracket ends before byte i: a symbol; or a binder or let with the opening bracket of its list, in which
-// another one follows.
-pub fn head_at(text: &[u8], symbols: usize, variables: usize, i: usize) -> Option<Token>
-    requires { (i ≤ length text.now) × (symbols ≤ limits.symbols) × (variables ≤ limits.variables) }
-    ensures { HeadAt symbols text.now i result }
-{
-    let from = past_blanks(text, i);
-    let head = word_at(text, symbols, variables, from)?;
-    match head.meaning {
-        Meaning::Symbol(_) => Some(head),
-        Meaning::Binder(_) | Meaning::Let => {
-            let open = past_blanks(text, head.end);
-            if byte_at(text, open) != b'(' {
-                return None;
-            }
-            let first = past_blanks(text, open + 1);
-            if byte_at(text, first) != b'(' {
-                return None;
-            }
-            Some(Token {
-                meaning: head.meaning,
-                end: first,
-            })
-        }
-        Meaning::Variable(_) | Meaning::Sort(_) => None,
+impl<'a> Text<'a> {
+    // A variable with its sort, in brackets, as a quantifier lists it.
+    pub fn sorted(&mut self, symbols: usize, variables: usize) -> Option<Sorted>
+        requires { (symbols ≤ limits.symbols) × (variables ≤ limits.variables) }
+        ensures { IfSome result (SortedTo variables self.old self.new) }
+    {
+        let variable = self.bound(symbols, variables)?;
+        let Meaning::Sort(sort) = self.word(symbols, variables)? else {
+            return None;
+        };
+        self.close()?;
+        Some(Sorted { variable, sort })
     }
-}
 
-// A variable with its sort, in brackets, at byte i: as a quantifier lists it.
-pub fn sorted_at(text: &[u8], symbols: usize, variables: usize, i: usize) -> Option<Sorted>
-    requires { (i ≤ length text.now) × (symbols ≤ limits.symbols) × (variables ≤ limits.variables) }
-    ensures { SortedAt variables text.now i result }
-{
-    let named = bound_at(text, symbols, variables, i)?;
-    let said = word_at(text, symbols, variables, named.end)?;
-    let Meaning::Sort(sort) = said.meaning else {
-        return None;
-    };
-    let end = closed_at(text, said.end)?;
-    Some(Sorted {
-        variable: named.variable,
-        sort,
-        end,
-    })
-}
-
-// The opening bracket and the variable of a let's pair at byte i, and the white space and comments after it.
-pub fn bound_at(text: &[u8], symbols: usize, variables: usize, i: usize) -> Option<Bound>
-    requires { (i ≤ length text.now) × (symbols ≤ limits.symbols) × (variables ≤ limits.variables) }
-    ensures { BoundAt variables text.now i result }
-{
-    if byte_at(text, i) != b'(' {
-        return None;
+    // The opening bracket and the variable of a let's pair, and the white space and comments after it.
+    pub fn bound(&mut self, symbols: usize, variables: usize) -> Option<usize>
+        requires { (symbols ≤ limits.symbols) × (variables ≤ limits.variables) }
+        ensures { IfSome result (BoundTo variables self.old self.new) }
+    {
+        self.open()?;
+        let Meaning::Variable(variable) = self.word(symbols, variables)? else {
+            return None;
+        };
+        self.skip_blanks();
+        Some(variable)
     }
-    let at = past_blanks(text, i + 1);
-    let named = word_at(text, symbols, variables, at)?;
-    let Meaning::Variable(variable) = named.meaning else {
-        return None;
-    };
-    Some(Bound {
-        variable,
-        end: past_blanks(text, named.end),
-    })
 }

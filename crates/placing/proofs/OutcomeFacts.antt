@@ -13,6 +13,7 @@ use Prim.Native.Nat.{ℕ, ◌+◌}
 use native.Mathlib.Omega.{arith}
 use lib.ListN.{length}
 use Rattle.std.specs.Prelude.{Option, Some, None}
+use Rattle.bundle.specs.File.{own_counts}
 use Rattle.bundle.specs.Bundle.{Bundle}
 use Rattle.bundle.specs.Limits.{Within}
 use Rattle.logic.specs.Longer.{Longer}
@@ -21,7 +22,6 @@ use Rattle.scratch.specs.Stack.{halves}
 use Rattle.placing.specs.declared.Visited.{Visited}
 use Rattle.placing.specs.declared.Opened.{Opened}
 use Rattle.expansion.specs.Visit.{Visits}
-use Rattle.expansion.specs.File.{counts_in}
 use Rattle.placing.specs.Outcomes.{TooMuch, Outcome, ListOutcome}
 
 -- ---- too much
@@ -46,7 +46,7 @@ on {b} longer e = subst (Longer b) (sym e) longer
 
 -- what the definition without limits gives, b' and a, is what there is after the call, b and x
 pub record Done {A : Type 0} (b' : Bundle) (a : A) (b : Bundle) (x : A) : Type 0 where
-  pub within : Within (counts_in b')
+  pub within : Within (own_counts b')
   pub bundle : b ≡ b'
   pub value : x ≡ a
 
@@ -65,7 +65,7 @@ module _ {A : Type 0} {b' b : Bundle} {a : A} {r : Option A} where
 -- ---- of a visit, of a quantifier's opener
 
 pub record VisitDone (b' : Bundle) (t s : ℕ) (b : Bundle) (x : Visited) : Type 0 where
-  pub within : Within (counts_in b')
+  pub within : Within (own_counts b')
   pub bundle : b ≡ b'
   pub result : x.result ≡ t
   pub step : x.step ≡ s
@@ -82,7 +82,7 @@ visit_done o e =
     }
 
 pub record BinderDone (b' : Bundle) (Γ y : ℕ) (b : Bundle) (x : Opened) : Type 0 where
-  pub within : Within (counts_in b')
+  pub within : Within (own_counts b')
   pub bundle : b ≡ b'
   pub context : x.context ≡ Γ
   pub variable : x.variable ≡ y
@@ -101,7 +101,7 @@ binder_done o e =
 -- ---- of a visit to a list
 
 pub record ListDone (v : Visits) (h : ℕ) (b : Bundle) (s : List ℕ) (top : ℕ) : Type 0 where
-  pub within : Within (counts_in v.bundle)
+  pub within : Within (own_counts v.bundle)
   pub bundle : b ≡ v.bundle
   pub height : top ≡ h + length v.results
   pub results : halves true s h top ≡ v.results

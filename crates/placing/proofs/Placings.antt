@@ -1,24 +1,21 @@
 -- Terms placed, by the lookup and the appends.
---     list_length, within_is                     how many links there are with a list appended; what the scratch's counts say
+--     list_length                                how many links there are with a list appended
 --     found_is, plain_is                         a term that the lookup found; one with no list that it did not find
 --     plain_filed, application_filed, let_filed     the digests of new terms
 --     list_word                                  where a list starts: a word
 --     variable_asks, application_asks, binder_asks, let_asks, fresh_asks     the same of each term that is placed
---     binder_of                                  the binder of a kind
 use mathlib.Core.Path.{◌≡◌, refl, sym, ap, subst, ◌∙◌}
-use mathlib.Core.Bool.{Bool, true, false}
+use mathlib.Core.Bool.{Bool}
 use mathlib.Core.List.{List, [], ◌∷◌}
 use Prim.Native.Nat.{ℕ, zero, suc, ◌+◌, ◌≤◌}
 use native.Mathlib.Omega.{arith}
 use lib.ListN.{length, length-append}
-use Rattle.std.specs.Prelude.{Option, Some, is_some}
+use Rattle.std.specs.Prelude.{Option, Some, None}
 use Rattle.bundle.specs.Words.{largest_word}
-use Rattle.bundle.specs.declared.Counts.{Counts}
 use Rattle.bundle.specs.Bundle.{Bundle, TermRecord, sort_of_variable}
 use Rattle.bundle.specs.File.{own_counts}
 use Rattle.bundle.specs.Limits.{Within}
-use Rattle.logic.specs.Terms.{Binder, binder, number_of, is_binder}
-use Rattle.logic.proofs.TermKinds.{binder_kind, is_binder_exactly}
+use Rattle.logic.specs.Terms.{Binder, binder, number_of}
 use Rattle.logic.specs.Lookup.{seek, same_variable, same_application, same_binder, same_let}
 use Rattle.logic.specs.Longer.{with_variables, with_terms, consecutive, add_list, list_start}
 use Rattle.logic.proofs.Longer.{consecutive_length}
@@ -26,10 +23,9 @@ use Rattle.scratch.proofs.Pushed.{add_none}
 use Rattle.filing.specs.Filing.{mix_all, root_digest, let_digest, Digested, found}
 use Rattle.filing.proofs.Seeks.{seek_le}
 use Rattle.filing.proofs.FiledTerms.{plain_digested, application_digested, let_digested}
-use Rattle.expansion.specs.File.{counts_in}
 use Rattle.expansion.specs.Placed.{placed, place_variable, place_application, place_binder, place_let}
 use Rattle.expansion.specs.Visit.{fresh, new_variable}
-use Rattle.placing.specs.Outcomes.{Outcome, PlaceOutcome, AddOutcome}
+use Rattle.placing.specs.Outcomes.{PlaceOutcome, AddOutcome}
 use Rattle.placing.proofs.OutcomeFacts.{Done, outcome_done}
 
 -- how many links there are with a list appended
@@ -38,20 +34,18 @@ list_length b vs =
     length-append b.links (consecutive (suc (length b.links)) vs)
     ∙ ap (λ (n : ℕ). length b.links + n) (consecutive_length (suc (length b.links)) vs)
 
--- B is the scratch of b, and c its counts: each is within its limit
-pub within_is : {b B : Bundle} {c : Counts} → B ≡ b → (c ≡ own_counts B) × Within c → Within (counts_in b)
-within_is same counts = subst Within (counts.0 ∙ ap counts_in same) counts.1
-
 -- ---- what the lookup found
 
--- m is what the lookup found, a term
-pub found_is : (b b' : Bundle) (r : TermRecord) (n : ℕ) {m : Option ℕ} → m ≡ found n → true ≡ is_some m → Within (counts_in b)
-    → PlaceOutcome (placed b b' r n) b m
-found_is b b' r zero e h w = absurd (cc)
-found_is b b' r (suc n) e h w = Outcome.done w refl e
+-- m is what the lookup found, the term x, and a is what is answered
+pub found_is : (b b' : Bundle) (r : TermRecord) (n : ℕ) {m : Option ℕ} {x : ℕ} → m ≡ found n → m ≡ Some x → {b2 : Bundle} {a : Option ℕ}
+    → PlaceOutcome (record { bundle = b; term = x }) b2 a → PlaceOutcome (placed b b' r n) b2 a
+found_is b b' r zero e h o = absurd (cc)
+found_is b b' r (suc n) {m} {x} e h {b2} {a} o =
+    let is : x ≡ suc n = cc in
+    subst (λ (k : ℕ). PlaceOutcome (record { bundle = b; term = k }) b2 a) is o
 
 -- m is what the lookup found, none: of a term with no list
-pub plain_is : (b : Bundle) (r : TermRecord) (n : ℕ) {m : Option ℕ} → m ≡ found n → false ≡ is_some m → {b2 : Bundle} {a : Option ℕ}
+pub plain_is : (b : Bundle) (r : TermRecord) (n : ℕ) {m : Option ℕ} → m ≡ found n → m ≡ None → {b2 : Bundle} {a : Option ℕ}
     → PlaceOutcome (record { bundle = with_terms b (r ∷ []); term = suc (length b.terms) }) b2 a → PlaceOutcome (placed b (add_list b []) r n) b2 a
 plain_is b r zero e h {b2} {a} o = subst (λ (B : Bundle). PlaceOutcome (placed b B r 0) b2 a) (sym (add_none b)) o
 plain_is b r (suc n) e h o = absurd (cc)
@@ -74,7 +68,7 @@ let_filed b vs ts t d own {b1} {s} k =
 
 -- ---- words
 
-start_word : (b : Bundle) (vs : List ℕ) → Within (counts_in (add_list b vs)) → list_start b vs ≤ largest_word
+start_word : (b : Bundle) (vs : List ℕ) → Within (own_counts (add_list b vs)) → list_start b vs ≤ largest_word
 start_word b [] h = omega arith
 start_word b (v ∷ vs) h = omega (arith, h.links, list_length b (v ∷ vs))
 
@@ -82,7 +76,7 @@ pub list_word : (b : Bundle) (vs : List ℕ) {b2 : Bundle} {r : Option ℕ} {s :
 list_word b vs o e = let d = outcome_done o e in omega (arith, d.value, start_word b vs d.within)
 
 -- n is what the lookup found; b' is b with lists appended
-term_word : (b b' : Bundle) → b'.terms ≡ b.terms → (r : TermRecord) (n : ℕ) → n ≤ length b.terms → Within (counts_in (placed b b' r n).bundle)
+term_word : (b b' : Bundle) → b'.terms ≡ b.terms → (r : TermRecord) (n : ℕ) → n ≤ length b.terms → Within (own_counts (placed b b' r n).bundle)
     → (placed b b' r n).term ≤ largest_word
 term_word b b' same r zero l h = omega (arith, h.terms, length-append b'.terms (r ∷ []), ap length same)
 term_word b b' same r (suc n) l h = omega (arith, h.terms)
@@ -110,7 +104,3 @@ module _ (b : Bundle) {b2 : Bundle} {r : Option ℕ} {n : ℕ} where
 
 pub fresh_asks : (b : Bundle) {b2 : Bundle} {r : Option ℕ} {n : ℕ} (x : ℕ) → PlaceOutcome (fresh b x) b2 r → r ≡ Some n → n ≤ largest_word
 fresh_asks b x = variable_asks (with_variables b (sort_of_variable b x ∷ [])) (new_variable b)
-
--- the binder of a kind
-pub binder_of : (k : ℕ) → is_binder k ≡ true → (q : Binder) × (k ≡ number_of (binder q))
-binder_of k e = let h = (is_binder_exactly k).0 e in (h.0, binder_kind k h.0 h.1)

@@ -2,6 +2,7 @@
 -- one does.
 use Rattle.logic.specs.Terms.{binder, number_of}
 use Rattle.std.specs.Prelude.{IfSome, ◌≡◌, true, false, Option, Some, None, List, ℕ, ◌+◌, ◌≤◌, ◌<◌, ◌⊎◌, length, take}
+use Rattle.bundle.specs.File.{own_counts}
 use Rattle.bundle.specs.Bundle.{Bundle, link_of, term_of}
 use Rattle.bundle.specs.Words.{largest_word}
 use Rattle.bundle.specs.Limits.{limits, Within}
@@ -14,15 +15,14 @@ use Rattle.expansion.specs.Nodes.{Node, Nodes, leaf, node, scope, block, nil, co
 use Rattle.expansion.specs.Visit.{Visit, Visits, visit, visit_all}
 use Rattle.expansion.specs.Placed.{PlacedTerm}
 use Rattle.expansion.specs.Visit as unlimited
-use Rattle.expansion.specs.File.{counts_in}
 
 -- no section of b may pass its limit
 abbrev pub TooMuch : Bundle → Type 0
-TooMuch b = Within (counts_in b) → ⊥
+TooMuch b = Within (own_counts b) → ⊥
 
 -- r, and the bundle b after the call, are what the definition without limits gives: its bundle b' and a; or b' is past a limit
 pub data Outcome {A : Type 0} (b' : Bundle) (a : A) (b : Bundle) (r : Option A) : Type 0 where
-  done : Within (counts_in b') → b ≡ b' → r ≡ Some a → Outcome b' a b r
+  done : Within (own_counts b') → b ≡ b' → r ≡ Some a → Outcome b' a b r
   full : TooMuch b' → r ≡ None → Outcome b' a b r
 
 -- of a visit: its result and its step
@@ -48,7 +48,7 @@ AddOutcome b vs = Outcome (add_list b vs) (list_start b vs)
 
 -- of a visit to a list: where the stack s ends, on which the pairs stand from height h on
 pub data ListOutcome (v : Visits) (h : ℕ) (b : Bundle) (s : List ℕ) (r : Option ℕ) : Type 0 where
-  done : Within (counts_in v.bundle) → b ≡ v.bundle → r ≡ Some (h + length v.results)
+  done : Within (own_counts v.bundle) → b ≡ v.bundle → r ≡ Some (h + length v.results)
       → halves true s h (h + length v.results) ≡ v.results → halves false s h (h + length v.results) ≡ v.steps → ListOutcome v h b s r
   full : TooMuch v.bundle → r ≡ None → ListOutcome v h b s r
 

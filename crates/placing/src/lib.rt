@@ -4,9 +4,9 @@
 
 ghost use Rattle.std.specs.Prelude.{◌≡◌, true, false, [], ◌∷◌, suc, ◌≤◌, ◌<◌, length};
 ghost use Rattle.bundle.specs.Words.{largest_word};
-ghost use Rattle.bundle.specs.Filed.{digests};
 ghost use Rattle.bundle.specs.RecordWords.{as_term, as_context, as_step, TermFits, ContextFits, StepFits};
-ghost use Rattle.logic.specs.Terms.{Binder, binder, number_of, is_binder};
+ghost use Rattle.logic.specs.Terms.{number_of};
+ghost use Rattle.logic.specs.Named.{binder_in, kind_in};
 ghost use Rattle.logic.specs.Longer.{with_terms, with_contexts, with_steps, add_list, list_start};
 ghost use Rattle.scratch.specs.Stack.{halves_of};
 ghost use Rattle.filing.specs.Filing.{Digested};
@@ -15,10 +15,11 @@ ghost use Rattle.expansion.specs.Visit.{fresh};
 ghost use Rattle.placing.specs.Outcomes.{VisitOutcome, OpenOutcome, PlaceOutcome, AddOutcome};
 
 use bundle::Bundle;
+use bundle::digests::Digest;
 use bundle::records::{ContextWords, StepWords, TermWords};
 use filing::Filed;
 use filing::digests::{mixed_halves, pairs_digest, root_digest};
-use logic::kinds::{APPLICATION, LET, VARIABLE};
+use logic::kinds::{Binder, Kind};
 
 // What a visit to a term gives: the result's term, and the step that carries the term to it.
 #[derive(Clone, Copy)]
@@ -34,7 +35,7 @@ pub struct Opened {
     pub variable: usize,
 }
 
-// ---- One list or one record appended, where its section has room: its first link, or its number.
+// ---- One list or one record appended, where its section has room: its first link, or its number. Words are `usize` (see crate `scratch`, appends.rt).
 
 // The upper halves of pairs, or the lower, as a list.
 pub fn add_halves(filed: &mut Filed<'_>, pairs: &[u64], upper: bool) -> Option<usize>
@@ -60,8 +61,8 @@ pub fn add_value(filed: &mut Filed<'_>, value: usize) -> Option<usize>
 }
 
 // A term, filed by its digest, which is d.
-pub fn add_term(filed: &mut Filed<'_>, term: TermWords, d: usize) -> Option<usize>
-    requires { TermFits term × (d < digests) × Digested filed.old (as_term term) d }
+pub fn add_term(filed: &mut Filed<'_>, term: TermWords, d: Digest) -> Option<usize>
+    requires { TermFits term × Digested filed.old (as_term term) d }
     ensures { PlaceOutcome
         (record { bundle = with_terms filed.old (as_term term ∷ []); term = suc (length filed.old.terms) }) filed.new result }
 {
@@ -76,19 +77,19 @@ pub fn add_term(filed: &mut Filed<'_>, term: TermWords, d: usize) -> Option<usiz
 // A term whose second field is the list of the upper halves of pairs, which is appended before it. d is the digest of the term.
 fn add_listed_term(
     filed: &mut Filed<'_>,
-    kind: usize,
+    kind: Kind,
     first: usize,
     pairs: &[u64],
     third: usize,
-    d: usize,
+    d: Digest,
 ) -> Option<usize>
-    requires { (kind ≤ largest_word) × (first ≤ largest_word) × (third ≤ largest_word) × (d < digests)
+    requires { (first ≤ largest_word) × (third ≤ largest_word)
         × Digested (add_list filed.old (halves_of true pairs.now))
-        (record { kind = kind; a = first; b = list_start filed.old (halves_of true pairs.now); c = third }) d }
+        (record { kind = number_of (kind_in kind); a = first; b = list_start filed.old (halves_of true pairs.now); c = third }) d }
     ensures { PlaceOutcome
         (record {
           bundle = with_terms (add_list filed.old (halves_of true pairs.now))
-              (record { kind = kind; a = first; b = list_start filed.old (halves_of true pairs.now); c = third } ∷ []);
+              (record { kind = number_of (kind_in kind); a = first; b = list_start filed.old (halves_of true pairs.now); c = third } ∷ []);
           term = suc (length filed.old.terms);
         }) filed.new result }
 {
@@ -96,7 +97,7 @@ fn add_listed_term(
     add_term(
         filed,
         TermWords {
-            kind,
+            kind: kind.number(),
             first,
             second,
             third,
@@ -138,18 +139,25 @@ pub fn add_step(filed: &mut Filed<'_>, step: StepWords) -> Option<Visited>
 
 // ---- A term looked up before it is appended: its number.
 
+// Term t was found, and nothing is appended. The counts are within the limits.
+fn keep(filed: &Filed<'_>, t: usize) -> Option<usize>
+    ensures { PlaceOutcome (record { bundle = filed.now; term = t }) filed.now result }
+{
+    prove!(filed.scratch().counts().terms <= Bundle::TERMS);
+    Some(t)
+}
+
 // Of a symbol at the upper halves of pairs.
 pub fn place_application(filed: &mut Filed<'_>, symbol: usize, arguments: &[u64]) -> Option<usize>
     requires { symbol ≤ largest_word }
     ensures { PlaceOutcome (place_application filed.old symbol (halves_of true arguments.now)) filed.new result }
 {
-    let d = mixed_halves(root_digest(APPLICATION, symbol), arguments, true);
-    let found = filed.find_application(d, symbol, arguments);
-    if found.is_some() {
-        prove!(filed.scratch().counts().terms <= Bundle::TERMS);
-        return found;
+    let root = root_digest(Kind::Application.number(), symbol);
+    let d = mixed_halves(root, arguments, true);
+    if let Some(t) = filed.find_application(d, symbol, arguments) {
+        return keep(filed, t);
     }
-    add_listed_term(filed, APPLICATION, symbol, arguments, 0, d)
+    add_listed_term(filed, Kind::Application, symbol, arguments, 0, d)
 }
 
 // Of the variable y.
@@ -157,16 +165,15 @@ pub fn place_variable(filed: &mut Filed<'_>, y: usize) -> Option<usize>
     requires { y ≤ largest_word }
     ensures { PlaceOutcome (place_variable filed.old y) filed.new result }
 {
-    let d = root_digest(VARIABLE, y);
-    let found = filed.find_variable(d, y);
-    if found.is_some() {
-        prove!(filed.scratch().counts().terms <= Bundle::TERMS);
-        return found;
+    let kind = Kind::Variable.number();
+    let d = root_digest(kind, y);
+    if let Some(t) = filed.find_variable(d, y) {
+        return keep(filed, t);
     }
     add_term(
         filed,
         TermWords {
-            kind: VARIABLE,
+            kind,
             first: y,
             second: 0,
             third: 0,
@@ -190,15 +197,14 @@ pub fn place_fresh(filed: &mut Filed<'_>, x: usize) -> Option<usize>
 }
 
 // Of a binder of y in the term `body`.
-pub fn place_binder(filed: &mut Filed<'_>, kind: usize, y: usize, body: usize) -> Option<usize>
-    requires { (is_binder kind ≡ true) × (kind ≤ largest_word) × (y ≤ largest_word) × (body ≤ largest_word) }
-    ensures { (q : Binder) → kind ≡ number_of (binder q) → PlaceOutcome (place_binder filed.old q y body) filed.new result }
+pub fn place_binder(filed: &mut Filed<'_>, q: Binder, y: usize, body: usize) -> Option<usize>
+    requires { (y ≤ largest_word) × (body ≤ largest_word) }
+    ensures { PlaceOutcome (place_binder filed.old (binder_in q) y body) filed.new result }
 {
+    let kind = q.number();
     let d = root_digest(kind, y);
-    let found = filed.find_binder(d, kind, y, body);
-    if found.is_some() {
-        prove!(filed.scratch().counts().terms <= Bundle::TERMS);
-        return found;
+    if let Some(t) = filed.find_binder(d, kind, y, body) {
+        return keep(filed, t);
     }
     add_term(
         filed,
@@ -218,11 +224,9 @@ pub fn place_let(filed: &mut Filed<'_>, body: usize, pairs: &[u64]) -> Option<us
     ensures { PlaceOutcome (place_let filed.old (halves_of false pairs.now) (halves_of true pairs.now) body) filed.new result }
 {
     let d = pairs_digest(body, pairs);
-    let found = filed.find_let(d, body, pairs);
-    if found.is_some() {
-        prove!(filed.scratch().counts().terms <= Bundle::TERMS);
-        return found;
+    if let Some(t) = filed.find_let(d, body, pairs) {
+        return keep(filed, t);
     }
     let variables = add_halves(filed, pairs, false)?;
-    add_listed_term(filed, LET, variables, pairs, body, d)
+    add_listed_term(filed, Kind::Let, variables, pairs, body, d)
 }

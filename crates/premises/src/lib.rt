@@ -8,27 +8,28 @@ ghost use Rattle.bundle.specs.Links.{items};
 ghost use Rattle.logic.specs.Rules.{carries, walk_by};
 ghost use Rattle.images.specs.LentReading.{step_in};
 ghost use Rattle.premises.specs.Counted.{after};
+ghost use Rattle.premises.specs.Taken.{Taken};
 
 use bundle::Bundle;
 use bundle::items::followed;
 use bundle::words::wide;
 use logic::Walk;
+use std::marker::Model;
 
-// Field k of step p: the file's steps come first, then those of the bed. The batch check has its steps in the file and no bed, a running check
+// The steps that a step may refer to: the file's come first, then those of the bed. The batch check has its steps in the file and no bed, a running check
 // has none in the file.
-pub fn taken_field(bundle: &Bundle, bed: &[u32], p: usize, k: usize) -> usize
-    requires { (k < 5) }
-    ensures { result ≡ step_field (step_in bundle.now bed.now p) k }
-{
-    let steps = bundle.steps();
-    if p <= steps {
-        return bundle.step_field(p, k);
-    }
-    let j = p - steps - 1;
-    if j < bed.len() / 5 {
-        return wide(bed[5 * j + k]);
-    }
-    0
+#[derive(Drop)]
+pub struct Taken<'a> {
+    bundle: &'a Bundle<'a>,
+    bed: &'a [u32],
+}
+
+impl<'a> Model for Taken<'a> {
+    ghost use Rattle.premises.specs.Taken.{Taken};
+
+    ghost Value = { Taken };
+
+    ghost view = { λ t. record { bundle = t.bundle.now; bed = t.bed.now } };
 }
 
 // Whether step p of the file carries l to r in the context.
@@ -40,46 +41,25 @@ fn record_carries(bundle: &Bundle, p: usize, context: usize, l: usize, r: usize)
     (step.context == context) & (step.left == l) & (step.right == r)
 }
 
-// Whether step p carries l to r in the context. Every rule reads earlier steps here or by `taken_field`.
-pub fn step_carries(
-    bundle: &Bundle,
-    bed: &[u32],
-    p: usize,
-    context: usize,
-    l: usize,
-    r: usize,
-) -> bool
-    ensures { result ≡ carries (step_in bundle.now bed.now p) context l r }
-{
-    let steps = bundle.steps();
-    if (0 < p) & (p <= steps) {
-        return record_carries(bundle, p, context, l, r);
-    }
-    let in_context = taken_field(bundle, bed, p, 1);
-    let left = taken_field(bundle, bed, p, 2);
-    let right = taken_field(bundle, bed, p, 3);
-    (in_context == context) & (left == l) & (right == r)
-}
-
 // A link that a walk has read: its item, its next, and how many links the walk has read with it.
 #[derive(Clone, Copy)]
-struct Taken {
+struct Read {
     value: usize,
     next: usize,
-    read: usize,
+    links: usize,
 }
 
 // Reads link i, after so many others. A walk reads links here and nowhere else, so it counts each.
-fn take(bundle: &Bundle, i: usize, read: usize) -> Taken
-    requires { (i ≡ 0 → ⊥) × (i ≤ length bundle.now.links) × (read ≤ 3 * limits.links) }
+fn read_link(bundle: &Bundle, i: usize, links: usize) -> Read
+    requires { (i ≡ 0 → ⊥) × (i ≤ length bundle.now.links) × (links ≤ 3 * limits.links) }
     ensures { let link = link_of bundle.now i in
-        (result.value ≡ link.value) × (result.next ≡ link.next) × (result.read ≡ read + 1) }
+        (result.value ≡ link.value) × (result.next ≡ link.next) × (result.links ≡ links + 1) }
 {
     let link = bundle.link(i);
-    Taken {
+    Read {
         value: link.value,
         next: link.next,
-        read: read + 1,
+        links: links + 1,
     }
 }
 
@@ -108,65 +88,92 @@ fn end_walk(bundle: &Bundle, body: bool, i: usize, j: usize, k: usize, read: usi
         };
     }
     let links = bundle.links();
-    let last = take(bundle, k, read);
+    let last = read_link(bundle, k, read);
     let more = followed(links, k, last.next);
     Walk {
         passes: more == 0,
-        links: last.read,
+        links: last.links,
     }
 }
 
-// THE WALK of CONG and of LET: whether the premises carry the terms of one list to those of another in the context, one for each, in order, and where
-// `body` says so there is one premise more; and how many links that reads. One pass: at each turn a link of each list, and the premise's record.
-pub fn walk(
-    bundle: &Bundle,
-    bed: &[u32],
-    body: bool,
-    context: usize,
-    lefts: usize,
-    rights: usize,
-    premises: usize,
-) -> Walk
-    ensures { result ≡ walk_by (step_in bundle.now bed.now) body context (items bundle.now lefts) (items bundle.now rights) (items bundle.now premises) }
-{
-    let links = bundle.links();
-    let mut i = bundle.first_link(lefts);
-    let mut j = bundle.first_link(rights);
-    let mut k = bundle.first_link(premises);
-    let mut read = 0;
-    if (i == 0) | (j == 0) | (k == 0) {
-        return end_walk(bundle, body, i, j, k, 0);
+impl<'a> Taken<'a> {
+    pub fn of(bundle: &'a Bundle<'a>, bed: &'a [u32]) -> Taken<'a>
+        ensures { result ≡ record { bundle = bundle.now; bed = bed.now } }
+    {
+        Taken { bundle, bed }
     }
-    // By link numbers, not items: what is left of the lists goes to `end_walk`, and each link that is read counts.
-    loop {
-        let l = take(bundle, i, read);
-        let r = take(bundle, j, l.read);
-        let p = take(bundle, k, r.read);
-        read = p.read;
-        if !step_carries(bundle, bed, p.value, context, l.value, r.value) {
-            return Walk {
-                passes: false,
-                links: read,
-            };
+
+    pub fn bundle(&self) -> &'a Bundle<'a>
+        ensures { result.now ≡ self.now.bundle }
+    {
+        self.bundle
+    }
+
+    // Field k of step p.
+    pub fn field(&self, p: usize, k: usize) -> usize
+        requires { k < 5 }
+        ensures { result ≡ step_field (step_in self.now.bundle self.now.bed p) k }
+    {
+        let steps = self.bundle.steps();
+        if p <= steps {
+            return self.bundle.step_field(p, k);
         }
-        let next_left = l.next;
-        let next_right = r.next;
-        let next_premise = p.next;
-        if (i < next_left)
-            & (next_left <= links)
-            & (j < next_right)
-            & (next_right <= links)
-            & (k < next_premise)
-            & (next_premise <= links)
-        {
-            i = next_left;
-            j = next_right;
-            k = next_premise;
-        } else {
-            let more_lefts = followed(links, i, next_left);
-            let more_rights = followed(links, j, next_right);
-            let more_premises = followed(links, k, next_premise);
-            return end_walk(bundle, body, more_lefts, more_rights, more_premises, read);
+        let j = p - steps - 1;
+        if j < self.bed.len() / 5 {
+            return wide(self.bed[5 * j + k]);
         }
+        0
+    }
+
+    // Whether step p carries l to r in the context. Every rule reads earlier steps here or by `field`.
+    pub fn carries(&self, p: usize, context: usize, l: usize, r: usize) -> bool
+        ensures { result ≡ carries (step_in self.now.bundle self.now.bed p) context l r }
+    {
+        let steps = self.bundle.steps();
+        if (0 < p) & (p <= steps) {
+            return record_carries(self.bundle, p, context, l, r);
+        }
+        let in_context = self.field(p, 1);
+        let left = self.field(p, 2);
+        let right = self.field(p, 3);
+        (in_context == context) & (left == l) & (right == r)
+    }
+
+    // THE WALK of CONG and of LET: whether the premises carry the terms of one list to those of another in the context, one for each, in order, and where
+    // `body` says so there is one premise more; and how many links that reads. One pass: at each turn a link of each list, and the premise's record.
+    pub fn walk(
+        &self,
+        body: bool,
+        context: usize,
+        lefts: usize,
+        rights: usize,
+        premises: usize,
+    ) -> Walk
+        ensures { let b = self.now.bundle in
+            result ≡ walk_by (step_in b self.now.bed) body context (items b lefts) (items b rights) (items b premises) }
+    {
+        let bundle = self.bundle;
+        let links = bundle.links();
+        let mut i = bundle.first_link(lefts);
+        let mut j = bundle.first_link(rights);
+        let mut k = bundle.first_link(premises);
+        let mut read = 0;
+        // By link numbers, not items: what is left of the lists goes to `end_walk`, and each link that is read counts.
+        while (i != 0) & (j != 0) & (k != 0) {
+            let l = read_link(bundle, i, read);
+            let r = read_link(bundle, j, l.links);
+            let p = read_link(bundle, k, r.links);
+            read = p.links;
+            i = followed(links, i, l.next);
+            j = followed(links, j, r.next);
+            k = followed(links, k, p.next);
+            if !self.carries(p.value, context, l.value, r.value) {
+                return Walk {
+                    passes: false,
+                    links: read,
+                };
+            }
+        }
+        end_walk(bundle, body, i, j, k, read)
     }
 }

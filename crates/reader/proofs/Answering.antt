@@ -202,14 +202,17 @@ module _ {D : Bundle} {text : List ℕ} {φ : Formula} (s : Settled D text φ) {
   refused_records declared k = refused_full s declared (go outcome)
     where
       go : TextOutcome D φ D B r → TooLarge (plain D φ) D 0 limits.terms
-      go (done h b e i) = absurd (cc)
+      go (done h x i d) = absurd (cc)
       go (tooLarge h i) = h
 
   pub held_done : {x : ReadTerm} → r ≡ Some x → Held D φ B x.term
   held_done {x} k = go outcome
     where
       go : TextOutcome D φ D B r → Held D φ B x.term
-      go (done h b e i) = record { bundle = b; term = cc }
+      go (done h y i d) = record { bundle = d.bundle; term = ap (λ (z : ReadTerm). z.term) (same y (sym k ∙ i)) ∙ d.term }
+        where
+          same : (y : ReadTerm) → ◌≡◌ {A = Option ReadTerm} (Some x) (Some y) → x ≡ y
+          same y e = cc
       go (tooLarge h i) = absurd (cc)
 
 -- its version is a word, as that of the declarations

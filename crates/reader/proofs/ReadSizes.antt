@@ -9,7 +9,7 @@ use mathlib.Core.List.{List, [], ◌∷◌, ◌++◌}
 use lib.ListN.{length, length-append}
 use Rattle.bundle.specs.Bundle.{Bundle}
 use Rattle.bundle.specs.Limits.{limits, bytes_of}
-use Rattle.bundle.specs.File.{bundle_of}
+use Rattle.bundle.specs.File.{bundle_of, own_counts}
 use Rattle.bundle.proofs.Limits.{within_words}
 use Rattle.logic.specs.Tests.{Fault}
 use Rattle.logic.specs.Tests.{first_failing, fault, or_else, or_next}
@@ -18,7 +18,7 @@ use Rattle.judgement.specs.Order.{FirstFailing}
 use Rattle.judgement.proofs.Order.{first_fails, failing_number}
 use Rattle.judgement.proofs.Sizes.{last_number, SmallFault, failing_le, none_small, else_small, tables_small}
 use Rattle.expansion.specs.Answer.{Written, Refused}
-use Rattle.expansion.specs.File.{counts_in, file_of}
+use Rattle.expansion.specs.File.{file_of}
 use Rattle.expansion.specs.Expansion.{Outcome, long_enough}
 use Rattle.expansion.specs.Demands.{LongEnough}
 use Rattle.expansion.proofs.Files.{file_length}
@@ -122,4 +122,4 @@ job_short f text out words sets n e =
     let is : reading f text out words sets ≡ leaves (job J) out words sets = answer_is d text ((answers_exactly b text (job J)).1 (read φ r fit)) in
     let told : (reading f text out words sets).answer ≡ Written (length (file_of J)) = ap (λ (o : Outcome). o.answer) is in
     let same : n ≡ length (file_of J) = cc in
-    omega (arith, file_length J, within_words (counts_in (filed_for b φ).bundle) fit)
+    omega (arith, file_length J, within_words (own_counts (filed_for b φ).bundle) fit)

@@ -10,12 +10,12 @@ use mathlib.Core.List.{List, [], ◌∷◌, ◌++◌}
 use mathlib.Core.Option.{Option, none, some, none-ne-some, some-injective}
 use lib.Dec.{eqb}
 use borrow.Author.Tests.{eqb-true, eqb-false}
+use Rattle.bundle.specs.File.{own_counts}
 use Rattle.bundle.specs.Bundle.{Bundle}
 use Rattle.bundle.proofs.Limits.{within_all, within_true}
 use Rattle.logic.specs.Lists.{All}
 use Rattle.logic.specs.Symbols.{truth_sort}
 use Rattle.logic.proofs.Tests.{and_left, and_right, and_both}
-use Rattle.expansion.specs.File.{counts_in}
 use Rattle.grammar.specs.Grammar.{Formula}
 use Rattle.grammar.specs.Names.{Name, names, Located, called_of, met, first_unknown, all_known, Resolved, resolved, unread_at, unknown_at, resolve}
 use Rattle.grammar.proofs.NamesExact.{resolved_exactly, unread_first, unknown_first}
@@ -138,15 +138,15 @@ module _ (b : Bundle) (φ : Formula) where
   fits_not not = go (fits (filed_for b φ)) refl
     where
       go : (p : Bool) → fits (filed_for b φ) ≡ p → p ≡ false
-      go true q = absurd (not (within_all (counts_in (filed_for b φ).bundle) q))
+      go true q = absurd (not (within_all (own_counts (filed_for b φ).bundle) q))
       go false q = refl
 
 -- ---- the answer
 
 module _ (b : Bundle) (text : List ℕ) where
   by_fit : (φ : Formula) → ReadAs b text φ → (p : Bool) → fits (filed_for b φ) ≡ p → Answered b text (cond p (job (job_of (filed_for b φ))) (refused 16 0))
-  by_fit φ r true q = read φ r (within_all (counts_in (filed_for b φ).bundle) q)
-  by_fit φ r false q = full φ r (λ h. true≢false (sym (within_true (counts_in (filed_for b φ).bundle) h) ∙ q))
+  by_fit φ r true q = read φ r (within_all (own_counts (filed_for b φ).bundle) q)
+  by_fit φ r false q = full φ r (λ h. true≢false (sym (within_true (own_counts (filed_for b φ).bundle) h) ∙ q))
 
   by_sort : (φ : Formula) → Named b text φ → Answered b text (sorted_job b (sorts b φ))
   unfolding fitting_job
@@ -180,7 +180,7 @@ module _ (b : Bundle) (text : List ℕ) where
   answers_only a (unknown {n} u) = ap (answer_of b) ((unknown_first (known_in b) text n).1 ((unknown_exactly b (met text) n).1 u))
   answers_only a (missorted φ n not) = ap (answer_of b) (resolves φ n) ∙ unsorted_job b φ not
   answers_only a (full φ r not) = reads_job φ r ∙ rw (fits_not b φ not)
-  answers_only a (read φ r fit) = reads_job φ r ∙ rw (within_true (counts_in (filed_for b φ).bundle) fit)
+  answers_only a (read φ r fit) = reads_job φ r ∙ rw (within_true (own_counts (filed_for b φ).bundle) fit)
 
 pub answers_exactly : AnswersExactly
 answers_exactly b text a = (λ e. subst (Answered b text) e (answers_mean b text), answers_only b text a)

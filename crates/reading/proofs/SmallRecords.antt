@@ -8,6 +8,7 @@ use mathlib.Core.Path.{◌≡◌}
 use mathlib.Core.List.{List, [], ◌∷◌}
 use lib.ListN.{length}
 use borrow.Author.Tests.{lt-leb}
+use Rattle.bundle.specs.File.{own_counts}
 use Rattle.bundle.specs.Bundle.{Bundle}
 use Rattle.bundle.specs.Limits.{Within}
 use Rattle.logic.specs.declared.Signature.TheVariants.{Unknown}
@@ -18,7 +19,6 @@ use Rattle.logic.specs.WellFormed.{TablesFormed}
 use Rattle.logic.specs.Longer.{Longer, add_list}
 use Rattle.logic.specs.Lookup.{seek, same_variable, same_application, same_binder, same_let}
 use Rattle.logic.proofs.Longer.{longer_trans, sizes, list_longer}
-use Rattle.expansion.specs.File.{counts_in}
 use Rattle.expansion.specs.Placed.{PlacedTerm, place_variable, place_application, place_binder, place_let}
 use Rattle.expansion.proofs.Grown.{variable_longer, application_longer, binder_longer, lists_longer, let_longer}
 use Rattle.expansion.proofs.AppendedChecked.{Checked}
@@ -58,7 +58,7 @@ pub record SmallTerms (p : PlacedTerms) : Type 0 where
   pub terms : All Word p.terms
 
 -- b₀ has the declarations; `end` is the last bundle, and within the limits
-module _ (b₀ : Bundle) (formed : TablesFormed b₀) {end : Bundle} (fit : Within (counts_in end)) where
+module _ (b₀ : Bundle) (formed : TablesFormed b₀) {end : Bundle} (fit : Within (own_counts end)) where
   variable_word : {b : Bundle} → Longer b₀ b → Longer b end → (x : ℕ) → Number (length b₀.variables) x → Word x
   variable_word l e x n = omega (arith, n.1, (sizes l).variables, (sizes e).variables, fit.variables)
 

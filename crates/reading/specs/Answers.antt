@@ -1,11 +1,11 @@
 -- What each answer to a text means: Req 01's sentences, one constructor each.
 use Rattle.std.specs.Prelude.{ℕ, ◌≡◌, ◌↔◌, List, [], ◌∷◌, ◌++◌}
+use Rattle.bundle.specs.File.{own_counts}
 use Rattle.bundle.specs.Bundle.{Bundle}
 use Rattle.bundle.specs.Limits.{Within}
 use Rattle.logic.specs.Lists.{All}
 use Rattle.logic.specs.Symbols.{truth_sort}
 use Rattle.expansion.specs.Placed.{PlacedTerm}
-use Rattle.expansion.specs.File.{counts_in}
 use Rattle.grammar.specs.Grammar.{Formula, Reads, Unread}
 use Rattle.grammar.specs.Names.{names, Located, met}
 use Rattle.reading.specs.Called.{DeclaredName}
@@ -30,7 +30,7 @@ filed_for b φ = file (plain b φ) b
 
 -- its job is within the limits
 abbrev pub FitsLimits : Bundle → Formula → Type 0
-FitsLimits b φ = Within (counts_in (filed_for b φ).bundle)
+FitsLimits b φ = Within (own_counts (filed_for b φ).bundle)
 
 -- of the names that stand in a text, the first one that is not a declared one of the kind due has the first byte n
 pub record FirstUnknown (b : Bundle) (ls : List Located) (n : ℕ) : Type 0 where

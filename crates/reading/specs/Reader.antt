@@ -1,12 +1,12 @@
 -- THE READER: declarations and a text to a job, or a refusal with its byte. Checks 1 to 6 and 18 of the declarations come before it.
 use Rattle.std.specs.Prelude.{ℕ, Bool, cond, List, eqb}
 use Rattle.std.proofs.Math.Option.{Option, none, some}
+use Rattle.bundle.specs.File.{own_counts}
 use Rattle.bundle.specs.Bundle.{Bundle}
 use Rattle.bundle.specs.Limits.{within_of}
 use Rattle.logic.specs.Symbols.{truth_sort}
 use Rattle.expansion.specs.Placed.{PlacedTerm}
 use Rattle.expansion.specs.Visit.{claiming}
-use Rattle.expansion.specs.File.{counts_in}
 use Rattle.grammar.specs.Names.{Resolved, resolved, unread_at, unknown_at, resolve}
 use Rattle.reading.specs.Called.{known_in}
 use Rattle.reading.specs.Typing.{Typed, sorts}
@@ -23,7 +23,7 @@ job_of p = claiming p.bundle p.term 0
 
 -- no section passes its limit (else 16)
 abbrev pub fits : PlacedTerm → Bool
-fits p = within_of (counts_in p.bundle)
+fits p = within_of (own_counts p.bundle)
 
 unfoldable pub fitting_job : PlacedTerm → Answer
 fitting_job p = cond (fits p) (job (job_of p)) (refused 16 0)

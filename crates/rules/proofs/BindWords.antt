@@ -11,14 +11,14 @@ use Prim.Native.Nat.{ℕ, ◌+◌, ◌*◌, ◌-◌, ◌/◌, ◌%◌, ◌≤◌
 use mathlib.Core.Path.{◌≡◌, refl, sym, ◌∙◌}
 use mathlib.Core.Bool.{Bool, true, false, cond, not, ◌||◌, false≢true}
 use mathlib.Core.List.{List}
-use lib.ListN.{get_or, take, drop}
+use lib.ListN.{length, get_or, take, drop}
 use lib.Seq.{get_or-take, get_or-drop}
 use Rattle.sets.specs.Sets.{bit_at, holds, member}
 use Rattle.sets.proofs.Members.{held, member_bit}
 use Rattle.logic.specs.Tests.{up_to}
 use Rattle.logic.proofs.Tests.{up_to_lem, up_to_all}
-use Rattle.images.specs.LentReading.{free_in}
-use Rattle.images.proofs.FreeWords.{free_some}
+use Rattle.free_variables.specs.TermSets.{TermSets, free_in}
+use Rattle.free_variables.proofs.FreeWords.{free_some}
 use Rattle.rules.specs.WordSides.{WordApart, WordHit}
 
 -- y is not free in the image of z, if z is free in the left side
@@ -40,16 +40,22 @@ not_member w at n x past = go (holds n x) refl
     go true e = absurd (omega (arith, (held n x e).1))
     go false e = refl
 
-module _ (terms : ℕ) (w : List ℕ) (n left last : ℕ) (hit : ℕ → Bool) (some : left ≡ 0 → ⊥) (few : left ≤ terms) where
+module _ (sets : TermSets) (left last : ℕ) (hit : ℕ → Bool) (some : left ≡ 0 → ⊥) (few : left ≤ length sets.bundle.terms) where
+  abbrev w : List ℕ
+  w = sets.words
+
+  abbrev n : ℕ
+  n = sets.n
+
   abbrev free : ℕ → Bool
-  free = free_in terms w n left
+  free = free_in sets left
 
   -- the variables up to m are apart
   abbrev pub Apart : ℕ → Type 0
   Apart m = (x : ℕ) → 1 ≤ x → x ≤ m → x ≤ last → apart free hit x ≡ true
 
   free_bit : (k i : ℕ) → k < n → i < 64 → free (64 * k + 1 + i) ≡ bit_at (get_or w (n * (left - 1) + k) 0) i
-  free_bit k i low bit = free_some terms w n left (64 * k + 1 + i) some few ∙ member_bit w (n * (left - 1)) n k i low bit
+  free_bit k i low bit = free_some sets left (64 * k + 1 + i) some few ∙ member_bit w (n * (left - 1)) n k i low bit
 
   pub words_on : (k : ℕ) → k < n → Apart (64 * k) → WordApart (get_or w (n * (left - 1) + k) 0) (64 * k) last hit → Apart (64 * k + 64)
   words_on k low done word x one up most = go (dec_le x (64 * k))
@@ -74,7 +80,7 @@ module _ (terms : ℕ) (w : List ℕ) (n left last : ℕ) (hit : ℕ → Bool) (
       go x one most (yes l) = done x one l most
       go x one most (no l) =
           let past : k < n → ⊥ = λ low. omega (arith, over low) in
-          rw (free_some terms w n left x some few, not_member w (n * (left - 1)) n x (omega (arith, past)))
+          rw (free_some sets left x some few, not_member w (n * (left - 1)) n x (omega (arith, past)))
 
   pub words_fail : (k : ℕ) → k < n → WordHit (get_or w (n * (left - 1) + k) 0) (64 * k) last hit → up_to last (apart free hit) ≡ false
   words_fail k low word = go (up_to last (apart free hit)) refl

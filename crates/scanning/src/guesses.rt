@@ -6,7 +6,8 @@ ghost use Rattle.spots.specs.Guesses.{guess_column, if_between, guess_inside, gu
 
 use crate::runs::{lexeme_from, run_end};
 use crate::tables::cell;
-use lexing::runs::{class_code, word_code};
+use lexing::runs::class_code;
+use lexing::words::{Word, word_of};
 use spots::Guess;
 
 // A cell of the table, for what may be no spot.
@@ -25,20 +26,19 @@ fn guess_cell(spot: u8, column: usize) -> u8
 fn guess_column(run: &[u8]) -> usize
     ensures { (result ≡ guess_column run.now) × (result < 14) }
 {
-    let code = word_code(run);
-    if code == 8 {
-        return 13;
-    }
-    if code == 9 {
-        if run.len() == 0 {
-            return 13;
+    match word_of(run) {
+        Word::Sort(_) => 13,
+        Word::Name(_) => {
+            if run.len() == 0 {
+                return 13;
+            }
+            if run[0] == b'f' {
+                return 9;
+            }
+            13
         }
-        if run[0] == b'f' {
-            return 9;
-        }
-        return 13;
+        word => word.code(),
     }
-    code
 }
 
 // The spot after a run.

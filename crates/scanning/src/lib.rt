@@ -1,4 +1,5 @@
 // The scan of a text: 19 and 20, for texts of any length and nesting.
+// Its functions take places in the text, and no slices of it from a place on: a refusal tells its byte.
 #![tactic(auto)]
 
 pub mod tables; // tables.rt: what may follow where

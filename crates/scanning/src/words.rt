@@ -6,7 +6,7 @@ ghost use Rattle.spots.specs.Judgement.{declared_by, viable_bytes, word_met};
 use crate::runs::sort_start;
 use crate::tables::cell;
 use lexing::names::known_as;
-use lexing::runs::word_code;
+use lexing::words::{Word, word_of};
 use logic::checks::{Check, Failure};
 
 // How many bytes of a run could still become a word that is due at a spot.
@@ -37,8 +37,9 @@ pub fn word(
     ensures { result ≡ word_met (declared_by symbols variables) spot start (part text.now start end) }
 {
     let row = spot * 14;
-    let code = word_code(&text[start..end]);
-    let next = usize::from(cell(row + code));
+    let run = &text[start..end];
+    let word = word_of(run);
+    let next = usize::from(cell(row + word.code()));
     if next >= 20 {
         let viable = viable_bytes(text, spot, start, end);
         return Err(Failure {
@@ -46,9 +47,9 @@ pub fn word(
             record: start + viable,
         });
     }
-    if code == 9 {
+    if let Word::Name(_) = word {
         let kind = usize::from(cell(row + 12));
-        let known = known_as(symbols, variables, kind, &text[start..end]);
+        let known = known_as(symbols, variables, kind, run);
         if !known {
             return Err(Failure {
                 check: Check::Name,

@@ -1,4 +1,5 @@
-// One record appended to a section that has room.
+// One record appended to a section that has room. Here and in the crates above a word is a `usize` with its bound in the clause: with `u32` each caller,
+// whose counts and fields are `usize`, would write `as_word(x)`, which asks for the same bound.
 ghost use Rattle.std.specs.Prelude.{◌≡◌, [], ◌∷◌, ◌≤◌, ◌<◌, length};
 ghost use Rattle.bundle.specs.Words.{largest_word};
 ghost use Rattle.bundle.specs.Limits.{limits};

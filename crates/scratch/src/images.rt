@@ -8,7 +8,7 @@ ghost use Rattle.logic.specs.declared.Image.TheVariants.{Gives};
 ghost use Rattle.logic.specs.Contexts.{lookup, mention, image};
 
 use super::Scratch;
-use logic::kinds::{FIXES, REPLACES};
+use logic::kinds::Entry;
 use logic::{Image, Mention};
 
 impl<'a> Scratch<'a> {
@@ -34,19 +34,19 @@ impl<'a> Scratch<'a> {
     fn mention(&self, k: usize, x: usize) -> Mention
         ensures { (result ≡ mention self.now (context_of self.now k) x) × ((t : ℕ) → result ≡ Replaced t → t ≤ largest_word) }
     {
-        let kind = self.context_field(k, 0);
         let first = self.context_field(k, 1);
         let second = self.context_field(k, 2);
-        if kind == FIXES {
-            if first == x {
-                return Mention::Fixed;
+        match Entry::of(self.context_field(k, 0)) {
+            Some(Entry::Fixes) => {
+                if first == x {
+                    Mention::Fixed
+                } else {
+                    Mention::Absent
+                }
             }
-            return Mention::Absent;
+            Some(Entry::Replaces) => self.lookup(first, second, x),
+            None => Mention::Fixed,
         }
-        if kind == REPLACES {
-            return self.lookup(first, second, x);
-        }
-        Mention::Fixed
     }
 
     // The image of variable x in a context: towards the empty context, the first entry that mentions x.

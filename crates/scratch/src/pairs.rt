@@ -1,4 +1,5 @@
-// Pairs of words, each on a lent stack as one number: a result and a step, say.
+// Pairs of words, each on a lent stack as one number: a result and a step, say. Which half is meant stands beside the pairs: callers write it as a
+// literal, and a struct of both would be taken apart again in each loop.
 ghost use Rattle.std.specs.Prelude.{◌≡◌, true, false, ◌≤◌};
 ghost use Rattle.bundle.specs.Words.{largest_word};
 ghost use Rattle.scratch.specs.Stack.{half_of};

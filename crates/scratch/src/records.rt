@@ -1,4 +1,5 @@
-// Fields of records in the scratch, by the record's number: each is a word.
+// Fields of records in the scratch, by the record's number: each is a word. A field is told by its number, as in the definitions: an enum of fields for
+// each record would be numbered again.
 ghost use Rattle.std.specs.Prelude.{◌≡◌, ◌+◌, ◌*◌, ◌≤◌, ◌<◌, length};
 ghost use Rattle.bundle.specs.Words.{largest_word};
 ghost use Rattle.bundle.specs.Bundle.{at, sort_of_variable, term_of, link_of, context_of, term_field, link_field, context_field};

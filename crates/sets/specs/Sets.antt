@@ -52,10 +52,6 @@ cleared = filled (λ k. 0)
 abbrev pub united : List ℕ → ℕ → ℕ → ℕ → List ℕ
 united w to from n = filled (λ k. bit_or (get_or w (to + k) 0) (get_or w (from + k) 0)) w to n
 
--- the set at `to`, made that at `from`
-abbrev pub copied : List ℕ → ℕ → ℕ → ℕ → List ℕ
-copied w to from n = filled (λ k. get_or w (from + k) 0) w to n
-
 -- no word of the set at `first` of the words w has a bit in common with that word of the set at `second` of the words v
 unfoldable pub disjoint_of : List ℕ → ℕ → List ℕ → ℕ → ℕ → Bool
 disjoint_of w first v second zero = true

@@ -1,8 +1,8 @@
 // Sets of variables in lent words, for any number of words a set. Laws of membership are in proofs/Members.antt.
 #![tactic(auto)]
 
-ghost use Rattle.std.specs.Prelude.{◌≡◌, ◌&&◌, ◌+◌, ◌^◌, ◌≤◌, ◌<◌, length};
-ghost use Rattle.sets.specs.Sets.{bit_at, with_bit, without_bit, member, inserted, removed, cleared, united, copied, disjoint_of, subset_of, LeastBit};
+ghost use Rattle.std.specs.Prelude.{ℕ, ◌≡◌, ◌-◌, ◌%◌, ◌&&◌, ◌+◌, ◌^◌, ◌≤◌, ◌<◌, length};
+ghost use Rattle.sets.specs.Sets.{bit_at, with_bit, without_bit, member, changed, inserted, removed, cleared, united, disjoint_of, subset_of, LeastBit};
 
 // ---- One word
 
@@ -37,6 +37,8 @@ pub fn lowest_bit(x: u64, k: usize) -> usize
 }
 
 // ---- Sets: the n words of `area` from `at` on. Most files have no more variables than one word has bits: the first word takes no loop.
+// A set is a place and a count beside its area, and no slice: sets stand side by side in one area, where one is read while another is written. Tried with
+// slices (`insert(&mut area[at..at + n], v)`): a call gets longer, and each proof has to lead from the part back to the area.
 
 pub fn member(area: &[u64], at: usize, n: usize, v: usize) -> bool
     requires { at + n ≤ length area.now }
@@ -52,9 +54,11 @@ pub fn member(area: &[u64], at: usize, n: usize, v: usize) -> bool
     bit_at(area[at + k], (v - 1) % 64)
 }
 
-pub fn insert(area: &mut [u64], at: usize, n: usize, v: usize)
-    requires { at + n ≤ length area.old }
-    ensures { area.new ≡ inserted area.old at n v }
+// Changes the bit of v in its word, if the set has one.
+fn change<F: Fn(u64, usize) -> u64>(area: &mut [u64], at: usize, n: usize, v: usize, bit: F)
+    requires { (at + n ≤ length area.old) × ((x : ℕ) → x < 2 ^ 64 → F.pre bit x ((v - 1) % 64)) }
+    ensures { (g : ℕ → ℕ → ℕ) → ((x r : ℕ) → F.post bit x ((v - 1) % 64) r → r ≡ g x ((v - 1) % 64))
+        → area.new ≡ changed g area.old at n v }
 {
     if v == 0 {
         return;
@@ -63,26 +67,25 @@ pub fn insert(area: &mut [u64], at: usize, n: usize, v: usize)
     if place >= n {
         return;
     }
-    let word = with_bit(area[at + place], (v - 1) % 64);
+    let word = bit(area[at + place], (v - 1) % 64);
     area[at + place] = word;
+}
+
+pub fn insert(area: &mut [u64], at: usize, n: usize, v: usize)
+    requires { at + n ≤ length area.old }
+    ensures { area.new ≡ inserted area.old at n v }
+{
+    change(area, at, n, v, |x, k| with_bit(x, k));
 }
 
 pub fn remove(area: &mut [u64], at: usize, n: usize, v: usize)
     requires { at + n ≤ length area.old }
     ensures { area.new ≡ removed area.old at n v }
 {
-    if v == 0 {
-        return;
-    }
-    let k = (v - 1) / 64;
-    if k >= n {
-        return;
-    }
-    let x = without_bit(area[at + k], (v - 1) % 64);
-    area[at + k] = x;
+    change(area, at, n, v, |x, k| without_bit(x, k));
 }
 
-// The loop of `clear`.
+// The loop of `clear`: with `fill` in its place, whole checks take up to 0.8 % more instructions.
 fn clear_words(area: &mut [u64], at: usize, n: usize)
     requires { at + n ≤ length area.old }
     ensures { area.new ≡ cleared area.old at n }
@@ -142,16 +145,6 @@ pub fn disjoint(area: &[u64], first: usize, other: &[u64], second: usize, n: usi
         }
     }
     true
-}
-
-// Copies the set at `from` to `to`, which stands above it.
-pub fn copy(area: &mut [u64], to: usize, from: usize, n: usize)
-    requires { (from + n ≤ to) × (to + n ≤ length area.old) }
-    ensures { area.new ≡ copied area.old to from n }
-{
-    for k in 0..n {
-        area[to + k] = area[from + k];
-    }
 }
 
 // Whether all members of two sets are members of a third: a word of each at a time, the first without a loop.

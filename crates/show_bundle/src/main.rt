@@ -12,116 +12,101 @@ use std::rt::Env;
 // What the checker answers.
 type Answer = Result<Acceptance, Failure>;
 
-// A line of the graph's text that is not the graph's is a comment.
-fn line_start(is_dot: bool) {
-    if is_dot {
-        out::text(b"// ");
-    }
+// What is shown: what the checker answers, and whether all of it is a graph's text.
+#[derive(Clone, Copy)]
+struct Shown {
+    answer: Answer,
+    is_dot: bool,
 }
 
-fn header_line(counts: Counts, left: usize, right: usize, is_dot: bool) {
-    line_start(is_dot);
-    out::name(b"version ", counts.version);
-    out::name(b", symbols ", counts.symbols);
-    out::name(b", variables ", counts.variables);
-    out::name(b", terms ", counts.terms);
-    out::name(b", links ", counts.links);
-    out::name(b", contexts ", counts.contexts);
-    out::name(b", steps ", counts.steps);
-    out::name(b", left ", left);
-    out::name(b", right ", right);
-    out::line_end();
-}
-
-// A word, two numbers and a newline.
-fn answer_line(word: &[u8], first: usize, second: usize, is_dot: bool) {
-    line_start(is_dot);
-    out::name(word, first);
-    out::name(b" ", second);
-    out::line_end();
-}
-
-// A refusal, and the start of the line that says why.
-fn begin_refusal(failure: Failure, is_dot: bool) {
-    answer_line(b"refused ", failure.check.number(), failure.record, is_dot);
-    line_start(is_dot);
-    show_tables::tables::word(failure.check);
-    out::text(b": ");
-}
-
-// The checker's answer to a file with a bad header, and the start of the line that says why.
-fn begin_why(answer: Answer, is_dot: bool) {
-    match answer {
-        Ok(a) => answer_line(b"accepted ", a.left, a.right, is_dot),
-        Err(failure) => begin_refusal(failure, is_dot),
-    }
-}
-
-// What a whole file says, then the answer.
-fn show_bundle(bundle: &Bundle, left: usize, right: usize, answer: Answer, is_dot: bool) {
-    if is_dot {
-        show_records::dot::nodes(bundle);
-    } else {
-        show_records::records::all_lines(bundle, left, right);
-    }
-    match answer {
-        Ok(a) => answer_line(b"accepted ", a.left, a.right, is_dot),
-        Err(failure) => {
-            begin_refusal(failure, is_dot);
-            show_steps::steps::sentence(bundle, left, right, failure);
-            out::line_end();
+impl Shown {
+    // A line of the graph's text that is not the graph's is a comment.
+    fn line_start(self) {
+        if self.is_dot {
+            out::text(b"// ");
         }
     }
-}
 
-fn show_short(length: usize, answer: Answer, is_dot: bool) {
-    begin_why(answer, is_dot);
-    show_tables::tables::too_short(length);
-    out::line_end();
-}
-
-fn show_foreign(version: usize, answer: Answer, is_dot: bool) {
-    begin_why(answer, is_dot);
-    show_tables::tables::foreign(version);
-    out::line_end();
-}
-
-fn show_oversize(counts: Counts, answer: Answer, is_dot: bool) {
-    begin_why(answer, is_dot);
-    show_tables::tables::oversize(counts);
-    out::line_end();
-}
-
-fn show_length(length: usize, bytes: usize, answer: Answer, is_dot: bool) {
-    begin_why(answer, is_dot);
-    show_tables::tables::wrong_length(length, bytes);
-    out::line_end();
-}
-
-// As much of the file as can be read. A file whose header is bad, which the checker refuses with 1 to 3, shows its header's numbers only.
-fn show_file(file: &[u8], answer: Answer, is_dot: bool) {
-    if file.len() < Bundle::LEAST {
-        show_short(file.len(), answer, is_dot);
-        return;
+    fn header_line(self, counts: Counts, left: usize, right: usize) {
+        self.line_start();
+        out::name(b"version ", counts.version);
+        out::name(b", symbols ", counts.symbols);
+        out::name(b", variables ", counts.variables);
+        out::name(b", terms ", counts.terms);
+        out::name(b", links ", counts.links);
+        out::name(b", contexts ", counts.contexts);
+        out::name(b", steps ", counts.steps);
+        out::name(b", left ", left);
+        out::name(b", right ", right);
+        out::line_end();
     }
-    let b = counts(file);
-    let left = claim_left(file);
-    let right = claim_right(file);
-    header_line(b, left, right, is_dot);
-    if b.version != 1 {
-        show_foreign(b.version, answer, is_dot);
-        return;
+
+    // A word, two numbers and a newline.
+    fn answer_line(self, word: &[u8], first: usize, second: usize) {
+        self.line_start();
+        out::name(word, first);
+        out::name(b" ", second);
+        out::line_end();
     }
-    if !b.within() {
-        show_oversize(b, answer, is_dot);
-        return;
+
+    // A refusal, and the start of the line that says why.
+    fn begin_refusal(self, failure: Failure) {
+        self.answer_line(b"refused ", failure.check.number(), failure.record);
+        self.line_start();
+        show_tables::tables::word(failure.check);
+        out::text(b": ");
     }
-    let bytes = b.bytes();
-    if file.len() != bytes {
-        show_length(file.len(), bytes, answer, is_dot);
-        return;
+
+    // The checker's answer, and one sentence that says why, where it refuses.
+    fn show_answer<F: Fn(Failure)>(self, sentence: F)
+        requires { F.IsAlwaysCallable sentence }
+    {
+        match self.answer {
+            Ok(a) => self.answer_line(b"accepted ", a.left, a.right),
+            Err(failure) => {
+                self.begin_refusal(failure);
+                sentence(failure);
+                out::line_end();
+            }
+        }
     }
-    show_bundle(&Bundle::of(file, b), left, right, answer, is_dot);
+
+    // What a whole file says, then the answer.
+    fn show_bundle(self, bundle: &Bundle, left: usize, right: usize) {
+        if self.is_dot {
+            show_records::dot::nodes(bundle);
+        } else {
+            show_records::records::all_lines(bundle, left, right);
+        }
+        self.show_answer(|failure| show_steps::steps::sentence(bundle, left, right, failure));
+    }
+
+    // As much of the file as can be read. A file whose header is bad, which the checker refuses with 1 to 3, shows its header's numbers only.
+    fn show_file(self, file: &[u8]) {
+        let length = file.len();
+        if length < Bundle::LEAST {
+            self.show_answer(|_| show_tables::tables::too_short(length));
+            return;
+        }
+        let b = counts(file);
+        let left = claim_left(file);
+        let right = claim_right(file);
+        self.header_line(b, left, right);
+        if b.version != 1 {
+            self.show_answer(|_| show_tables::tables::foreign(b.version));
+            return;
+        }
+        if !b.within() {
+            self.show_answer(|_| show_tables::tables::oversize(b));
+            return;
+        }
+        let bytes = b.bytes();
+        if length != bytes {
+            self.show_answer(|_| show_tables::tables::wrong_length(length, bytes));
+            return;
+        }
+        self.show_bundle(&Bundle::of(file, b), left, right);
+    }
 }
 
 // The most parts of a formula that --rule prints: the longest text that the program read takes has fewer.
@@ -207,6 +192,6 @@ fn main(rt: HostRuntime) {
     }
     let is_dot = has_argument(&rt, b"--dot");
     graph_start(is_dot);
-    show_file(&input[..n], answer, is_dot);
+    Shown { answer, is_dot }.show_file(&input[..n]);
     graph_end(is_dot);
 }

@@ -2,7 +2,7 @@
 
 use bundle::Bundle;
 use logic::Image;
-use logic::kinds::FIXES;
+use logic::kinds::Entry;
 
 // What stands in the second list beside x in the first.
 pub fn beside(bundle: &Bundle, first: usize, second: usize, x: usize) -> Option<usize> {
@@ -20,12 +20,17 @@ pub fn image(bundle: &Bundle, context: usize, x: usize) -> Image {
     // No `for`: each context names its parent.
     while c != 0 {
         let first = bundle.context_field(c, 1);
-        if bundle.context_field(c, 0) == FIXES {
-            if first == x {
-                return Image::Own;
+        match Entry::of(bundle.context_field(c, 0)) {
+            Some(Entry::Fixes) => {
+                if first == x {
+                    return Image::Own;
+                }
             }
-        } else if let Some(t) = beside(bundle, first, bundle.context_field(c, 2), x) {
-            return Image::Gives(t);
+            _ => {
+                if let Some(t) = beside(bundle, first, bundle.context_field(c, 2), x) {
+                    return Image::Gives(t);
+                }
+            }
         }
         let parent = bundle.context_field(c, 3);
         if parent >= c {

@@ -1,14 +1,14 @@
 // What differs at one pair of terms, by the definition of the walk (crates/logic/specs/ReflWalk.antt).
-ghost use Rattle.std.specs.Prelude.{◌*◌, ◌≤◌, length};
-ghost use Rattle.bundle.specs.Limits.{set_words};
-
 use super::binders::{captured, nearest, partner};
 use super::contexts::image;
 use super::path::{Level, Side};
 use bundle::Bundle;
+use crossings::records::{all_sorts_meet, sorts_meet};
+use crossings::variables::image_is;
+use free_variables::term_sets::TermSets;
 use images::images::is_variable;
 use logic::Image;
-use logic::kinds::{APPLICATION, LET, VARIABLE, is_binder};
+use logic::kinds::Kind;
 
 // Why two terms differ.
 #[derive(Clone, Copy)]
@@ -50,49 +50,20 @@ fn bound_reason(
     None
 }
 
-// Whether term r is the image of x.
-fn is_image(bundle: &Bundle, image: Image, x: usize, r: usize) -> bool {
-    match image {
-        Image::Own => is_variable(bundle, r, x),
-        Image::Gives(t) => t == r,
-    }
-}
-
 fn free_reason(
-    bundle: &Bundle,
-    area: &[u64],
+    sets: &TermSets,
     levels: &[Level],
     context: usize,
     x: usize,
     r: usize,
-) -> Option<Reason>
-    requires { (set_words * length bundle.now.terms ≤ length area.now) }
-{
+) -> Option<Reason> {
+    let bundle = sets.bundle();
     let image = image(bundle, context, x);
-    if !is_image(bundle, image, x, r) {
+    if !image_is(bundle, image, x, r) {
         return Some(Reason::Image(image));
     }
-    let y = captured(bundle, area, levels, r)?;
+    let y = captured(sets, levels, r)?;
     Some(Reason::Capture(y))
-}
-
-// Whether two variables have one sort.
-fn one_sort(bundle: &Bundle, x: usize, y: usize) -> bool {
-    bundle.variable_sort(x) == bundle.variable_sort(y)
-}
-
-// Whether two lists of variables are as long and have the same sorts.
-fn same_sorts(bundle: &Bundle, first: usize, second: usize) -> bool {
-    let mut others = bundle.items(second);
-    for x in bundle.items(first) {
-        let Some(y) = others.next() else {
-            return false;
-        };
-        if !one_sort(bundle, x, y) {
-            return false;
-        }
-    }
-    others.next().is_none()
 }
 
 // What differs at two records, where left is no variable.
@@ -103,40 +74,30 @@ fn head_reason(bundle: &Bundle, l: usize, r: usize) -> Option<Reason> {
     if kind != bundle.term_field(r, 0) {
         return Some(Reason::Kind);
     }
-    if kind == APPLICATION {
-        return if first == second {
-            None
-        } else {
-            Some(Reason::Symbol)
-        };
-    }
-    let same = if kind == LET {
-        same_sorts(bundle, first, second)
-    } else if is_binder(kind) {
-        one_sort(bundle, first, second)
-    } else {
-        return Some(Reason::Kind);
+    let (same, reason) = match Kind::of(kind) {
+        Some(Kind::Application) => (first == second, Reason::Symbol),
+        Some(Kind::Let) => (all_sorts_meet(bundle, first, second), Reason::Sorts),
+        Some(Kind::Binder(_)) => (sorts_meet(bundle, first, second), Reason::Sorts),
+        Some(Kind::Variable) | None => (false, Reason::Kind),
     };
-    if same { None } else { Some(Reason::Sorts) }
+    if same { None } else { Some(reason) }
 }
 
 // What differs at the pair of l and r, below some levels.
 pub fn pair_reason(
-    bundle: &Bundle,
-    area: &[u64],
+    sets: &TermSets,
     levels: &[Level],
     context: usize,
     l: usize,
     r: usize,
-) -> Option<Reason>
-    requires { (set_words * length bundle.now.terms ≤ length area.now) }
-{
-    if bundle.term_field(l, 0) != VARIABLE {
+) -> Option<Reason> {
+    let bundle = sets.bundle();
+    if Kind::of(bundle.term_field(l, 0)) != Some(Kind::Variable) {
         return head_reason(bundle, l, r);
     }
     let x = bundle.term_field(l, 1);
     match nearest(bundle, levels, Side::Left, x) {
         Some((level, inner)) => bound_reason(bundle, level, inner, x, r),
-        None => free_reason(bundle, area, levels, context, x, r),
+        None => free_reason(sets, levels, context, x, r),
     }
 }

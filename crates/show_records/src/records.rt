@@ -2,7 +2,7 @@
 ghost use Rattle.std.specs.Prelude.{◌≤◌};
 
 use bundle::Bundle;
-use logic::kinds::{FIXES, REPLACES};
+use logic::kinds::Entry;
 use show_text::out;
 use show_text::terms::term;
 
@@ -65,15 +65,17 @@ fn context_line(bundle: &Bundle, i: usize) {
     let second = bundle.context_field(i, 2);
     out::name(b"c", i);
     out::name(b" = c", bundle.context_field(i, 3));
-    if kind == FIXES {
-        out::name(b", v", first);
-        out::text(b" fixed");
-    } else if kind == REPLACES {
-        replacements(bundle, first, second);
-    } else {
-        out::name(b", kind ", kind);
-        out::name(b" ", first);
-        out::name(b" ", second);
+    match Entry::of(kind) {
+        Some(Entry::Fixes) => {
+            out::name(b", v", first);
+            out::text(b" fixed");
+        }
+        Some(Entry::Replaces) => replacements(bundle, first, second),
+        None => {
+            out::name(b", kind ", kind);
+            out::name(b" ", first);
+            out::name(b" ", second);
+        }
     }
 }
 

@@ -1,13 +1,12 @@
 // A context's entries, from the context up to the empty one: what they mention, and where they end. A parent that is not lower, which check 10 refuses,
 // ends a walk.
-ghost use Rattle.std.specs.Prelude.{◌≡◌, false, ◌*◌, ◌-◌, ◌≤◌, length};
-ghost use Rattle.bundle.specs.Limits.{set_words};
+ghost use Rattle.std.specs.Prelude.{◌≡◌, false, ◌-◌, ◌≤◌};
 ghost use Rattle.bundle.specs.Bundle.{context_of};
 ghost use Rattle.logic.specs.Contexts.{Mentioned};
 
 use bundle::Bundle;
-use images::images::is_free;
-use logic::kinds::{FIXES, REPLACES};
+use free_variables::term_sets::TermSets;
+use logic::kinds::Entry;
 
 // Whether the entry of context c fixes x or replaces it. One that it does not mention is mentioned above it, or not at all.
 fn entry_mentions(bundle: &Bundle, c: usize, x: usize) -> bool
@@ -15,13 +14,11 @@ fn entry_mentions(bundle: &Bundle, c: usize, x: usize) -> bool
 {
     let kind = bundle.context_field(c, 0);
     let first = bundle.context_field(c, 1);
-    if kind == FIXES {
-        return first == x;
+    match Entry::of(kind) {
+        Some(Entry::Fixes) => first == x,
+        Some(Entry::Replaces) => bundle.has_item(first, x),
+        None => false,
     }
-    if kind == REPLACES {
-        return bundle.has_item(first, x);
-    }
-    false
 }
 
 // Whether an entry of a context mentions x. Where it says no, none does.
@@ -78,29 +75,19 @@ pub fn chain_of(bundle: &Bundle, context: usize) -> Option<Chain> {
 }
 
 // Whether x is free in a term of a list.
-fn free_in_some(bundle: &Bundle, area: &[u64], list: usize, x: usize) -> bool
-    requires { (set_words * length bundle.now.terms ≤ length area.now) }
-{
-    for t in bundle.items(list) {
-        if is_free(bundle, area, Bundle::SET_WORDS, t, x) {
-            return true;
-        }
-    }
-    false
+fn free_in_some(sets: &TermSets, list: usize, x: usize) -> bool {
+    sets.bundle().items(list).any(|t| sets.is_free(t, x))
 }
 
 // The nearest entry that replaces by a term in which x is free.
-pub fn replacer(bundle: &Bundle, area: &[u64], context: usize, x: usize) -> Option<usize>
-    requires { (set_words * length bundle.now.terms ≤ length area.now) }
-{
+pub fn replacer(sets: &TermSets, context: usize, x: usize) -> Option<usize> {
+    let bundle = sets.bundle();
     let mut c = context;
     // No `for`: each context names its parent.
     while c != 0 {
-        if bundle.context_field(c, 0) == REPLACES {
-            let terms = bundle.context_field(c, 2);
-            if free_in_some(bundle, area, terms, x) {
-                return Some(c);
-            }
+        let replaces = Entry::of(bundle.context_field(c, 0)) == Some(Entry::Replaces);
+        if replaces && free_in_some(sets, bundle.context_field(c, 2), x) {
+            return Some(c);
         }
         c = above(bundle, c);
     }

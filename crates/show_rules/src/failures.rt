@@ -2,15 +2,14 @@
 // Each function goes through the tests of its rule, up to the first that fails; where only one is left, it is that one.
 
 use bundle::Bundle;
-use logic::kinds;
-use logic::kinds::{APPLICATION, is_binder};
-use logic::rules::{BIND, CONG, LET, REFL, TRANS};
+use logic::kinds::{Kind, is_binder};
+use logic::rules::Rule;
 use show_text::out;
 use show_walks::sentences::{failed_walk, spent_walk};
 
 fn false_cong(bundle: &Bundle, context: usize, left: usize, right: usize) {
-    let applied = bundle.term_field(left, 0) == APPLICATION;
-    let result = bundle.term_field(right, 0) == APPLICATION;
+    let applied = Kind::of(bundle.term_field(left, 0)) == Some(Kind::Application);
+    let result = Kind::of(bundle.term_field(right, 0)) == Some(Kind::Application);
     let same = bundle.term_field(left, 1) == bundle.term_field(right, 1);
     out::name(b" is CONG, and t", left);
     if !(applied & result & same) {
@@ -46,7 +45,7 @@ fn false_bind(bundle: &Bundle, context: usize, left: usize, right: usize) {
 }
 
 fn false_let(bundle: &Bundle, context: usize, left: usize, right: usize) {
-    if bundle.term_field(left, 0) == kinds::LET {
+    if Kind::of(bundle.term_field(left, 0)) == Some(Kind::Let) {
         out::name(
             b" is LET, and its premises do not carry the bound terms of t",
             left,
@@ -70,12 +69,12 @@ pub fn false_step(bundle: &Bundle, k: usize) {
     let left = bundle.step_field(k, 2);
     let right = bundle.step_field(k, 3);
     out::name(b"step ", k);
-    match rule {
-        REFL => failed_walk(bundle, context, left, right),
-        CONG => false_cong(bundle, context, left, right),
-        BIND => false_bind(bundle, context, left, right),
-        LET => false_let(bundle, context, left, right),
-        _ => {
+    match Rule::of(rule) {
+        Some(Rule::Refl) => failed_walk(bundle, context, left, right),
+        Some(Rule::Cong) => false_cong(bundle, context, left, right),
+        Some(Rule::Bind) => false_bind(bundle, context, left, right),
+        Some(Rule::Let) => false_let(bundle, context, left, right),
+        Some(Rule::Trans) | None => {
             out::name(b" is TRANS, and its premises do not carry t", left);
             out::name(b" to a middle term and that to t", right);
             out::name(b", both in c", context);
@@ -90,7 +89,7 @@ pub fn failed_side(bundle: &Bundle, k: usize) {
     let right = bundle.step_field(k, 3);
     let premise = bundle.link_field(bundle.first_link(bundle.step_field(k, 4)), 0);
     out::name(b"step ", k);
-    if bundle.step_field(k, 0) == TRANS {
+    if Rule::of(bundle.step_field(k, 0)) == Some(Rule::Trans) {
         out::name(
             b" is TRANS, and its middle term, t",
             bundle.step_field(premise, 3),

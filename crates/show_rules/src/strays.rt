@@ -1,23 +1,21 @@
 // The stray variable of a refusal by 22: it is free in a side of a step, and no entry of its context mentions it.
-ghost use Rattle.std.specs.Prelude.{◌≡◌, true, IfSome, ◌*◌, ◌≤◌, length};
-ghost use Rattle.bundle.specs.Limits.{set_words};
+ghost use Rattle.std.specs.Prelude.{◌≡◌, true, IfSome};
 ghost use Rattle.logic.specs.Free.{free_at};
 ghost use Rattle.logic.specs.Contexts.{Mentioned};
-ghost use Rattle.images.specs.LentReading.{free_in};
+ghost use Rattle.free_variables.specs.TermSets.{free_in};
 
 use super::chains::{mentions, replacer};
 use bundle::Bundle;
-use images::images::is_free;
+use free_variables::term_sets::TermSets;
 use show_walks::area::free_sets;
 
 // The lowest variable that is free in term t and that no entry of the context mentions.
-fn stray_in(bundle: &Bundle, area: &[u64], context: usize, t: usize) -> Option<usize>
-    requires { (set_words * length bundle.now.terms ≤ length area.now) }
-    ensures { IfSome result (λ x. (free_in (length bundle.now.terms) area.now set_words t x ≡ true)
-        × (Mentioned bundle.now context x → ⊥)) }
+fn stray_in(sets: &TermSets, context: usize, t: usize) -> Option<usize>
+    ensures { IfSome result (λ x. (free_in sets.now t x ≡ true) × (Mentioned sets.now.bundle context x → ⊥)) }
 {
+    let bundle = sets.bundle();
     for x in 1..bundle.variables() + 1 {
-        if is_free(bundle, area, Bundle::SET_WORDS, t, x) {
+        if sets.is_free(t, x) {
             if !mentions(bundle, context, x) {
                 return Some(x);
             }
@@ -34,14 +32,13 @@ pub struct Stray {
     pub replacer: Option<usize>,
 }
 
-fn stray_of(bundle: &Bundle, area: &[u64], context: usize, t: usize, x: usize) -> Stray
-    requires { (set_words * length bundle.now.terms ≤ length area.now) }
+fn stray_of(sets: &TermSets, context: usize, t: usize, x: usize) -> Stray
     ensures { (result.variable ≡ x) × (result.term ≡ t) }
 {
     Stray {
         variable: x,
         term: t,
-        replacer: replacer(bundle, area, context, x),
+        replacer: replacer(sets, context, x),
     }
 }
 
@@ -50,9 +47,10 @@ pub fn find(bundle: &Bundle, context: usize, left: usize, right: usize) -> Optio
     ensures { IfSome result (λ s. (free_at bundle.now s.term s.variable ≡ true) × (Mentioned bundle.now context s.variable → ⊥)) }
 {
     let area = free_sets(bundle);
-    if let Some(x) = stray_in(bundle, &area, context, left) {
-        return Some(stray_of(bundle, &area, context, left, x));
+    let sets = TermSets::of(bundle, &area, Bundle::SET_WORDS);
+    if let Some(x) = stray_in(&sets, context, left) {
+        return Some(stray_of(&sets, context, left, x));
     }
-    let y = stray_in(bundle, &area, context, right)?;
-    Some(stray_of(bundle, &area, context, right, y))
+    let y = stray_in(&sets, context, right)?;
+    Some(stray_of(&sets, context, right, y))
 }

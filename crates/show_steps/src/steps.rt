@@ -4,7 +4,7 @@
 use super::strays::stray_step;
 use bundle::Bundle;
 use logic::checks::{Check, Failure};
-use logic::rules::{BIND, REFL, RULES, TRANS};
+use logic::rules::Rule;
 use show_rules::failures::{failed_side, false_step, spent_step};
 use show_tables::tables::{bad_link, bad_sort, before, is_number, no_list, not_to};
 use show_terms::bad_contexts::{bad_context, unsettled};
@@ -15,11 +15,11 @@ use show_text::out;
 
 // A table of words.
 fn wrong_count(rule: usize) {
-    match rule {
-        REFL => out::text(b" is REFL, which takes no premises"),
-        TRANS => out::text(b" is TRANS, which takes two premises"),
-        BIND => out::text(b" is BIND, which takes one premise"),
-        _ => not_to(b" has rule ", rule, RULES),
+    match Rule::of(rule) {
+        Some(Rule::Refl) => out::text(b" is REFL, which takes no premises"),
+        Some(Rule::Trans) => out::text(b" is TRANS, which takes two premises"),
+        Some(Rule::Bind) => out::text(b" is BIND, which takes one premise"),
+        Some(Rule::Cong) | Some(Rule::Let) | None => not_to(b" has rule ", rule, Rule::COUNT),
     }
 }
 

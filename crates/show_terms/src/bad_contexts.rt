@@ -2,7 +2,7 @@
 
 use super::bad_terms::bad_pairs;
 use bundle::Bundle;
-use logic::kinds::{CONTEXT_KINDS, FIXES, REPLACES};
+use logic::kinds::Entry;
 use show_tables::tables::{is_number, no_list, not_to};
 use show_text::out;
 
@@ -49,12 +49,12 @@ pub fn bad_context(bundle: &Bundle, i: usize) {
     if i <= parent {
         out::name(b": its parent is c", parent);
         out::text(b", not an earlier context");
-    } else if kind == FIXES {
-        bad_fixing(bundle, first, second);
-    } else if kind == REPLACES {
-        bad_replacing(bundle, first, second);
-    } else {
-        not_to(b" has kind ", kind, CONTEXT_KINDS);
+        return;
+    }
+    match Entry::of(kind) {
+        Some(Entry::Fixes) => bad_fixing(bundle, first, second),
+        Some(Entry::Replaces) => bad_replacing(bundle, first, second),
+        None => not_to(b" has kind ", kind, Entry::COUNT),
     }
 }
 

@@ -3,7 +3,7 @@
 
 use bundle::Bundle;
 use duplicates::same_term;
-use logic::kinds::{APPLICATION, LET, TERM_KINDS, VARIABLE, is_binder};
+use logic::kinds::Kind;
 use show_tables::tables::{before, is_number, no_list, not_lower, not_to};
 use show_text::out;
 
@@ -75,15 +75,12 @@ pub fn bad_term(bundle: &Bundle, i: usize) {
     let second = bundle.term_field(i, 2);
     let third = bundle.term_field(i, 3);
     out::name(b"t", i);
-    if is_binder(kind) {
-        bad_quantifier(bundle, i, first, second);
-        return;
-    }
-    match kind {
-        VARIABLE => bad_variable_term(bundle, first),
-        APPLICATION => bad_application(bundle, i, first, second),
-        LET => bad_let(bundle, i, first, second, third),
-        _ => not_to(b" has kind ", kind, TERM_KINDS),
+    match Kind::of(kind) {
+        Some(Kind::Variable) => bad_variable_term(bundle, first),
+        Some(Kind::Application) => bad_application(bundle, i, first, second),
+        Some(Kind::Binder(_)) => bad_quantifier(bundle, i, first, second),
+        Some(Kind::Let) => bad_let(bundle, i, first, second, third),
+        None => not_to(b" has kind ", kind, Kind::COUNT),
     }
 }
 
@@ -104,16 +101,18 @@ pub fn missorted(bundle: &Bundle, i: usize) {
     let first = bundle.term_field(i, 1);
     let second = bundle.term_field(i, 2);
     out::name(b"t", i);
-    if kind == APPLICATION {
-        out::name(b": its arguments are not as many as symbol ", first);
-        out::text(b" (");
-        out::symbol(first);
-        out::text(b") takes, or not of its sorts");
-    } else if kind == LET {
-        bad_pairs(bundle, first);
-    } else {
-        out::name(b": its body, t", second);
-        out::text(b", is not of the sort Bool");
+    match Kind::of(kind) {
+        Some(Kind::Application) => {
+            out::name(b": its arguments are not as many as symbol ", first);
+            out::text(b" (");
+            out::symbol(first);
+            out::text(b") takes, or not of its sorts");
+        }
+        Some(Kind::Let) => bad_pairs(bundle, first),
+        _ => {
+            out::name(b": its body, t", second);
+            out::text(b", is not of the sort Bool");
+        }
     }
 }
 

@@ -1,6 +1,6 @@
 // Pieces of text on standard output: words, numbers and names.
 use bundle::Bundle;
-use logic::rules::{BIND, CONG, LET, REFL, TRANS};
+use logic::rules::Rule;
 
 pub fn text(words: &[u8]) {
     io::write_all(1, words);
@@ -62,13 +62,13 @@ pub fn declared(i: usize) {
 
 // A rule: a table of words.
 pub fn rule(r: usize) {
-    match r {
-        REFL => text(b"REFL"),
-        CONG => text(b"CONG"),
-        TRANS => text(b"TRANS"),
-        BIND => text(b"BIND"),
-        LET => text(b"LET"),
-        _ => name(b"rule ", r),
+    match Rule::of(r) {
+        Some(Rule::Refl) => text(b"REFL"),
+        Some(Rule::Cong) => text(b"CONG"),
+        Some(Rule::Trans) => text(b"TRANS"),
+        Some(Rule::Bind) => text(b"BIND"),
+        Some(Rule::Let) => text(b"LET"),
+        None => name(b"rule ", r),
     }
 }
 

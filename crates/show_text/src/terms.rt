@@ -3,7 +3,7 @@
 
 use super::out;
 use bundle::Bundle;
-use logic::kinds::{APPLICATION, FOR_ALL, LET, VARIABLE, is_binder};
+use logic::kinds::{Binder, Kind};
 
 // `(`, and the symbol of an application.
 fn open_application(f: usize) {
@@ -12,11 +12,10 @@ fn open_application(f: usize) {
 }
 
 // `(forall ((v1 Item)) `, up to the body.
-fn open_quantifier(bundle: &Bundle, kind: usize, variable: usize) {
-    if kind == FOR_ALL {
-        out::text(b"(forall ((v");
-    } else {
-        out::text(b"(exists ((v");
+fn open_quantifier(bundle: &Bundle, binder: Binder, variable: usize) {
+    match binder {
+        Binder::ForAll => out::text(b"(forall ((v"),
+        Binder::Exists => out::text(b"(exists ((v"),
     }
     out::number(variable);
     out::space();
@@ -41,11 +40,8 @@ fn term_name(t: usize, budget: usize) -> usize {
     leaf(b"t", t, budget)
 }
 
-// A variable, or a record of no kind that there is.
-fn simple_term(kind: usize, first: usize, second: usize, third: usize, budget: usize) -> usize {
-    if kind == VARIABLE {
-        return leaf(b"v", first, budget);
-    }
+// A record of no kind that there is.
+fn no_term(kind: usize, first: usize, second: usize, third: usize, budget: usize) -> usize {
     out::name(b"(kind ", kind);
     out::name(b" ", first);
     out::name(b" ", second);
@@ -114,28 +110,31 @@ pub fn term(bundle: &Bundle, t: usize, budget: usize) -> usize {
     let first = bundle.term_field(t, 1);
     let second = bundle.term_field(t, 2);
     let third = bundle.term_field(t, 3);
-    if kind == APPLICATION {
-        if bundle.first_link(second) == 0 {
-            return constant(first, budget);
+    match Kind::of(kind) {
+        Some(Kind::Variable) => leaf(b"v", first, budget),
+        Some(Kind::Application) => {
+            if bundle.first_link(second) == 0 {
+                return constant(first, budget);
+            }
+            open_application(first);
+            let after = arguments(bundle, t, second, budget);
+            out::close();
+            after
         }
-        open_application(first);
-        let after = arguments(bundle, t, second, budget);
-        out::close();
-        return after;
+        Some(Kind::Binder(binder)) => {
+            open_quantifier(bundle, binder, first);
+            let after = part(bundle, t, second, budget);
+            out::close();
+            after
+        }
+        Some(Kind::Let) => {
+            open_let();
+            let bound = bound_terms(bundle, t, first, second, budget);
+            open_body();
+            let after = part(bundle, t, third, bound);
+            out::close();
+            after
+        }
+        None => no_term(kind, first, second, third, budget),
     }
-    if is_binder(kind) {
-        open_quantifier(bundle, kind, first);
-        let after = part(bundle, t, second, budget);
-        out::close();
-        return after;
-    }
-    if kind == LET {
-        open_let();
-        let bound = bound_terms(bundle, t, first, second, budget);
-        open_body();
-        let after = part(bundle, t, third, bound);
-        out::close();
-        return after;
-    }
-    simple_term(kind, first, second, third, budget)
 }

@@ -9,7 +9,7 @@ pub const WORDS: usize = Bundle::SET_WORDS * Bundle::TERMS;
 
 // An area that holds the free sets.
 pub fn free_sets(bundle: &Bundle) -> [u64; WORDS]
-    ensures { FreeSets result set_words bundle.now }
+    ensures { FreeSets (record { bundle = bundle.now; words = result; n = set_words }) }
 {
     let mut area = [0u64; WORDS];
     // The counts are within the limits: so there is room.

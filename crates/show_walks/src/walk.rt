@@ -1,12 +1,12 @@
 // The walk of a REFL over pairs of terms, left to right and parent before child, to the first difference. This is for what show says: nothing is proved of
 // its result, and the checker's own walk is another.
-ghost use Rattle.std.specs.Prelude.{IfSome, ◌*◌, ◌≤◌, length};
-ghost use Rattle.bundle.specs.Limits.{set_words};
+ghost use Rattle.std.specs.Prelude.{IfSome, ◌≤◌};
 
 use super::area::free_sets;
 use bundle::Bundle;
+use free_variables::term_sets::TermSets;
 use logic::PAIR_LIMIT;
-use logic::kinds::{APPLICATION, LET, VARIABLE, is_binder};
+use logic::kinds::Kind;
 use show_pairs::pairs::{Reason, pair_reason};
 use show_pairs::path::{Level, Path};
 
@@ -30,13 +30,13 @@ enum Turn {
 
 // Opens a level for the parts of the pair l and r; a variable has none.
 fn open(bundle: &Bundle, path: &mut Path, l: usize, r: usize) {
-    let kind = bundle.term_field(l, 0);
-    if kind == VARIABLE {
-        return;
-    }
-    let listed = (kind == APPLICATION) | (kind == LET);
-    let i = if listed { bundle.term_field(l, 2) } else { 0 };
-    let j = if listed { bundle.term_field(r, 2) } else { 0 };
+    let (i, j) = match Kind::of(bundle.term_field(l, 0)) {
+        Some(Kind::Variable) => return,
+        Some(Kind::Application) | Some(Kind::Let) => {
+            (bundle.term_field(l, 2), bundle.term_field(r, 2))
+        }
+        Some(Kind::Binder(_)) | None => (0, 0),
+    };
     path.push(Level {
         left: l,
         right: r,
@@ -50,10 +50,11 @@ fn open(bundle: &Bundle, path: &mut Path, l: usize, r: usize) {
 fn body_field(kind: usize) -> Option<usize>
     ensures { IfSome result (λ k. k ≤ 3) }
 {
-    if is_binder(kind) {
-        return Some(2);
+    match Kind::of(kind) {
+        Some(Kind::Binder(_)) => Some(2),
+        Some(Kind::Let) => Some(3),
+        Some(Kind::Variable) | Some(Kind::Application) | None => None,
     }
-    if kind == LET { Some(3) } else { None }
 }
 
 // The bodies of a level, once; then the level is left.
@@ -90,9 +91,8 @@ fn next_turn(bundle: &Bundle, level: &mut Level) -> Turn {
 }
 
 // The walk, over the free sets of all terms.
-fn walk(bundle: &Bundle, area: &[u64], context: usize, left: usize, right: usize) -> End
-    requires { (set_words * length bundle.now.terms ≤ length area.now) }
-{
+fn walk(sets: &TermSets, context: usize, left: usize, right: usize) -> End {
+    let bundle = sets.bundle();
     let none = End {
         left,
         right,
@@ -106,7 +106,7 @@ fn walk(bundle: &Bundle, area: &[u64], context: usize, left: usize, right: usize
             let found = if visited >= PAIR_LIMIT {
                 Some(Reason::Spent)
             } else {
-                pair_reason(bundle, area, path.levels(), context, l, r)
+                pair_reason(sets, path.levels(), context, l, r)
             };
             if found.is_some() {
                 return End {
@@ -143,5 +143,10 @@ fn walk(bundle: &Bundle, area: &[u64], context: usize, left: usize, right: usize
 // Where the walk of a REFL with these sides in a context ends.
 pub fn first_difference(bundle: &Bundle, context: usize, left: usize, right: usize) -> End {
     let area = free_sets(bundle);
-    walk(bundle, &area, context, left, right)
+    walk(
+        &TermSets::of(bundle, &area, Bundle::SET_WORDS),
+        context,
+        left,
+        right,
+    )
 }

@@ -1,11 +1,12 @@
 -- Two lists of sorts compared, the second that of the terms of a list of links: what each turn of a walk knows. The first list is given by
 -- an equation: it has ended, or it starts with x.
+--     value_in         a link's value, in the same bundle
 --     ended, short     the first list has ended; the second has, and the first has not
 --     differs, on      both have an item: they differ, or the walk goes on
 --     some_start       a list is not empty
 --     replicate_cons   the equation of the first list, for sorts that are all the same
 --     no_more          the first list has ended: the second has where its walk gives nothing
-use mathlib.Core.Path.{◌≡◌, refl, sym, ◌∙◌}
+use mathlib.Core.Path.{◌≡◌, refl, sym, ap, ◌∙◌}
 use mathlib.Core.Bool.{Bool, false, not, ◌&&◌}
 use mathlib.Core.List.{List, [], ◌∷◌, map}
 use Prim.Native.Nat.{ℕ, zero, suc, ◌-◌, ◌≤◌}
@@ -36,6 +37,9 @@ no_more f r xs rest none y e = all_given r xs rest none y e ∙ nothing xs
     nothing : (xs : List ℕ) → same_list [] xs ≡ same_list [] (map f xs)
     nothing [] = refl
     nothing (x ∷ xs) = refl
+
+pub value_in : {a b : Bundle} → a ≡ b → (i : ℕ) → (link_of a i).value ≡ (link_of b i).value
+value_in same i = ap (λ (b : Bundle). (link_of b i).value) same
 
 module _ (b : Bundle) where
   -- the sorts of the terms of the list that starts at a link

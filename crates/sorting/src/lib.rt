@@ -3,3 +3,4 @@
 
 pub mod sorts; // sorts.rt: signatures and sorts
 pub mod notes; // notes.rt: what is noted of every list and term, for 7 to 9
+pub mod sorted_bundle; // sorted_bundle.rt: a bundle with the sorts of its terms

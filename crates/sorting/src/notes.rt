@@ -7,23 +7,22 @@ ghost use Rattle.sorting.specs.Notes.{Sorted};
 
 use super::sorts::{result_sort, signature_of, sort_in};
 use bundle::Bundle;
-use logic::kinds::{APPLICATION, LET, VARIABLE};
+use logic::kinds::Kind;
 
 // The sort of term t by its record, from the sorts of the terms below it.
 fn sort_by(bundle: &Bundle, sorts: &[usize], t: usize) -> usize
     ensures { result ≡ sort_by bundle.now (λ i. get_or sorts.now i 0) (term_of bundle.now t) }
 {
     let kind = bundle.term_field(t, 0);
-    if kind == VARIABLE {
-        return bundle.variable_sort(bundle.term_field(t, 1));
+    match Kind::of(kind) {
+        Some(Kind::Variable) => bundle.variable_sort(bundle.term_field(t, 1)),
+        Some(Kind::Application) => {
+            result_sort(bundle, signature_of(bundle, bundle.term_field(t, 1)))
+        }
+        Some(Kind::Let) => sort_in(sorts, bundle.term_field(t, 3)),
+        Some(Kind::Binder(_)) => 0,
+        None => 0,
     }
-    if kind == APPLICATION {
-        return result_sort(bundle, signature_of(bundle, bundle.term_field(t, 1)));
-    }
-    if kind == LET {
-        return sort_in(sorts, bundle.term_field(t, 3));
-    }
-    0
 }
 
 // Notes the sort of every term.

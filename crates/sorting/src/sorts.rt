@@ -1,14 +1,11 @@
-// Signatures of symbols, sorts of terms, and lists of sorts compared.
-ghost use Rattle.std.specs.Prelude.{◌≡◌, true, ◌&&◌, map, replicate, get_or, ◌≤◌, length};
+// Signatures of symbols, and sorts from what is noted.
+ghost use Rattle.std.specs.Prelude.{◌≡◌, ◌&&◌, get_or, ◌≤◌, length};
 ghost use Rattle.bundle.specs.Limits.{limits};
-ghost use Rattle.bundle.specs.Bundle.{sort_of_variable};
 ghost use Rattle.bundle.specs.Links.{items};
-ghost use Rattle.bundle.specs.Lists.{same_list, different};
+ghost use Rattle.bundle.specs.Lists.{different};
 ghost use Rattle.logic.specs.declared.Signature.TheVariants.{BuiltIn};
-ghost use Rattle.logic.specs.Symbols.{truth_sort, symbol_kind, signature, known, argument_sorts, result_sort};
-ghost use Rattle.logic.specs.Sorts.{sort_at};
+ghost use Rattle.logic.specs.Symbols.{truth_sort, symbol_kind, signature, known, result_sort};
 ghost use Rattle.logic.specs.Checks.{not_empty};
-ghost use Rattle.sorting.specs.Notes.{Sorted, Fitting};
 
 use bundle::Bundle;
 use logic::Signature;
@@ -86,133 +83,6 @@ pub fn sort_in(sorts: &[usize], t: usize) -> usize
     ensures { result ≡ get_or sorts.now t 0 }
 {
     if t < sorts.len() { sorts[t] } else { 0 }
-}
-
-// Whether the terms of a list are so many, each of the same sort.
-fn all_of_sort(bundle: &Bundle, sorts: &[usize], count: usize, sort: usize, terms: usize) -> bool
-    requires { Sorted bundle.now sorts.now }
-    ensures { result ≡ same_list (replicate count sort) (map (sort_at bundle.now) (items bundle.now terms)) }
-{
-    let mut rest = bundle.items(terms);
-    for _ in 0..count {
-        let Some(t) = rest.next() else {
-            return false;
-        };
-        if sort != sort_in(sorts, t) {
-            return false;
-        }
-    }
-    rest.next().is_none()
-}
-
-// Whether the terms from link `terms` on have the sorts from link `list` on, one each: up to a link from which that is noted. Each link on the
-// way is noted before the rest of its list is known, so what is noted holds only where the answer is yes.
-fn far_sorts(
-    bundle: &Bundle,
-    sorts: &[usize],
-    fitting: &mut [u16],
-    list: usize,
-    terms: usize,
-) -> bool
-    requires { Sorted bundle.now sorts.now × Fitting bundle.now fitting.old × (list ≤ length bundle.now.links) × (terms ≤ length bundle.now.links) }
-    ensures { (result ≡ same_list (items bundle.now list) (map (sort_at bundle.now) (items bundle.now terms))) × (result ≡ true → Fitting bundle.now fitting.new) }
-{
-    // There are few enough links that a link's number fits in 16 bits.
-    prove!(bundle.links() <= Bundle::LINKS);
-    let mut i = list;
-    let mut j = terms;
-    // By links, since what is noted is kept by them.
-    while i != 0 {
-        if j == 0 {
-            return false;
-        }
-        if usize::from(fitting[j]) == i {
-            return true;
-        }
-        fitting[j] = i as u16;
-        let sort = bundle.link_field(i, 0);
-        let t = bundle.link_field(j, 0);
-        if sort != sort_in(sorts, t) {
-            return false;
-        }
-        i = bundle.next_link(i);
-        j = bundle.next_link(j);
-    }
-    j == 0
-}
-
-// Whether the terms of a list have the sorts of a list of sorts, one each. Most lists end before anything is noted.
-fn same_sorts(
-    bundle: &Bundle,
-    sorts: &[usize],
-    fitting: &mut [u16],
-    list: usize,
-    terms: usize,
-) -> bool
-    requires { Sorted bundle.now sorts.now × Fitting bundle.now fitting.old }
-    ensures { (result ≡ same_list (items bundle.now list) (map (sort_at bundle.now) (items bundle.now terms))) × (result ≡ true → Fitting bundle.now fitting.new) }
-{
-    let mut i = bundle.first_link(list);
-    let mut j = bundle.first_link(terms);
-    // By links, since the two that it comes to are handed on.
-    for _ in 0..8 {
-        if i == 0 {
-            return j == 0;
-        }
-        if j == 0 {
-            return false;
-        }
-        let sort = bundle.link_field(i, 0);
-        let t = bundle.link_field(j, 0);
-        if sort != sort_in(sorts, t) {
-            return false;
-        }
-        i = bundle.next_link(i);
-        j = bundle.next_link(j);
-    }
-    far_sorts(bundle, sorts, fitting, i, j)
-}
-
-// Whether the terms of a list have the sorts of a symbol's arguments.
-pub fn arguments_fit(
-    bundle: &Bundle,
-    sorts: &[usize],
-    fitting: &mut [u16],
-    s: Signature,
-    terms: usize,
-) -> bool
-    requires { Sorted bundle.now sorts.now × Fitting bundle.now fitting.old }
-    ensures { (result ≡ same_list (argument_sorts bundle.now s) (map (sort_at bundle.now) (items bundle.now terms))) × (result ≡ true → Fitting bundle.now fitting.new) }
-{
-    match s {
-        Signature::BuiltIn {
-            count,
-            sort,
-            result: _,
-        } => all_of_sort(bundle, sorts, count, sort, terms),
-        Signature::Declared(i) => {
-            let list = bundle.symbol_field(i, 1);
-            same_sorts(bundle, sorts, fitting, list, terms)
-        }
-        Signature::Unknown => bundle.first_link(terms) == 0,
-    }
-}
-
-// Whether the terms of a list have the sorts of the variables of another, one each.
-pub fn variables_fit(bundle: &Bundle, sorts: &[usize], variables: usize, terms: usize) -> bool
-    requires { Sorted bundle.now sorts.now }
-    ensures { result ≡ same_list (map (sort_of_variable bundle.now) (items bundle.now variables)) (map (sort_at bundle.now) (items bundle.now terms)) }
-{
-    let mut others = bundle.items(terms);
-    for v in bundle.items(variables) {
-        let Some(t) = others.next() else {
-            return false;
-        };
-        if bundle.variable_sort(v) != sort_in(sorts, t) {
-            return false;
-        }
-    }
-    others.next().is_none()
 }
 
 // The lists of a let or of a replacing context agree where the variables are some and all different, and the terms fit them. Two tests, each small

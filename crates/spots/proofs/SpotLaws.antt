@@ -10,6 +10,7 @@ use mathlib.Core.Bool.{Bool, true, false, cond, ◌||◌, false≢true}
 use mathlib.Core.List.{List, [], ◌∷◌, ◌++◌}
 use mathlib.Core.Option.{Option, none, some}
 use lib.Dec.{eqb, ltb}
+use Rattle.std.proofs.Common.{rules}
 use Rattle.grammar.specs.Bytes.{Word, constant, negation, connective, quantifier, letting, sort, name, bytes}
 use Rattle.grammar.specs.Grammar.{Lexeme, opens, closes, word, stray}
 use Rattle.grammar.specs.Parser.{
@@ -86,375 +87,39 @@ word_to w s rest = stack_if (ltb (cell s (word_code w)) 20) (wanted (cell s (wor
 
 opens_table : Upto (EachSpot (taken opens) opened_to) 20
 unfolding wanted wants takes and_then push advance
-opens_table = (
-  (
-    (
-      (
-        (
-          (
-            (
-              (
-                (
-                  (((((((((((tt, tt), λ r. refl), λ r. refl), λ r. refl), λ r. refl), λ r. refl), λ r. refl), λ r. refl), λ r. refl), λ r. refl), λ r. refl),
-                  λ r.
-                      refl,
-                ),
-                λ r. refl,
-              ),
-              λ r. refl,
-            ),
-            λ r. refl,
-          ),
-          λ r. refl,
-        ),
-        λ r. refl,
-      ),
-      λ r. refl,
-    ),
-    λ r. refl,
-  ),
-  λ r. refl,
-)
+opens_table = search rules
 
 closes_table : Upto (EachSpot (taken closes) closed_to) 20
 unfolding wanted wants takes and_then push advance
-closes_table = (
-  (
-    (
-      (
-        (
-          (
-            (
-              (
-                (
-                  (((((((((((tt, tt), λ r. refl), λ r. refl), λ r. refl), λ r. refl), λ r. refl), λ r. refl), λ r. refl), λ r. refl), λ r. refl), λ r. refl),
-                  λ r.
-                      refl,
-                ),
-                λ r. refl,
-              ),
-              λ r. refl,
-            ),
-            λ r. refl,
-          ),
-          λ r. refl,
-        ),
-        λ r. refl,
-      ),
-      λ r. refl,
-    ),
-    λ r. refl,
-  ),
-  λ r. refl,
-)
+closes_table = search rules
 
 stray_table : Upto (EachSpot (taken stray) (λ s rest. none)) 20
 unfolding wanted wants takes and_then push advance
-stray_table = (
-  (
-    (
-      (
-        (
-          (
-            (
-              (
-                (
-                  (((((((((((tt, tt), λ r. refl), λ r. refl), λ r. refl), λ r. refl), λ r. refl), λ r. refl), λ r. refl), λ r. refl), λ r. refl), λ r. refl),
-                  λ r.
-                      refl,
-                ),
-                λ r. refl,
-              ),
-              λ r. refl,
-            ),
-            λ r. refl,
-          ),
-          λ r. refl,
-        ),
-        λ r. refl,
-      ),
-      λ r. refl,
-    ),
-    λ r. refl,
-  ),
-  λ r. refl,
-)
+stray_table = search rules
 
 words_table : (w : Word) → Upto (EachSpot (taken (word w)) (word_to w)) 20
 unfolding wanted wants takes and_then push advance on_formula on_formulas on_inside on_variable on_sort word_code
-words_table (constant v) = (
-  (
-    (
-      (
-        (
-          (
-            (
-              (
-                (
-                  (((((((((((tt, tt), λ r. refl), λ r. refl), λ r. refl), λ r. refl), λ r. refl), λ r. refl), λ r. refl), λ r. refl), λ r. refl), λ r. refl),
-                  λ r.
-                      refl,
-                ),
-                λ r. refl,
-              ),
-              λ r. refl,
-            ),
-            λ r. refl,
-          ),
-          λ r. refl,
-        ),
-        λ r. refl,
-      ),
-      λ r. refl,
-    ),
-    λ r. refl,
-  ),
-  λ r. refl,
-)
-words_table negation = (
-  (
-    (
-      (
-        (
-          (
-            (
-              (
-                (
-                  (((((((((((tt, tt), λ r. refl), λ r. refl), λ r. refl), λ r. refl), λ r. refl), λ r. refl), λ r. refl), λ r. refl), λ r. refl), λ r. refl),
-                  λ r.
-                      refl,
-                ),
-                λ r. refl,
-              ),
-              λ r. refl,
-            ),
-            λ r. refl,
-          ),
-          λ r. refl,
-        ),
-        λ r. refl,
-      ),
-      λ r. refl,
-    ),
-    λ r. refl,
-  ),
-  λ r. refl,
-)
-words_table (connective c) = (
-  (
-    (
-      (
-        (
-          (
-            (
-              (
-                (
-                  (((((((((((tt, tt), λ r. refl), λ r. refl), λ r. refl), λ r. refl), λ r. refl), λ r. refl), λ r. refl), λ r. refl), λ r. refl), λ r. refl),
-                  λ r.
-                      refl,
-                ),
-                λ r. refl,
-              ),
-              λ r. refl,
-            ),
-            λ r. refl,
-          ),
-          λ r. refl,
-        ),
-        λ r. refl,
-      ),
-      λ r. refl,
-    ),
-    λ r. refl,
-  ),
-  λ r. refl,
-)
-words_table (quantifier q) = (
-  (
-    (
-      (
-        (
-          (
-            (
-              (
-                (
-                  (((((((((((tt, tt), λ r. refl), λ r. refl), λ r. refl), λ r. refl), λ r. refl), λ r. refl), λ r. refl), λ r. refl), λ r. refl), λ r. refl),
-                  λ r.
-                      refl,
-                ),
-                λ r. refl,
-              ),
-              λ r. refl,
-            ),
-            λ r. refl,
-          ),
-          λ r. refl,
-        ),
-        λ r. refl,
-      ),
-      λ r. refl,
-    ),
-    λ r. refl,
-  ),
-  λ r. refl,
-)
-words_table letting = (
-  (
-    (
-      (
-        (
-          (
-            (
-              (
-                (
-                  (((((((((((tt, tt), λ r. refl), λ r. refl), λ r. refl), λ r. refl), λ r. refl), λ r. refl), λ r. refl), λ r. refl), λ r. refl), λ r. refl),
-                  λ r.
-                      refl,
-                ),
-                λ r. refl,
-              ),
-              λ r. refl,
-            ),
-            λ r. refl,
-          ),
-          λ r. refl,
-        ),
-        λ r. refl,
-      ),
-      λ r. refl,
-    ),
-    λ r. refl,
-  ),
-  λ r. refl,
-)
-words_table (sort x) = (
-  (
-    (
-      (
-        (
-          (
-            (
-              (
-                (
-                  (((((((((((tt, tt), λ r. refl), λ r. refl), λ r. refl), λ r. refl), λ r. refl), λ r. refl), λ r. refl), λ r. refl), λ r. refl), λ r. refl),
-                  λ r.
-                      refl,
-                ),
-                λ r. refl,
-              ),
-              λ r. refl,
-            ),
-            λ r. refl,
-          ),
-          λ r. refl,
-        ),
-        λ r. refl,
-      ),
-      λ r. refl,
-    ),
-    λ r. refl,
-  ),
-  λ r. refl,
-)
-words_table (name w) = (
-  (
-    (
-      (
-        (
-          (
-            (
-              (
-                (
-                  (((((((((((tt, tt), λ r. refl), λ r. refl), λ r. refl), λ r. refl), λ r. refl), λ r. refl), λ r. refl), λ r. refl), λ r. refl), λ r. refl),
-                  λ r.
-                      refl,
-                ),
-                λ r. refl,
-              ),
-              λ r. refl,
-            ),
-            λ r. refl,
-          ),
-          λ r. refl,
-        ),
-        λ r. refl,
-      ),
-      λ r. refl,
-    ),
-    λ r. refl,
-  ),
-  λ r. refl,
-)
+words_table (constant v) = search rules
+words_table negation = search rules
+words_table (connective c) = search rules
+words_table (quantifier q) = search rules
+words_table letting = search rules
+words_table (sort x) = search rules
+words_table (name w) = search rules
 
 abbrev pub grows_as : ℕ → List ℕ → Bool
 grows_as g w = cond (eqb g 0) false (cond (eqb g 1) true (starts w (bytes "Bool") || starts w (bytes "Item")))
 
 grows_table : (w : List ℕ) → Upto (EachSpot (may_grow w) (λ s rest. grows_as (cell s 11) w)) 20
 unfolding wanted wants may_grow
-grows_table w = (
-  (
-    (
-      (
-        (
-          (
-            (
-              (
-                (
-                  (((((((((((tt, tt), λ r. refl), λ r. refl), λ r. refl), λ r. refl), λ r. refl), λ r. refl), λ r. refl), λ r. refl), λ r. refl), λ r. refl),
-                  λ r.
-                      refl,
-                ),
-                λ r. refl,
-              ),
-              λ r. refl,
-            ),
-            λ r. refl,
-          ),
-          λ r. refl,
-        ),
-        λ r. refl,
-      ),
-      λ r. refl,
-    ),
-    λ r. refl,
-  ),
-  λ r. refl,
-)
+grows_table w = search rules
 
 abbrev pub named_as : ℕ → List ℕ → List Name
 named_as s w = cond (ltb (cell s 9) 20) (record { place = place_of (cell s 12); spelled = w } ∷ []) []
 
 names_table : (w : List ℕ) → Upto (EachSpot (λ σ. met_at σ (name w)) (λ s rest. named_as s w)) 20
 unfolding wanted wants met_at word_at name_at
-names_table w = (
-  (
-    (
-      (
-        (
-          (
-            (
-              (
-                (
-                  (((((((((((tt, tt), λ r. refl), λ r. refl), λ r. refl), λ r. refl), λ r. refl), λ r. refl), λ r. refl), λ r. refl), λ r. refl), λ r. refl),
-                  λ r.
-                      refl,
-                ),
-                λ r. refl,
-              ),
-              λ r. refl,
-            ),
-            λ r. refl,
-          ),
-          λ r. refl,
-        ),
-        λ r. refl,
-      ),
-      λ r. refl,
-    ),
-    λ r. refl,
-  ),
-  λ r. refl,
-)
+names_table w = search rules
 
 module _ (s : ℕ) (held : List ℕ) (l : s < 20) (n : Nested s held) where
   pub due_opens : takes (due_at s held) (λ f. tt) opens ≡ opened_to s (owed held)
@@ -500,35 +165,7 @@ ends_at_spot s rest = cond (eqb s 0) (some tt) none
 
 ends_table : Upto (EachSpot completed ends_at_spot) 20
 unfolding wanted wants complete
-ends_table = (
-  (
-    (
-      (
-        (
-          (
-            (
-              (
-                (
-                  (((((((((((tt, tt), λ r. refl), λ r. refl), λ r. refl), λ r. refl), λ r. refl), λ r. refl), λ r. refl), λ r. refl), λ r. refl), λ r. refl),
-                  λ r.
-                      refl,
-                ),
-                λ r. refl,
-              ),
-              λ r. refl,
-            ),
-            λ r. refl,
-          ),
-          λ r. refl,
-        ),
-        λ r. refl,
-      ),
-      λ r. refl,
-    ),
-    λ r. refl,
-  ),
-  λ r. refl,
-)
+ends_table = search rules
 
 pub due_ends : (s : ℕ) (held : List ℕ) → s < 20 → Nested s held → completed (due_at s held) ≡ ends_at_spot s (owed held)
 unfolding complete

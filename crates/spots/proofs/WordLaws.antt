@@ -1,18 +1,54 @@
--- Laws of a word at a spot, as `words::viable_bytes` and `words::word` return.
+-- Laws of a word at a spot, as `words::viable_bytes` and `words::word` return; the number of a word, by what the word is.
 use Prim.Native.Nat.{ℕ, ◌+◌, ◌-◌, ◌≤◌, ◌<◌}
 use native.Mathlib.Omega.{arith}
-use mathlib.Core.Path.{◌≡◌, sym, ap, ◌∙◌}
+use mathlib.Core.Path.{◌≡◌, refl, sym, ap, ◌∙◌}
 use mathlib.Core.Bool.{Bool, true, false}
 use mathlib.Core.List.{List}
 use lib.ListN.{length, drop, length-drop}
 use lib.Seq.{length-take-le}
 use borrow.Author.Tests.{lt-ltb, le-ltb, eq-eqb, ne_eqb}
 use Rattle.std.specs.Prelude.{Ok, Err}
+use Rattle.lexing.specs.Codes.{word_code}
+use Rattle.lexing.specs.Words.{word_in}
+use Rattle.lexing.specs.declared.words.SortWord.{SortWord}
+use Rattle.lexing.specs.declared.words.Word.{Word}
 use Rattle.lexing.specs.Counted.{place_of, known_among}
 use Rattle.spots.specs.Spots.{cell}
 use Rattle.spots.specs.Runs.{part, sort_start}
 use Rattle.spots.specs.Judgement.{declared_by, unread_text, unknown_name, code_of_run, is_unknown, viable_bytes, word_met}
 use Rattle.spots.proofs.RunLaws.{sort_within}
+
+-- ---- the number of a word, by what the word is
+
+pub sort_code : {w : Word} {s : SortWord} → w ≡ Word.Sort s → word_code (word_in w) ≡ 8
+unfolding word_code
+sort_code e = ap (λ w. word_code (word_in w)) e
+
+pub name_code : {w : Word} {u : _} → w ≡ Word.Name u → word_code (word_in w) ≡ 9
+unfolding word_code
+name_code e = ap (λ w. word_code (word_in w)) e
+
+pub no_sort_code : (w : Word) → ((s : SortWord) → w ≡ Word.Sort s → ⊥) → word_code (word_in w) ≡ 8 → ⊥
+unfolding word_code
+no_sort_code (Word.Constant v) ne e = absurd (omega arith)
+no_sort_code Word.Negation ne e = absurd (omega arith)
+no_sort_code (Word.Connective c) ne e = absurd (omega arith)
+no_sort_code (Word.Quantifier q) ne e = absurd (omega arith)
+no_sort_code Word.Let ne e = absurd (omega arith)
+no_sort_code (Word.Sort s) ne e = ne s refl
+no_sort_code (Word.Name u) ne e = absurd (omega arith)
+
+pub no_name_code : (w : Word) → ((u : _) → w ≡ Word.Name u → ⊥) → word_code (word_in w) ≡ 9 → ⊥
+unfolding word_code
+no_name_code (Word.Constant v) ne e = absurd (omega arith)
+no_name_code Word.Negation ne e = absurd (omega arith)
+no_name_code (Word.Connective c) ne e = absurd (omega arith)
+no_name_code (Word.Quantifier q) ne e = absurd (omega arith)
+no_name_code Word.Let ne e = absurd (omega arith)
+no_name_code (Word.Sort s) ne e = absurd (omega arith)
+no_name_code (Word.Name u) ne e = ne u refl
+
+-- ---- a word at a spot
 
 pub part_length : (text : List ℕ) (s e : ℕ) → s ≤ e → e ≤ length text → length (part text s e) ≡ e - s
 part_length text s e l m = let d = length-drop s text in length-take-le (e - s) (drop s text) (omega (arith, d))

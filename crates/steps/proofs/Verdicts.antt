@@ -34,8 +34,9 @@ use Rattle.logic.specs.Rules.{rule_of, refl_holds_by, refl_matches_by, refl_suff
 use Rattle.logic.specs.Rules.{walked_by, pairs_by, walked_pairs, last_pairs}
 use Rattle.logic.proofs.ReflWalk.{limit_fits, limit_over, pair_walk_limited}
 use Rattle.logic.proofs.Pairs.{last_more, last_same}
-use Rattle.images.specs.ContextRows.{mention_at, image_at, mentioned_at}
-use Rattle.images.specs.LentReading.{images_in, in_scope_in, all_in_scope_in, reading_in}
+use Rattle.free_variables.specs.TermSets.{in_scope_in, mentioned_at}
+use Rattle.images.specs.ContextRows.{mention_at, image_at}
+use Rattle.images.specs.LentReading.{Known, images_in, all_in_scope_in, reading_in}
 use Rattle.steps.specs.Verdicts.{LeavesAtMost, walk_verdict, Judged, JudgedScoped, JudgedAfter, later}
 use Rattle.steps.proofs.RuleOf.{fault_refers, fault_rule, no_pairs, refl_tests}
 
@@ -120,11 +121,11 @@ other_judged g b s r not n none =
 -- ---- with check 22
 
 -- what the code asks of the sides is what the reading asks
-pub scope_read : (b : Bundle) (w : List ℕ) (n : ℕ) (images scopes bed : List ℕ) (s : Step) → s.context ≤ length b.contexts
-    → (in_scope_in (length b.terms) w scopes n (mentioned_at n s.context) s.left && in_scope_in (length b.terms) w scopes n (mentioned_at n s.context) s.right)
-    ≡ scoped_by (reading_in b w n images scopes bed).in_scope s
+pub scope_read : (k : Known) (bed : List ℕ) (s : Step) → s.context ≤ length k.sets.bundle.contexts
+    → (in_scope_in k.sets k.scopes (mentioned_at k.sets.n s.context) s.left && in_scope_in k.sets k.scopes (mentioned_at k.sets.n s.context) s.right)
+    ≡ scoped_by (reading_in k bed).in_scope s
 unfolding scoped_by reading_in all_in_scope_in
-scope_read b w n images scopes bed s h = rw (le-leb s.context (length b.contexts) h)
+scope_read k bed s h = rw (le-leb s.context (length k.sets.bundle.contexts) h)
 
 module _ (g : Reading) (b : Bundle) (s : Step) {p : Bool} (scope : p ≡ scoped_by g.in_scope s) where
   pub stray_judged : p ≡ false → JudgedScoped g b s (Err Check.Scope)

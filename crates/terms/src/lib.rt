@@ -5,22 +5,20 @@ ghost use Rattle.std.specs.Prelude.{◌≡◌, IfOk};
 ghost use Rattle.bundle.specs.File.{bundle_of};
 ghost use Rattle.logic.specs.Failures.{fault_in};
 ghost use Rattle.logic.specs.Checks.{sections_fault, tables_fault};
-ghost use Rattle.sorting.specs.Notes.{Sorted};
 
 pub mod terms; // terms.rt: 7, 8, and all of a term
 
 use bundle::Bundle;
 use declarations::header::opened;
 use logic::checks::Failure;
-use sorting::notes::note_sorts;
+use sorting::sorted_bundle::SortedBundle;
 
 // The first bad record of links, symbols, variables, terms, where the sorts of all terms are noted.
-pub fn sections_fault(bundle: &Bundle, sorts: &[usize]) -> Result<(), Failure>
-    requires { Sorted bundle.now sorts.now }
-    ensures { fault_in result ≡ sections_fault bundle.now }
+pub fn sections_fault(sorted: &SortedBundle) -> Result<(), Failure>
+    ensures { fault_in result ≡ sections_fault sorted.now }
 {
-    declarations::sections_fault(bundle)?;
-    terms::terms_fault(bundle, sorts)
+    declarations::sections_fault(sorted.bundle())?;
+    terms::terms_fault(sorted)
 }
 
 // The same, with room for the sorts: a file with few terms gets little.
@@ -29,12 +27,10 @@ fn noted_sections(bundle: &Bundle) -> Result<(), Failure>
 {
     if bundle.terms() < 256 {
         let mut few = [0usize; 256];
-        note_sorts(bundle, &mut few);
-        return sections_fault(bundle, &few);
+        return sections_fault(&SortedBundle::noted(bundle, &mut few));
     }
     let mut sorts = [0usize; Bundle::TERMS + 1];
-    note_sorts(bundle, &mut sorts);
-    sections_fault(bundle, &sorts)
+    sections_fault(&SortedBundle::noted(bundle, &mut sorts))
 }
 
 // The file as a bundle; or the first of the checks 1 to 9 that it fails, where an area of `lent` words is lent and `required` are required.

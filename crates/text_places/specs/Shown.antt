@@ -1,9 +1,5 @@
 -- HOW A LINE IS SHOWN, and what stands under it.
-use Rattle.std.specs.Prelude.{ℕ, ◌-◌, ◌≤◌, ◌<◌, ◌≡◌, Bool, false, cond, ◌&&◌, List, [], ◌∷◌, ◌++◌, map, length, take, drop, get_or, eqb, leb, ltb}
-
--- the bytes from i up to before j
-abbrev pub part : List ℕ → ℕ → ℕ → List ℕ
-part text i j = take (j - i) (drop i text)
+use Rattle.std.specs.Prelude.{ℕ, ◌<◌, ◌≡◌, Bool, false, cond, ◌&&◌, List, [], ◌∷◌, length, get_or, eqb, leb, ltb}
 
 -- a byte as it is shown: control bytes but the tab as '?'
 abbrev pub shown_byte : ℕ → ℕ
@@ -20,16 +16,6 @@ under_byte c = cond (eqb c 9) 9 32
 unfoldable pub under : List ℕ → List ℕ
 under [] = []
 under (c ∷ cs) = cond (goes_on c) (under cs) (under_byte c ∷ under cs)
-
--- The first r bytes of an area are those of a text from i up to before j, as they are shown.
-pub record Shows (text : List ℕ) (i j : ℕ) (area : List ℕ) (r : ℕ) : Type 0 where
-  pub few : r ≤ 128
-  pub bytes : take r area ≡ map shown_byte (part text i j)
-
--- They are what stands under these, and '^'.
-pub record Marks (text : List ℕ) (i j : ℕ) (area : List ℕ) (r : ℕ) : Type 0 where
-  pub few : r ≤ 128
-  pub bytes : take r area ≡ under (part text i j) ++ (94 ∷ [])
 
 -- Where each byte is a character, as many bytes stand under a part as it has: the mark then stands right under the byte after it.
 abbrev pub UnderAsMany : Type 0

@@ -1,8 +1,9 @@
 // How a line is shown around a byte: at most 60 bytes before it and 40 after it, control bytes as '?', and under it a line with a mark.
-ghost use Rattle.std.specs.Prelude.{◌≡◌, ◌+◌, ◌≤◌, length};
-ghost use Rattle.text_places.specs.Shown.{goes_on, shown_byte, under_byte, Shows, Marks};
+ghost use Rattle.std.specs.Prelude.{◌≡◌, ◌+◌, ◌++◌, [], ◌∷◌, ◌≤◌, length, map};
+ghost use Rattle.text_places.specs.Shown.{goes_on, shown_byte, under_byte, under};
 
-// A part that is shown has at most so many bytes before the mark's byte, and in all.
+// A part that is shown has at most so many bytes before the mark's byte, and in all. Where it starts and stops is said by places in the text, since a byte's
+// place is what is asked about.
 pub const BACK: usize = 60;
 
 pub const SHOWN: usize = 100;
@@ -63,15 +64,15 @@ fn shown_byte(b: u8) -> u8
     b
 }
 
-// The bytes to show, into an area. Gives their number.
-pub fn shown_line(text: &[u8], from: usize, to: usize, line: &mut [u8; 128]) -> usize
-    requires { (from ≤ to) × (to ≤ length text.now) × (to ≤ from + 100) × (length line.old ≡ 128) }
-    ensures { Shows text.now from to line.new result }
+// A part of a line as it is shown, in an area.
+pub fn shown_line<'a>(part: &[u8], line: &'a mut [u8; 128]) -> &'a [u8]
+    requires { length part.now ≤ 100 }
+    ensures { result.now ≡ map shown_byte part.now }
 {
-    for n in 0..to - from {
-        line[n] = shown_byte(text[from + n]);
+    for (n, b) in part.iter().enumerate() {
+        line[n] = shown_byte(*b);
     }
-    to - from
+    &line[..part.len()]
 }
 
 // What stands under a character.
@@ -84,18 +85,18 @@ fn under_byte(b: u8) -> u8
     b' '
 }
 
-// What stands under them, up to the mark under the byte `at`: tabs as tabs, a space for any other character.
-pub fn mark_line(text: &[u8], from: usize, at: usize, line: &mut [u8; 128]) -> usize
-    requires { (from ≤ at) × (at ≤ length text.now) × (at ≤ from + 60) × (length line.old ≡ 128) }
-    ensures { Marks text.now from at line.new result }
+// What stands under a part, and then the mark, in an area: tabs as tabs, a space for any other character.
+pub fn mark_line<'a>(part: &[u8], line: &'a mut [u8; 128]) -> &'a [u8]
+    requires { length part.now ≤ 60 }
+    ensures { result.now ≡ under part.now ++ (94 ∷ []) }
 {
     let mut n = 0;
-    for b in &text[from..at] {
+    for b in part {
         if !goes_on(*b) {
             line[n] = under_byte(*b);
             n += 1;
         }
     }
     line[n] = b'^';
-    n + 1
+    &line[..n + 1]
 }

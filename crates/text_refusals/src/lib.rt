@@ -1,7 +1,7 @@
 // What a refusal says on standard error: a line with the numbers and what they mean; for a refused byte also its line and column, the text's line and a mark.
 #![tactic(auto)]
 
-ghost use Rattle.std.specs.Prelude.{◌+◌, ◌≤◌, ◌<◌, length};
+ghost use Rattle.std.specs.Prelude.{◌≤◌, ◌<◌, length};
 
 use bundle::Bundle;
 use logic::checks::{Check, Failure};
@@ -116,38 +116,26 @@ fn unread(byte: u8) {
     put(b"no formula goes on like this: something else is due here, or nothing more");
 }
 
-// The first bytes of a line's area.
-fn put_start(line: &[u8; 128], n: usize) {
-    write_start(2, line, n);
-}
-
 fn put_if(is_due: bool, words: &[u8]) {
     if is_due {
         put(words);
     }
 }
 
-// The bytes of a line from `from` up to before `to`, with dots where more stands before or after them, and a mark under the byte `at`.
-fn show_part(
-    text: &[u8],
-    from: usize,
-    at: usize,
-    to: usize,
-    is_cut_before: bool,
-    is_cut_after: bool,
-)
-    requires { (from ≤ at) × (at ≤ to) × (to ≤ length text.now) × (at ≤ from + 60) × (to ≤ at + 40) }
+// A part of a line, with dots where more stands before or after it, and a mark under the byte that follows `before`, the part's start.
+fn show_part(part: &[u8], before: &[u8], is_cut_before: bool, is_cut_after: bool)
+    requires { (length part.now ≤ 100) × (length before.now ≤ 60) }
 {
     let mut line = [0u8; 128];
     let mut under = [0u8; 128];
-    let n = shown_line(text, from, to, &mut line);
-    let m = mark_line(text, from, at, &mut under);
+    let shown = shown_line(part, &mut line);
+    let mark = mark_line(before, &mut under);
     put_if(is_cut_before, b"...");
-    put_start(&line, n);
+    put(shown);
     put_if(is_cut_after, b"...");
     put(b"\n");
     put_if(is_cut_before, b"   ");
-    put_start(&under, m);
+    put(mark);
     put(b"\n");
 }
 
@@ -160,7 +148,7 @@ fn show_line(text: &[u8], at: usize)
     let end = line_end(text, at);
     let from = shown_from(text, start, at);
     let to = shown_to(text, at, end);
-    show_part(text, from, at, to, start < from, to < end);
+    show_part(&text[from..to], &text[from..at], start < from, to < end);
 }
 
 // `line 1, column 13: `.

@@ -22,10 +22,10 @@ use Rattle.sets.proofs.Members.{holds_small, member_same, member_inserted, membe
 use Rattle.logic.specs.Table.{below}
 use Rattle.logic.proofs.Tables.{table_below}
 use Rattle.logic.proofs.Tests.{numbers_of_lem}
-use Rattle.logic.specs.Terms.{Kind, kind_of, is_binder, variable, application, binder, letting, other}
+use Rattle.logic.specs.Terms.{Binder, Kind, kind_of, variable, application, binder, letting, other}
 use Rattle.logic.specs.Free.{frees_of, free_as, free_by, free_at, nothing_free}
 use Rattle.unions.specs.Put.{SetRoom, Kept, Put, set_below, list_as, list_of, own_as, own_by}
-use Rattle.logic.proofs.KindTests.{term_record, record_is, kind_binder, kind_other}
+use Rattle.logic.proofs.KindTests.{term_record, record_is}
 use Rattle.unions.proofs.Puts.{kept_trans, below_kept, room_kept, remove_put}
 
 put_clear : (w v : List ℕ) (n at : ℕ) → at + n ≤ length w → v ≡ cleared w at n → Put w v n at (λ x. false)
@@ -66,7 +66,7 @@ module _ {b : Bundle} {m : ℕ} {w v : List ℕ} {n t at k a y z : ℕ} (ready :
   abbrev pub Own : List ℕ → ℕ → Type 0
   Own u l = (l ≡ list_of (term_of b t)) × Put w u n at (own_by b (set_below w n t) (term_of b t))
 
-  pub by_variable : (u : List ℕ) → k ≡ 1 → numbers m a ≡ true → u ≡ inserted v at n a → Own u 0
+  pub by_variable : (u : List ℕ) → kind_of k ≡ variable → numbers m a ≡ true → u ≡ inserted v at n a → Own u 0
   unfolding own_by list_of
   by_variable u e known ins =
       let p : (0 < a) × (a ≤ m) = numbers_of_lem m a known in
@@ -80,37 +80,29 @@ module _ {b : Bundle} {m : ℕ} {w v : List ℕ} {n t at k a y z : ℕ} (ready :
         },
       )
 
-  pub by_unknown : k ≡ 1 → numbers m a ≡ false → Own v 0
+  pub by_unknown : kind_of k ≡ variable → numbers m a ≡ false → Own v 0
   unfolding own_by list_of
   by_unknown e known = rw (same, e) (refl, record { kept = none.kept; members = λ x. rw (ready.variables, known) (empty x) })
 
-  pub by_application : k ≡ 2 → Own v y
+  pub by_application : kind_of k ≡ application → Own v y
   unfolding own_by list_of
   by_application e = rw (same, e) (refl, record { kept = none.kept; members = empty })
 
-  quantifier_is : is_binder k ≡ true → (f : ℕ → ℕ → Bool) (x : ℕ) → own_by b f (term_record k a y z) x ≡ (not (eqb x a) && f y x)
-  unfolding own_by
-  quantifier_is e f x = rw (kind_binder k e).1
-
-  no_list : is_binder k ≡ true → 0 ≡ list_of (term_record k a y z)
-  unfolding list_of
-  no_list e = rw (kind_binder k e).1
-
-  pub by_quantifier : (u q : List ℕ) → is_binder k ≡ true
-      → Put v u n at (λ x. member v at n x || set_below v n t y x) → q ≡ removed u at n a → Own q 0
-  by_quantifier u q e put rem =
-      let over : Put u q n at (λ x. not (eqb x a) && member u at n x)
-      = remove_put u q n at a (omega (arith, ready.room.room, (kept_trans w v u n at none.kept put.kept).long)) rem in
-      rw same (
-        no_list e,
+  pub by_quantifier : (q : Binder) (u p : List ℕ) → kind_of k ≡ binder q
+      → Put v u n at (λ x. member v at n x || set_below v n t y x) → p ≡ removed u at n a → Own p 0
+  unfolding own_by list_of
+  by_quantifier q u p e put rem =
+      let upto-u : Kept w u n at = kept_trans w v u n at none.kept put.kept in
+      let over : Put u p n at (λ x. not (eqb x a) && member u at n x) = remove_put u p n at a (omega (arith, ready.room.room, upto-u.long)) rem in
+      rw (same, e) (
+        refl,
         record {
-          kept = kept_trans w u q n at (kept_trans w v u n at none.kept put.kept) over.kept;
-          members = λ x. over.members x ∙ ap (λ (p : Bool). not (eqb x a) && p) (put.members x ∙ rw (empty x, lower v none.kept))
-              ∙ sym (quantifier_is e (set_below w n t) x);
+          kept = kept_trans w u p n at upto-u over.kept;
+          members = λ x. rw (over.members x, put.members x, empty x, lower v none.kept);
         },
       )
 
-  pub by_let : (u q : List ℕ) → k ≡ 5
+  pub by_let : (u q : List ℕ) → kind_of k ≡ letting
       → Put v u n at (λ x. member v at n x || set_below v n t z x)
       → Put u q n at (λ x. member u at n x && not (has x (items b a))) → Own q y
   unfolding own_by list_of
@@ -124,18 +116,9 @@ module _ {b : Bundle} {m : ℕ} {w v : List ℕ} {n t at k a y z : ℕ} (ready :
         },
       )
 
-  other_is : kind_of k ≡ other → (f : ℕ → ℕ → Bool) (x : ℕ) → own_by b f (term_record k a y z) x ≡ false
-  unfolding own_by
-  other_is e f x = rw e
-
-  other_list : kind_of k ≡ other → 0 ≡ list_of (term_record k a y z)
-  unfolding list_of
-  other_list e = rw e
-
-  pub by_other : (k ≡ 1 → ⊥) → (k ≡ 2 → ⊥) → is_binder k ≡ false → (k ≡ 5 → ⊥) → Own v 0
-  by_other not1 not2 e not5 =
-      let none_of : kind_of k ≡ other = kind_other k not2 e not5 not1 in
-      rw same (other_list none_of, record { kept = none.kept; members = λ x. empty x ∙ sym (other_is none_of (set_below w n t) x) })
+  pub by_other : kind_of k ≡ other → Own v 0
+  unfolding own_by list_of
+  by_other e = rw (same, e) (refl, record { kept = none.kept; members = empty })
 
 -- ---- the two parts
 

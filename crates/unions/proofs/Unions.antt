@@ -1,4 +1,5 @@
 -- Laws of the unions of lists, for the functions that make and use them.
+--     seen, links_seen                        what a clause sees of a `Uniting`, and how many links that has
 --     member_joined, joined_put               a union written: its members, and what stays
 --     unknown_some, unmet_some                links that are not known, or were not met, are links
 --     fewer_refl, fewer_on, unions_fewer      marks of a walk make no link known
@@ -35,9 +36,16 @@ use Rattle.sets.proofs.Members.{held, member_same, filled_length, filled_in, fil
 use Rattle.logic.specs.Free.{frees_of, free_by, free_at}
 use Rattle.logic.proofs.Tests.{and_left, and_right, and_both, numbers_of_lem, or_neither}
 use Rattle.unions.specs.Put.{SetRoom, Kept, Put, set_below, SetsBelow}
-use Rattle.unions.specs.Unions.{known, unmet, Fewer, joined, Unions, Partly}
+use Rattle.unions.specs.Unions.{known, unmet, Fewer, joined, Unions, Uniting, Partly}
 use Rattle.unions.proofs.Puts.{kept_trans, below_kept}
 use Rattle.unions.proofs.ByKind.{so_on}
+
+-- what a clause sees of a `Uniting`
+abbrev pub seen : Bundle → ℕ → ℕ → Uniting
+seen b n t = record { bundle = b; n = n; t = t }
+
+pub links_seen : {b : Bundle} {n t : ℕ} {u : Uniting} → seen b n t ≡ u → length b.links ≡ length u.bundle.links
+links_seen e = ap (λ (u : Uniting). length u.bundle.links) e
 
 -- ---- a union written
 

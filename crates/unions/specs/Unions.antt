@@ -6,7 +6,7 @@ use Rattle.bundle.specs.Links.{items}
 use Rattle.bundle.specs.Lists.{numbers, each}
 use Rattle.sets.specs.Sets.{member, filled}
 use Rattle.logic.specs.Free.{frees_of, free_at}
-use Rattle.unions.specs.Put.{Kept, set_below}
+use Rattle.unions.specs.Put.{Kept, Put, set_below}
 
 -- the list that starts at link k is known: it is empty, or the link has the mark 65,535
 unfoldable pub known : List ℕ → ℕ → Bool
@@ -37,3 +37,13 @@ pub record Unions (b : Bundle) (n t : ℕ) (lists marks : List ℕ) : Type 0 whe
 pub record Partly (w v : List ℕ) (n t at : ℕ) (whole rest : List ℕ) : Type 0 where
   pub kept : Kept w v n at
   pub members : (x : ℕ) → (member v at n x || frees_of (set_below w n t) rest x) ≡ (member w at n x || frees_of (set_below w n t) whole x)
+
+-- The set of term t of a bundle is being written, of n words.
+pub record Uniting : Type 0 where
+  pub bundle : Bundle
+  pub n : ℕ
+  pub t : ℕ
+
+-- only the set at `at` differs between w and v: that of v has the sets of the lower ones of these terms besides
+abbrev pub Adds : Uniting → (w v : List ℕ) → ℕ → List ℕ → Type 0
+Adds u w v at terms = Put w v u.n at (λ x. member w at u.n x || frees_of (set_below w u.n u.t) terms x)

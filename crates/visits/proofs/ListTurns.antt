@@ -12,6 +12,7 @@ use Prim.Native.Nat.{ℕ, zero, suc, ◌+◌, ◌-◌, ◌≤◌, ◌<◌}
 use native.Mathlib.Omega.{arith}
 use lib.ListN.{length, set, length-set}
 use Rattle.std.specs.Prelude.{Option, Some, None}
+use Rattle.bundle.specs.File.{own_counts}
 use Rattle.bundle.specs.Bundle.{Bundle, link_of}
 use Rattle.bundle.specs.Limits.{limits, Within}
 use Rattle.logic.specs.Lists.{Number}
@@ -20,7 +21,6 @@ use Rattle.scratch.proofs.Halves.{halves_none}
 use Rattle.placing.specs.declared.Visited.{Visited}
 use Rattle.expansion.specs.Nodes.{Node, Nodes, nil, cons}
 use Rattle.expansion.specs.Visit.{visit, visit_all}
-use Rattle.expansion.specs.File.{counts_in}
 use Rattle.placing.specs.Outcomes.{ListOutcome, Stands, StandAll, TermGives, TermAsks, ListAsks, ListGives}
 use Rattle.expansion.proofs.Grown.{visit_longer, visit_all_longer}
 use Rattle.visits.proofs.StandingKept.{stand_all_on, visit_more, visit_all_steps}
@@ -46,7 +46,7 @@ left_less (suc i) (suc m) h k (inr e) = omega (arith, e.0)
 -- ---- the visit to a list
 
 -- an empty list
-pub list_none : {b : Bundle} {s : List ℕ} {Γ h o l : ℕ} → Within (counts_in b) → l ≡ 0 → ListGives b s Γ h o l b s (Some h)
+pub list_none : {b : Bundle} {s : List ℕ} {Γ h o l : ℕ} → Within (own_counts b) → l ≡ 0 → ListGives b s Γ h o l b s (Some h)
 unfolding visit
 list_none {b} {s} {Γ} {h} {o} {l} within z = record { kept = below_same s h; outcome = go }
   where

@@ -1,27 +1,29 @@
 -- The visit to a term: what each of its calls asks, and what each of its returns gives.
 --     Reads                                         the term's record, as the code reads it
---     quantified                                    the numbers of quantifiers
+--     term_kind                                     its kind
 --     term_words_lem, term_variable                 a variable
 --     scope_closed, scope_asks, scope_full, ..      a quantifier
 --     args_asks, args_full, args_ready              the list of arguments or of bound terms
 --     apply_done                                    an application
 --     let_closed, body_asks, body_full, ..          a let
 use mathlib.Core.Path.{◌≡◌, refl, sym, ap, ◌∙◌, subst}
-use mathlib.Core.Bool.{true, false, false≢true}
+use mathlib.Core.Bool.{true, false}
+use mathlib.Core.Logic.{◌⊎◌, inl, inr}
 use mathlib.Core.List.{List, [], ◌∷◌, ◌++◌}
 use Prim.Native.Nat.{ℕ, ◌+◌, ◌≤◌, ◌<◌}
 use native.Mathlib.Omega.{arith}
 use lib.ListN.{length, set}
 use Rattle.std.specs.Prelude.{Option, Some, None}
+use Rattle.bundle.specs.File.{own_counts}
 use Rattle.bundle.specs.Words.{largest_word}
 use Rattle.bundle.specs.declared.records.TermWords.{TermWords}
 use Rattle.bundle.specs.Bundle.{Bundle, TermRecord, term_of}
 use Rattle.bundle.specs.Limits.{limits, Within}
 use Rattle.bundle.specs.RecordWords.{as_term}
 use Rattle.logic.specs.Lists.{Number}
-use Rattle.logic.specs.Terms.{Binder, forAll, exists, binder, number_of, is_binder}
+use Rattle.logic.specs.Terms.{Binder, Kind, variable, application, binder, letting, other, number_of, kind_of}
 use Rattle.logic.specs.Longer.{Longer}
-use Rattle.logic.proofs.TermKinds.{binder_kind, binder_number, is_binder_exactly}
+use Rattle.logic.proofs.TermKinds.{number_kind}
 use Rattle.logic.proofs.Longer.{longer_trans, sizes}
 use Rattle.scratch.specs.Stack.{halves}
 use Rattle.placing.specs.declared.Visited.{Visited}
@@ -29,7 +31,6 @@ use Rattle.placing.specs.declared.Opened.{Opened}
 use Rattle.expansion.specs.Nodes.{Node, Nodes, leaf, node, scope, block}
 use Rattle.expansion.specs.Visit as unlimited
 use Rattle.expansion.specs.Visit.{Visit, visit, visit_all, concluded, close_application, close_binder, open_binder, replacing}
-use Rattle.expansion.specs.File.{counts_in}
 use Rattle.placing.specs.Outcomes.{Outcome, VisitOutcome, VisitFits, OpenOutcome, BinderOutcome, Stands, StandAll, TermAsks, TermGives, ListAsks, ListGives}
 use Rattle.expansion.proofs.Grown.{open_longer, visit_longer, visit_all_longer}
 use Rattle.visits.proofs.StandingKept.{stands_on, visit_more, visit_all_steps, replacing_context, open_context, opening, opening_longer, scope_longer}
@@ -42,16 +43,6 @@ use Rattle.placing.proofs.OutcomeFacts.{BinderDone, binder_done, ListDone, list_
 pub record Reads (b : Bundle) (t : ℕ) (w : TermWords) : Type 0 where
   pub is : as_term w ≡ term_of b t
 
-numbers_of_lem : (q : Binder) → (3 ≤ number_of (binder q)) × (number_of (binder q) ≤ 4)
-numbers_of_lem forAll = (omega arith, omega arith)
-numbers_of_lem exists = (omega arith, omega arith)
-
-pub quantified : (k : ℕ) → is_binder k ≡ true → (3 ≤ k) × (k ≤ 4)
-quantified k e =
-    let h = (is_binder_exactly k).0 e in
-    let n = binder_kind k h.0 h.1 in
-    (omega (arith, n, (numbers_of_lem h.0).0), omega (arith, n, (numbers_of_lem h.0).1))
-
 -- what stands for a term, by its kind
 module _ {b : Bundle} {t : ℕ} {w : TermWords} (reads : Reads b t w) (P : Node → Type 0) where
   on_second : (ns : Nodes) → StandAll b t (term_of b t).b ns → StandAll b t w.second ns
@@ -63,41 +54,56 @@ module _ {b : Bundle} {t : ℕ} {w : TermWords} (reads : Reads b t w) (P : Node 
   numbers : {n x : ℕ} (τ : ℕ → ℕ → Node) → n ≡ t → (term_of b t).a ≡ x → P (τ t w.first) → P (τ n x)
   numbers τ e f p = subst P (λ i. τ (sym e i) ((ap (λ (r : TermRecord). r.a) reads.is ∙ f) i)) p
 
-  variable_only : w.kind ≡ 1 → P (leaf t w.first) → (τ : Node) → Stands b t τ → P τ
+  kind_at : (k : Kind) → (term_of b t).kind ≡ number_of k → kind_of w.kind ≡ k
+  kind_at k e = ap kind_of (kind_is e) ∙ number_kind k
+
+  variable_only : kind_of w.kind ≡ variable → P (leaf t w.first) → (τ : Node) → Stands b t τ → P τ
   variable_only e p (leaf n x) k = numbers leaf k.0 k.3 p
-  variable_only e p (node n f ns) k = absurd (omega (arith, e, kind_is k.2))
-  variable_only e p (scope n q x u) k = absurd (omega (arith, e, kind_is k.2, (numbers_of_lem q).0))
-  variable_only e p (block n s vs ns u) k = absurd (omega (arith, e, kind_is k.2))
+  variable_only e p (node n f ns) k = let z = sym e ∙ kind_at application k.2 in absurd (cc)
+  variable_only e p (scope n q x u) k = let z = sym e ∙ kind_at (binder q) k.2 in absurd (cc)
+  variable_only e p (block n s vs ns u) k = let z = sym e ∙ kind_at letting k.2 in absurd (cc)
 
-  binder_only : is_binder w.kind ≡ true
-      → ((q : Binder) (u : Node) → w.kind ≡ number_of (binder q) → w.second < t → Stands b w.second u → P (scope t q w.first u))
+  binder_only : {q : Binder} → kind_of w.kind ≡ binder q → ((u : Node) → w.second < t → Stands b w.second u → P (scope t q w.first u))
       → (τ : Node) → Stands b t τ → P τ
-  binder_only e p (leaf n x) k = absurd (omega (arith, (quantified w.kind e).0, kind_is k.2))
-  binder_only e p (node n f ns) k = absurd (omega (arith, (quantified w.kind e).0, kind_is k.2))
-  binder_only e p (scope n q x u) k =
+  binder_only e p (leaf n x) k = let z = sym e ∙ kind_at variable k.2 in absurd (cc)
+  binder_only e p (node n f ns) k = let z = sym e ∙ kind_at application k.2 in absurd (cc)
+  binder_only {q} e p (scope n q' x u) k =
+      let z = sym e ∙ kind_at (binder q') k.2 in
+      let same : q ≡ q' = cc in
       let body = subst (λ (r : TermRecord). (r.b < t) × Stands b r.b u) (sym reads.is) (k.4, k.5) in
-      numbers (λ m y. scope m q y u) k.0 k.3 (p q u (kind_is k.2) body.0 body.1)
-  binder_only e p (block n s vs ns u) k = absurd (omega (arith, (quantified w.kind e).1, kind_is k.2))
+      numbers (λ m y. scope m q' y u) k.0 k.3 (subst (λ (o : Binder). P (scope t o w.first u)) same (p u body.0 body.1))
+  binder_only e p (block n s vs ns u) k = let z = sym e ∙ kind_at letting k.2 in absurd (cc)
 
-  module _ (not-1 : w.kind ≡ 1 → ⊥) (no_binder : is_binder w.kind ≡ false) where
-    listed_only : ((ns : Nodes) → w.kind ≡ 2 → StandAll b t w.second ns → P (node t w.first ns))
-        → ((vs : List ℕ) (ns : Nodes) (u : Node) → w.kind ≡ 5 → StandAll b t w.second ns → w.third < t → Stands b w.third u → P (block t w.first vs ns u))
-        → (τ : Node) → Stands b t τ → P τ
-    listed_only p p' (leaf n x) k = absurd (not-1 (kind_is k.2))
-    listed_only p p' (node n f ns) k = numbers (λ m y. node m y ns) k.0 k.3 (p ns (kind_is k.2) (on_second ns k.4))
-    listed_only p p' (scope n q x u) k =
-        absurd (false≢true (sym no_binder ∙ (is_binder_exactly w.kind).1 (q, binder_number w.kind q (kind_is k.2))))
-    listed_only p p' (block n s vs ns u) k =
-        let body = subst (λ (r : TermRecord). (r.c < t) × Stands b r.c u) (sym reads.is) (k.5, k.6) in
-        numbers (λ m y. block m y vs ns u) k.0 k.3 (p' vs ns u (kind_is k.2) (on_second ns k.4) body.0 body.1)
+  application_only : kind_of w.kind ≡ application → ((ns : Nodes) → StandAll b t w.second ns → P (node t w.first ns))
+      → (τ : Node) → Stands b t τ → P τ
+  application_only e p (leaf n x) k = let z = sym e ∙ kind_at variable k.2 in absurd (cc)
+  application_only e p (node n f ns) k = numbers (λ m y. node m y ns) k.0 k.3 (p ns (on_second ns k.4))
+  application_only e p (scope n q x u) k = let z = sym e ∙ kind_at (binder q) k.2 in absurd (cc)
+  application_only e p (block n s vs ns u) k = let z = sym e ∙ kind_at letting k.2 in absurd (cc)
 
-    application_only : w.kind ≡ 2 → ((ns : Nodes) → StandAll b t w.second ns → P (node t w.first ns)) → (τ : Node) → Stands b t τ → P τ
-    application_only e p = listed_only (λ ns i k. p ns k) (λ vs ns u i k low st. absurd (omega (arith, e, i)))
+  let_only : kind_of w.kind ≡ letting
+      → ((vs : List ℕ) (ns : Nodes) (u : Node) → StandAll b t w.second ns → w.third < t → Stands b w.third u → P (block t w.first vs ns u))
+      → (τ : Node) → Stands b t τ → P τ
+  let_only e p (leaf n x) k = let z = sym e ∙ kind_at variable k.2 in absurd (cc)
+  let_only e p (node n f ns) k = let z = sym e ∙ kind_at application k.2 in absurd (cc)
+  let_only e p (scope n q x u) k = let z = sym e ∙ kind_at (binder q) k.2 in absurd (cc)
+  let_only e p (block n s vs ns u) k =
+      let body = subst (λ (r : TermRecord). (r.c < t) × Stands b r.c u) (sym reads.is) (k.5, k.6) in
+      numbers (λ m y. block m y vs ns u) k.0 k.3 (p vs ns u (on_second ns k.4) body.0 body.1)
 
-    let_only : (w.kind ≡ 2 → ⊥)
-        → ((vs : List ℕ) (ns : Nodes) (u : Node) → StandAll b t w.second ns → w.third < t → Stands b w.third u → P (block t w.first vs ns u))
-        → (τ : Node) → Stands b t τ → P τ
-    let_only e p = listed_only (λ ns i k. absurd (e i)) (λ vs ns u i k low st. p vs ns u k low st)
+  -- an application or a let
+  listed_only : (kind_of w.kind ≡ application) ⊎ (kind_of w.kind ≡ letting) → ((ns : Nodes) → StandAll b t w.second ns → P (node t w.first ns))
+      → ((vs : List ℕ) (ns : Nodes) (u : Node) → StandAll b t w.second ns → w.third < t → Stands b w.third u → P (block t w.first vs ns u))
+      → (τ : Node) → Stands b t τ → P τ
+  listed_only (inl e) p p' = application_only e p
+  listed_only (inr e) p p' = let_only e p'
+
+  -- each term that stands for a node has a kind
+  none_only : kind_of w.kind ≡ other → (τ : Node) → Stands b t τ → ⊥
+  none_only e (leaf n x) k = let z = sym e ∙ kind_at variable k.2 in absurd (cc)
+  none_only e (node n f ns) k = let z = sym e ∙ kind_at application k.2 in absurd (cc)
+  none_only e (scope n q x u) k = let z = sym e ∙ kind_at (binder q) k.2 in absurd (cc)
+  none_only e (block n s vs ns u) k = let z = sym e ∙ kind_at letting k.2 in absurd (cc)
 
 stands_number : (b : Bundle) (t : ℕ) (τ : Node) → Stands b t τ → Number (length b.terms) t
 stands_number b t (leaf n x) k = k.1
@@ -107,14 +113,17 @@ stands_number b t (block n s vs ns u) k = k.1
 
 module _ {b : Bundle} {s : List ℕ} {Γ h t : ℕ} (asks : TermAsks b s Γ h t) where
   -- numbers that go into a step
-  pub term_words_lem : Within (counts_in b) → (Γ ≤ largest_word) × (t ≤ largest_word)
+  pub term_words_lem : Within (own_counts b) → (Γ ≤ largest_word) × (t ≤ largest_word)
   term_words_lem k =
       (omega (arith, asks.context, k.contexts), omega (arith, (stands_number b t asks.standing asks.stands).1, k.terms))
 
   module _ {w : TermWords} (reads : Reads b t w) where
+    pub term_kind : kind_of w.kind ≡ other → ⊥
+    term_kind e = none_only reads (λ τ. ⊥) e asks.standing asks.stands
+
     -- ---- a variable
 
-    pub term_variable : {b1 : Bundle} {r : Option Visited} → w.kind ≡ 1 → VisitOutcome (visit (leaf t w.first) Γ b) b1 r → VisitFits r → TermGives b s Γ h t b1 s r
+    pub term_variable : {b1 : Bundle} {r : Option Visited} → kind_of w.kind ≡ variable → VisitOutcome (visit (leaf t w.first) Γ b) b1 r → VisitFits r → TermGives b s Γ h t b1 s r
     term_variable {b1} {r} e g fits = record {
       kept = below_same s h;
       outcome = variable_only reads (λ τ. VisitOutcome (visit τ Γ b) b1 r) e g;
@@ -123,12 +132,12 @@ module _ {b : Bundle} {s : List ℕ} {Γ h t : ℕ} (asks : TermAsks b s Γ h t)
 
     -- ---- a quantifier
 
-    module _ (quantifies : is_binder w.kind ≡ true) {b1 : Bundle} {r : Option Opened} (opened : BinderOutcome (open_binder b w.first Γ) b1 r) where
+    module _ {q : Binder} (quantifies : kind_of w.kind ≡ binder q) {b1 : Bundle} {r : Option Opened} (opened : BinderOutcome (open_binder b w.first Γ) b1 r) where
       -- there was no room for its contexts
       pub scope_closed : r ≡ None → TermGives b s Γ h t b1 s None
       scope_closed e = record {
         kept = below_same s h;
-        outcome = binder_only reads (λ τ. VisitOutcome (visit τ Γ b) b1 None) quantifies (λ q u i low k.
+        outcome = binder_only reads (λ τ. VisitOutcome (visit τ Γ b) b1 None) quantifies (λ u low k.
             full_on opened e (longer_trans (visit_longer u _ _) (scope_longer t Γ b q w.first u)));
         words = tt;
       }
@@ -142,7 +151,7 @@ module _ {b : Bundle} {s : List ℕ} {Γ h t : ℕ} (asks : TermAsks b s Γ h t)
 
         -- the call for the body
         pub scope_asks : TermAsks b1 s o.context h w.second × (w.second < t)
-        scope_asks = binder_only reads (λ τ. TermAsks b1 s o.context h w.second × (w.second < t)) quantifies (λ q u i low k. (
+        scope_asks = binder_only reads (λ τ. TermAsks b1 s o.context h w.second × (w.second < t)) quantifies (λ u low k. (
           record {
             pending = record { places = asks.pending.places; height = omega (arith, asks.pending.height, (sizes scope_longer_lem).steps) };
             context = omega (arith, scope_open.context, open_context b w.first Γ, ap (λ (B : Bundle). length B.contexts) scope_open.bundle);
@@ -153,7 +162,7 @@ module _ {b : Bundle} {s : List ℕ} {Γ h t : ℕ} (asks : TermAsks b s Γ h t)
         )) asks.standing asks.stands
 
         -- the variable that the result binds is a word
-        pub scope_word : Within (counts_in b) → o.variable ≤ largest_word
+        pub scope_word : Within (own_counts b) → o.variable ≤ largest_word
         scope_word k = omega (arith, scope_open.variable, k.variables)
 
         module _ {b2 : Bundle} {s2 : List ℕ} {r2 : Option Visited} (gave : TermGives b1 s o.context h w.second b2 s2 r2) where
@@ -167,34 +176,33 @@ module _ {b : Bundle} {s : List ℕ} {Γ h t : ℕ} (asks : TermAsks b s Γ h t)
           pub scope_full : r2 ≡ None → TermGives b s Γ h t b2 s2 None
           scope_full e = record {
             kept = gave.kept;
-            outcome = binder_only reads (λ τ. VisitOutcome (visit τ Γ b) b2 None) quantifies (λ q u i low k.
+            outcome = binder_only reads (λ τ. VisitOutcome (visit τ Γ b) b2 None) quantifies (λ u low k.
                 full_on (scope_body u k) e (scope_longer t Γ b q w.first u));
             words = tt;
           }
 
           -- a quantifier's visit, from the body's and what closed it
           pub scope_done : {x : Visited} → r2 ≡ Some x → {b3 : Bundle} {r3 : Option Visited}
-              → ((q : Binder) → w.kind ≡ number_of (binder q)
-              → VisitOutcome (close_binder Γ t q o.variable (record { bundle = b2; result = x.result; step = x.step })) b3 r3)
+              → VisitOutcome (close_binder Γ t q o.variable (record { bundle = b2; result = x.result; step = x.step })) b3 r3
               → VisitFits r3 → TermGives b s Γ h t b3 s2 r3
           unfolding visit
           scope_done {x} told2 {b3} {r3} g fits = record {
             kept = gave.kept;
-            outcome = binder_only reads (λ τ. VisitOutcome (visit τ Γ b) b3 r3) quantifies (λ q u i low k.
+            outcome = binder_only reads (λ τ. VisitOutcome (visit τ Γ b) b3 r3) quantifies (λ u low k.
                 let d = visit_done (scope_body u k) told2 in
                 subst (λ (v : Visit). VisitOutcome v b3 r3)
-                (λ j. close_binder Γ t q (scope_open.variable j) (record { bundle = d.bundle j; result = d.result j; step = d.step j })) (g q i));
+                (λ j. close_binder Γ t q (scope_open.variable j) (record { bundle = d.bundle j; result = d.result j; step = d.step j })) g);
             words = fits;
           }
 
     -- ---- the list of arguments, or of bound terms
 
-    module _ (not-1 : w.kind ≡ 1 → ⊥) (no_binder : is_binder w.kind ≡ false) where
+    module _ (listed : (kind_of w.kind ≡ application) ⊎ (kind_of w.kind ≡ letting)) where
       -- the call for it
       pub args_asks : ListAsks b s Γ h t w.second
-      args_asks = listed_only reads (λ τ. ListAsks b s Γ h t w.second) not-1 no_binder
-          (λ ns i k. record { pending = asks.pending; context = asks.context; standing = ns; stands = k })
-          (λ vs ns u i k low st. record { pending = asks.pending; context = asks.context; standing = ns; stands = k })
+      args_asks = listed_only reads (λ τ. ListAsks b s Γ h t w.second) listed
+          (λ ns k. record { pending = asks.pending; context = asks.context; standing = ns; stands = k })
+          (λ vs ns u k low st. record { pending = asks.pending; context = asks.context; standing = ns; stands = k })
           asks.standing asks.stands
 
       module _ {b1 : Bundle} {s1 : List ℕ} {r : Option ℕ} (gave : ListGives b s Γ h t w.second b1 s1 r) where
@@ -202,9 +210,9 @@ module _ {b : Bundle} {s : List ℕ} {Γ h t : ℕ} (asks : TermAsks b s Γ h t)
         pub args_full : r ≡ None → TermGives b s Γ h t b1 s1 None
         args_full e = record {
           kept = gave.kept;
-          outcome = listed_only reads (λ τ. VisitOutcome (visit τ Γ b) b1 None) not-1 no_binder
-              (λ ns i k. Outcome.full (longer_over (node_longer t Γ b w.first ns) (list_full (gave.outcome ns k) e)) refl)
-              (λ vs ns u i k low st. Outcome.full
+          outcome = listed_only reads (λ τ. VisitOutcome (visit τ Γ b) b1 None) listed
+              (λ ns k. Outcome.full (longer_over (node_longer t Γ b w.first ns) (list_full (gave.outcome ns k) e)) refl)
+              (λ vs ns u k low st. Outcome.full
               (longer_over (longer_trans (opening_longer b w.first Γ ns) (block_longer t Γ b w.first vs ns u)) (list_full (gave.outcome ns k) e)) refl);
           words = tt;
         }
@@ -225,13 +233,13 @@ module _ {b : Bundle} {s : List ℕ} {Γ h t : ℕ} (asks : TermAsks b s Γ h t)
               )
 
           -- an application's visit, from its arguments' and what closed it
-          pub apply_done : w.kind ≡ 2 → {b2 : Bundle} {r2 : Option Visited}
+          pub apply_done : kind_of w.kind ≡ application → {b2 : Bundle} {r2 : Option Visited}
               → VisitOutcome (close_application Γ t w.first (record { bundle = b1; results = halves true s1 h top; steps = halves false s1 h top })) b2 r2
               → VisitFits r2 → TermGives b s Γ h t b2 s1 r2
           unfolding visit
           apply_done e {b2} {r2} g fits = record {
             kept = gave.kept;
-            outcome = application_only reads (λ τ. VisitOutcome (visit τ Γ b) b2 r2) not-1 no_binder e (λ ns k.
+            outcome = application_only reads (λ τ. VisitOutcome (visit τ Γ b) b2 r2) e (λ ns k.
                 let d = args_done ns k in
                 subst (λ (v : Visit). VisitOutcome v b2 r2)
                 (λ j. close_application Γ t w.first (record { bundle = d.bundle j; results = d.results j; steps = d.steps j })) g);
@@ -240,7 +248,7 @@ module _ {b : Bundle} {s : List ℕ} {Γ h t : ℕ} (asks : TermAsks b s Γ h t)
 
           -- ---- a let
 
-          module _ (not-2 : w.kind ≡ 2 → ⊥) {b2 : Bundle} {r2 : Option ℕ} (opened : OpenOutcome (replacing b1 w.first Γ (halves true s1 h top)) b2 r2) where
+          module _ (is_let : kind_of w.kind ≡ letting) {b2 : Bundle} {r2 : Option ℕ} (opened : OpenOutcome (replacing b1 w.first Γ (halves true s1 h top)) b2 r2) where
             let_opened : (ns : Nodes) → StandAll b t w.second ns → OpenOutcome (opening b w.first Γ ns) b2 r2
             let_opened ns k =
                 let d = args_done ns k in
@@ -250,7 +258,7 @@ module _ {b : Bundle} {s : List ℕ} {Γ h t : ℕ} (asks : TermAsks b s Γ h t)
             pub let_closed : r2 ≡ None → TermGives b s Γ h t b2 s1 None
             let_closed e = record {
               kept = gave.kept;
-              outcome = let_only reads (λ τ. VisitOutcome (visit τ Γ b) b2 None) not-1 no_binder not-2 (λ vs ns u k low st.
+              outcome = let_only reads (λ τ. VisitOutcome (visit τ Γ b) b2 None) is_let (λ vs ns u k low st.
                   full_on (let_opened ns k) e (block_longer t Γ b w.first vs ns u));
               words = tt;
             }
@@ -265,7 +273,7 @@ module _ {b : Bundle} {s : List ℕ} {Γ h t : ℕ} (asks : TermAsks b s Γ h t)
 
               -- the call for the body
               pub body_asks : TermAsks b2 s1 inner top w.third × (w.third < t)
-              body_asks = let_only reads (λ τ. TermAsks b2 s1 inner top w.third × (w.third < t)) not-1 no_binder not-2 (λ vs ns u k low st.
+              body_asks = let_only reads (λ τ. TermAsks b2 s1 inner top w.third × (w.third < t)) is_let (λ vs ns u k low st.
                   let d = let_done ns k in
                   let v = visit_all ns Γ b in (
                     record {
@@ -296,7 +304,7 @@ module _ {b : Bundle} {s : List ℕ} {Γ h t : ℕ} (asks : TermAsks b s Γ h t)
                 pub body_full : r3 ≡ None → TermGives b s Γ h t b3 s3 None
                 body_full e = record {
                   kept = below_trans args_ready.0 gave.kept gave3.kept;
-                  outcome = let_only reads (λ τ. VisitOutcome (visit τ Γ b) b3 None) not-1 no_binder not-2 (λ vs ns u k low st.
+                  outcome = let_only reads (λ τ. VisitOutcome (visit τ Γ b) b3 None) is_let (λ vs ns u k low st.
                       full_on (body_outcome ns k u st) e (body_longer t Γ b w.first vs ns u));
                   words = tt;
                 }
@@ -304,7 +312,7 @@ module _ {b : Bundle} {s : List ℕ} {Γ h t : ℕ} (asks : TermAsks b s Γ h t)
                 module _ {x : Visited} (told3 : r3 ≡ Some x) where
                   -- a place for the body's pair
                   pub body_ready : top < length s3
-                  body_ready = let_only reads (λ τ. top < length s3) not-1 no_binder not-2 (λ vs ns u k low st.
+                  body_ready = let_only reads (λ τ. top < length s3) is_let (λ vs ns u k low st.
                       let d = visit_done (body_outcome ns k u st) told3 in
                       let i : top < limits.steps =
                       omega (
@@ -323,7 +331,7 @@ module _ {b : Bundle} {s : List ℕ} {Γ h t : ℕ} (asks : TermAsks b s Γ h t)
                   unfolding visit
                   body_done {pair} packed {b4} {r4} g fits = record {
                     kept = below_trans args_ready.0 gave.kept (below_trans (omega arith) gave3.kept (below_set s3 top top pair (omega arith)));
-                    outcome = let_only reads (λ τ. VisitOutcome (visit τ Γ b) b4 r4) not-1 no_binder not-2 (λ vs ns u k low st.
+                    outcome = let_only reads (λ τ. VisitOutcome (visit τ Γ b) b4 r4) is_let (λ vs ns u k low st.
                         let a = args_done ns k in
                         let d = visit_done (body_outcome ns k u st) told3 in
                         let steps = (visit_all ns Γ b).steps in

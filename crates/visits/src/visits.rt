@@ -6,8 +6,8 @@ use closers::{
     close_application, close_quantifier, close_variable, conclude, open_let, open_quantifier,
 };
 use filing::Filed;
-use logic::kinds::{APPLICATION, VARIABLE, is_binder};
-use logic::rules::LET;
+use logic::kinds::Kind;
+use logic::rules::Rule;
 use placing::Visited;
 use scratch::pairs::pack;
 
@@ -27,36 +27,42 @@ pub fn visit_term(
     // The counts are within the limits.
     prove!(scratch.counts().terms <= Bundle::TERMS);
     let words = scratch.term_words(term);
-    let kind = words.kind;
     let first = words.first;
     let second = words.second;
-    if kind == VARIABLE {
-        return close_variable(filed, context, term, first);
+    match Kind::of(words.kind) {
+        Some(Kind::Variable) => close_variable(filed, context, term, first),
+        Some(Kind::Application) => {
+            let top = visit_list(filed, stack, context, height, term, second)?;
+            // The pairs are on the stack.
+            prove!((height <= top) & (top <= stack.len()));
+            close_application(filed, context, term, first, &stack[height..top])
+        }
+        Some(Kind::Binder(q)) => {
+            let opened = open_quantifier(filed, first, context)?;
+            let body = visit_term(filed, stack, opened.context, height, second)?;
+            close_quantifier(filed, context, term, q, opened.variable, body)
+        }
+        Some(Kind::Let) => {
+            let top = visit_list(filed, stack, context, height, term, second)?;
+            // The pairs are on the stack.
+            prove!((height <= top) & (top <= stack.len()));
+            let inner = open_let(filed, first, context, &stack[height..top])?;
+            let body = visit_term(filed, stack, inner, top, words.third)?;
+            // There is a place for the body's pair.
+            prove!(top < stack.len());
+            stack[top] = pack(body.result, body.step);
+            conclude(
+                filed,
+                Rule::Let.number(),
+                context,
+                term,
+                body.result,
+                &stack[height..top + 1],
+            )
+        }
+        // Each term that is visited has a kind.
+        None => unreachable!(),
     }
-    if is_binder(kind) {
-        let opened = open_quantifier(filed, first, context)?;
-        let body = visit_term(filed, stack, opened.context, height, second)?;
-        return close_quantifier(filed, context, term, kind, opened.variable, body);
-    }
-    let top = visit_list(filed, stack, context, height, term, second)?;
-    // The pairs are on the stack.
-    prove!((height <= top) & (top <= stack.len()));
-    if kind == APPLICATION {
-        return close_application(filed, context, term, first, &stack[height..top]);
-    }
-    let inner = open_let(filed, first, context, &stack[height..top])?;
-    let body = visit_term(filed, stack, inner, top, words.third)?;
-    // There is a place for the body's pair.
-    prove!(top < stack.len());
-    stack[top] = pack(body.result, body.step);
-    conclude(
-        filed,
-        LET,
-        context,
-        term,
-        body.result,
-        &stack[height..top + 1],
-    )
 }
 
 // Visits each term of a list of the term `owner` from link `list` on, and leaves their pairs on the stack, from `height` on. Where the stack ends then.

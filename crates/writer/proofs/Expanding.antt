@@ -32,7 +32,7 @@ use Rattle.placing.specs.declared.Visited.{Visited}
 use Rattle.expansion.specs.Nodes.{Node, node_at}
 use Rattle.expansion.specs.Visit.{visit, visited, expanded, claiming}
 use Rattle.expansion.proofs.Grown.{visit_longer}
-use Rattle.expansion.specs.File.{counts_in, file_of}
+use Rattle.expansion.specs.File.{file_of}
 use Rattle.expansion.specs.Expansion.{long_enough, early_tests, job_tests, job_fault, writes, outcome_of, expansion}
 use Rattle.expansion.specs.Demands.{LongEnough}
 use Rattle.placing.specs.Outcomes.{TooMuch, VisitOutcome, Stands, TermAsks}
@@ -117,24 +117,24 @@ module _ (f : List ℕ) (out words sets : ℕ) where
 
     pub refused_late : (m : ℕ) → m ≡ first_failing (early_tests (bundle_of f)) → (m ≡ 0 → ⊥) → Refused m 0 ≡ (expansion f out words sets).answer
     refused_late m e ne =
-        refused_number m ne (failing_early (test 16 (within_of (counts_in (visited (bundle_of f)).bundle)) ∷ []) (early_tests (bundle_of f)) (λ z. ne (e ∙ z))
+        refused_number m ne (failing_early (test 16 (within_of (own_counts (visited (bundle_of f)).bundle)) ∷ []) (early_tests (bundle_of f)) (λ z. ne (e ∙ z))
         ∙ sym e)
 
 module _ {f : List ℕ} {out words sets : ℕ} {B : Bundle} {left : ℕ} (b : Begun f out words sets B left) where
-  last_is : first_failing (job_tests (bundle_of f)) ≡ cond (within_of (counts_in (visited (bundle_of f)).bundle)) 0 16
+  last_is : first_failing (job_tests (bundle_of f)) ≡ cond (within_of (own_counts (visited (bundle_of f)).bundle)) 0 16
   unfolding first_failing
-  last_is = failing_late (test 16 (within_of (counts_in (visited (bundle_of f)).bundle)) ∷ []) (early_tests (bundle_of f)) refl b.early
+  last_is = failing_late (test 16 (within_of (own_counts (visited (bundle_of f)).bundle)) ∷ []) (early_tests (bundle_of f)) refl b.early
 
   pub refused_full : TooMuch (visited (bundle_of f)).bundle → Refused 16 0 ≡ (expansion f out words sets).answer
   refused_full h =
       refused_number f out words sets b.none 16 (λ z. omega arith)
-      (last_is ∙ rw (off (within_of (counts_in (visited (bundle_of f)).bundle)) (λ e. h (within_all (counts_in (visited (bundle_of f)).bundle) e))))
+      (last_is ∙ rw (off (within_of (own_counts (visited (bundle_of f)).bundle)) (λ e. h (within_all (own_counts (visited (bundle_of f)).bundle) e))))
 
-  written : Within (counts_in (visited (bundle_of f)).bundle) → expansion f out words sets ≡ writes (expanded (bundle_of f)) out words sets
+  written : Within (own_counts (visited (bundle_of f)).bundle) → expansion f out words sets ≡ writes (expanded (bundle_of f)) out words sets
   unfolding expansion outcome_of
   written h =
       let e : job_fault f out words sets ≡ fault 0 0 = late_is f out words sets b.none
-      ∙ or_else_on (first_failing (job_tests (bundle_of f))) 0 (fault 0 0) (last_is ∙ rw (within_true (counts_in (visited (bundle_of f)).bundle) h)) in
+      ∙ or_else_on (first_failing (job_tests (bundle_of f))) 0 (fault 0 0) (last_is ∙ rw (within_true (own_counts (visited (bundle_of f)).bundle) h)) in
       ap (λ (r : Fault). outcome_of (bundle_of f) r r.number out words sets) e
 
   visit_stands : Stands B left (node_at B left)

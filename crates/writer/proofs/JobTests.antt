@@ -2,7 +2,7 @@
 --     all_pass, one_fails                               a test of every variable, from the first one on
 --     closed_is                                         17, by the free sets in the lent words
 --     not_empty_lem, not_known, not_closed, all_hold    18, 15, 17 and none
-use Prim.Native.Nat.{ℕ, zero, suc, ◌+◌, ◌*◌, ◌-◌, ◌≤◌, ◌<◌}
+use Prim.Native.Nat.{ℕ, zero, suc, ◌+◌, ◌*◌, ◌≤◌, ◌<◌}
 use native.Mathlib.Omega.{arith}
 use native.Mathlib.Numerals.{add-one}
 use native.Mathlib.Decide.{ℕ_discrete}
@@ -12,9 +12,10 @@ use mathlib.Core.List.{List}
 use lib.ListN.{length}
 use lib.Dec.{eqb, ltb, leb}
 use Rattle.bundle.specs.Bundle.{Bundle}
-use Rattle.sets.specs.Sets.{member}
 use Rattle.logic.specs.Tests.{passed, up_to, first_failing}
 use Rattle.logic.specs.Free.{free_at, free_area}
+use Rattle.free_variables.specs.TermSets.{TermSets, free_in}
+use Rattle.free_variables.proofs.FreeWords.{free_some}
 use Rattle.free_variables.proofs.HeldSets.{free_sets}
 use Rattle.expansion.specs.Expansion.{early_tests}
 
@@ -50,14 +51,14 @@ module _ (b : Bundle) where
   closed = up_to (length b.variables) (λ x. not (free_at b b.left x))
 
   -- w are the lent words with the free sets, n words each
-  pub closed_is : (n m : ℕ) (w : List ℕ) {t v : ℕ} → t ≡ b.left → v ≡ length b.variables → 1 ≤ n → v ≤ 64 * n → n * length b.terms ≤ m
+  pub closed_is : (n m : ℕ) (w : List ℕ) {t : ℕ} → t ≡ b.left → 1 ≤ n → length b.variables ≤ 64 * n → n * length b.terms ≤ m
       → w ≡ free_area b n m → 1 ≤ t → t ≤ length b.terms
-      → up_to v (λ x. not (member w (n * (t - 1)) n x)) ≡ closed
-  closed_is n m w {t} {v} read counted one bits long area lo hi =
-      let sets = free_sets b n m w one (omega (arith, counted, bits)) long area in
-      rw counted
-      (ap (up_to (length b.variables)) (λ i x. not (sets.same t x lo hi i))
-      ∙ ap (λ (u : ℕ). up_to (length b.variables) (λ x. not (free_at b u x))) read)
+      → up_to (length b.variables) (λ x. not (free_in (record { bundle = b; words = w; n = n }) t x)) ≡ closed
+  closed_is n m w {t} read one bits long area lo hi =
+      let s : TermSets = record { bundle = b; words = w; n = n } in
+      let sets = free_sets b n m w one bits long area in
+      ap (up_to (length b.variables)) (λ i x. not ((free_some s t x (λ z. omega arith) hi ∙ sets.same t x lo hi) i))
+      ∙ ap (λ (u : ℕ). up_to (length b.variables) (λ x. not (free_at b u x))) read
 
   early_is : first_failing (early_tests b) ≡ cond empty (cond known (cond closed 0 17) 15) 18
   unfolding first_failing passed

@@ -1,22 +1,22 @@
 // The checks of a job after 1 to 9.
-ghost use Rattle.std.specs.Prelude.{◌≡◌, not, ◌+◌, ◌*◌, ◌≤◌, length};
+ghost use Rattle.std.specs.Prelude.{◌≡◌, not, ◌*◌, ◌≤◌, length};
 ghost use Rattle.bundle.specs.Limits.{set_words};
-ghost use Rattle.sets.specs.Sets.{member};
 ghost use Rattle.logic.specs.Failures.{number_in};
 ghost use Rattle.logic.specs.Tests.{up_to, first_failing};
+ghost use Rattle.free_variables.specs.TermSets.{free_in};
 ghost use Rattle.expansion.specs.Expansion.{early_tests};
 
 use bundle::Bundle;
+use free_variables::term_sets::TermSets;
 use free_variables::words_for;
 use logic::checks::Check;
 
-// Whether no variable up to v is in the set at word `at`.
-fn is_closed(sets: &[u64], at: usize, n: usize, variables: usize) -> bool
-    requires { at + n ≤ length sets.now }
-    ensures { result ≡ up_to variables (λ x. not (member sets.now at n x)) }
+// Whether no variable is free in term t.
+fn is_closed(sets: &TermSets<'_>, t: usize) -> bool
+    ensures { result ≡ up_to (length sets.now.bundle.variables) (λ x. not (free_in sets.now t x)) }
 {
-    for k in 0..variables {
-        if sets::member(sets, at, n, k + 1) {
+    for k in 0..sets.bundle().variables() {
+        if sets.is_free(t, k + 1) {
             return false;
         }
     }
@@ -33,16 +33,15 @@ pub fn job_fault(bundle: &Bundle, sets: &mut [u64]) -> Result<(), Check>
     let contexts = bundle.contexts();
     let steps = bundle.steps();
     let terms = bundle.terms();
-    let variables = bundle.variables();
     if !((contexts == 0) & (steps == 0) & (right == 0)) {
         return Err(Check::Job);
     }
     if !((0 < left) & (left <= terms)) {
         return Err(Check::Claim);
     }
-    let n = words_for(variables);
+    let n = words_for(bundle.variables());
     free_variables::free_sets(bundle, sets, n);
-    if !is_closed(sets, n * (left - 1), n, variables) {
+    if !is_closed(&TermSets::of(bundle, sets, n), left) {
         return Err(Check::Closed);
     }
     Ok(())

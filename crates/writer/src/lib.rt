@@ -15,6 +15,7 @@ use logic::checks::{Check, Failure};
 use visits::visits::visit_term;
 
 // Checks the job, expands it in the scratch and stores the file at the start of the output. The rest of the areas is left as it comes.
+// The three areas are no struct: C lends them apart, and each goes its own way here: the file, the scratch, the sets and then the stack.
 fn store_job(
     job: &[u8],
     out: &mut [u8],

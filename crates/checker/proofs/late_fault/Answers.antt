@@ -22,7 +22,7 @@ pub overflow_mul-places : goal.overflow_mul-places
 overflow_mul-places c = omega (arith, mul-le-mul_right (c.contexts-rows.result + 1) c.variables.ensures.1)
 
 pub overflow_mul-words : goal.overflow_mul-words
-overflow_mul-words c = omega (arith, mul-le-mul_right (c.contexts-rows.result + 1) c.requires.2)
+overflow_mul-words c = omega (arith, mul-le-mul_right (c.contexts-rows.result + 1) c.requires.1)
 
 pub late_fault_in-requires : goal.late_fault_in-requires
 late_fault_in-requires c =
@@ -31,8 +31,8 @@ late_fault_in-requires c =
     let places = c.variables.result * (c.contexts-rows.result + 1) in
     let words = a.n * (c.contexts-rows.result + 1) in
     let fits = c.if-places-words.true in
-    asks a.bundle.now a.n p.3 p.2 512 80 p.0 p.1 (rw (← c.variables.ensures.0, ← c.contexts-rows.ensures.0) (row_fits places words 512 40 fits))
-    (rw (← c.contexts-rows.ensures.0) (omega (arith, set_fits places words 512 40 fits)))
+    asks a.sorted.now a.n p.2 p.1 512 80 p.0 (rw (← (rw c.bundle-bundle.ensures at c.variables.ensures.0), ← (rw c.bundle-bundle.ensures at c.contexts-rows.ensures.0)) (row_fits places words 512 40 fits))
+    (rw (← (rw c.bundle-bundle.ensures at c.contexts-rows.ensures.0)) (omega (arith, set_fits places words 512 40 fits)))
 
 pub late_fault_in-requires-then-places-words-2 : goal.late_fault_in-requires-then-places-words-2
 late_fault_in-requires-then-places-words-2 c =
@@ -41,12 +41,12 @@ late_fault_in-requires-then-places-words-2 c =
     let places = c.variables.result * (c.contexts-rows.result + 1) in
     let words = a.n * (c.contexts-rows.result + 1) in
     let fits = c.if-places-words-2.true in
-    asks a.bundle.now a.n p.3 p.2 8192 514 p.0 p.1 (rw (← c.variables.ensures.0, ← c.contexts-rows.ensures.0) (row_fits places words 8192 257 fits))
-    (rw (← c.contexts-rows.ensures.0) (omega (arith, set_fits places words 8192 257 fits)))
+    asks a.sorted.now a.n p.2 p.1 8192 514 p.0 (rw (← (rw c.bundle-bundle.ensures at c.variables.ensures.0), ← (rw c.bundle-bundle.ensures at c.contexts-rows.ensures.0)) (row_fits places words 8192 257 fits))
+    (rw (← (rw c.bundle-bundle.ensures at c.contexts-rows.ensures.0)) (omega (arith, set_fits places words 8192 257 fits)))
 
 pub late_fault_in-requires-2 : goal.late_fault_in-requires-2
 late_fault_in-requires-2 c =
     let a = c.args in
     let p = c.requires in
-    asks a.bundle.now a.n p.3 p.2 16448 514 p.0 p.1 (rw (← c.variables.ensures.0, ← c.contexts-rows.ensures.0) c.if-places-gt16448.false)
-    (rw (← c.contexts-rows.ensures.0) (omega (arith, c.if-words-gt257.false)))
+    asks a.sorted.now a.n p.2 p.1 16448 514 p.0 (rw (← (rw c.bundle-bundle.ensures at c.variables.ensures.0), ← (rw c.bundle-bundle.ensures at c.contexts-rows.ensures.0)) c.if-places-gt16448.false)
+    (rw (← (rw c.bundle-bundle.ensures at c.contexts-rows.ensures.0)) (omega (arith, c.if-words-gt257.false)))

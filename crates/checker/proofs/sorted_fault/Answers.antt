@@ -31,23 +31,24 @@ pub returns-in_err-sections_fault : goal.returns-in_err-sections_fault
 returns-in_err-sections_fault c =
     let p = err_from_is_err_and c.from_residual.result c.from_residual.ensures.1 in
     rw (p.1, p.2) (record {
-      fact = record { fault = early c.args.bundle.now _ c.in_err-sections_fault.ensures; pairs = tt };
+      fact = record { fault = early c.args.sorted.now _ c.in_err-sections_fault.ensures; pairs = tt };
       free_after = tt;
     })
 
 pub free_sets-requires : goal.free_sets-requires
 free_sets-requires c =
     let w = c.words_for-n.ensures in
-    (w.0, w.1, omega (arith, mul-le-mul_right (length c.args.bundle.now.terms) w.1, c.requires.1), omega arith)
+    let variables = rw c.bundle-bundle.ensures at c.variables.ensures.0 in
+    rw c.bundle-bundle.ensures (w.0, w.1, omega (arith, mul-le-mul_right (length c.args.sorted.now.terms) w.1, c.requires), omega (arith, w.2, variables))
 
 pub late_fault-requires : goal.late_fault-requires
 late_fault-requires c =
-    let b = c.args.bundle.now in
+    let b = c.args.sorted.now in
     let r = c.words_for-n in
     let w = r.ensures in
-    let bits : length b.variables ≤ 64 * r.result = omega arith in (
-      c.requires.0,
-      sets_held b r.result _ _ w.0 bits (omega (arith, mul-le-mul_right (length b.terms) w.1, c.requires.1)) c.free_sets.ensures,
+    let variables = rw c.bundle-bundle.ensures at c.variables.ensures.0 in
+    let bits : length b.variables ≤ 64 * r.result = omega (arith, w.2, variables) in (
+      sets_held b r.result _ _ w.0 bits (omega (arith, mul-le-mul_right (length b.terms) w.1, c.requires)) (rw c.bundle-bundle.ensures at c.free_sets.ensures),
       w.1,
       bits,
     )
@@ -57,22 +58,24 @@ returns-in_err-pairs c =
     let r = c.from_residual-in_err-pairs in
     let p = err_from_is_err_and r.result r.ensures.1 in
     rw (p.1, p.2) (record {
-      fact = record { fault = later c.args.bundle.now c.in_ok-sections_fault.ensures c.in_err-pairs.ensures.fault; pairs = tt };
+      fact = record { fault = later c.args.sorted.now c.in_ok-sections_fault.ensures c.in_err-pairs.ensures.fault; pairs = tt };
       free_after = tt;
     })
 
 pub returns : goal.returns
 returns c =
     let a = c.args in
-    let b = a.bundle.now in
+    let b = a.sorted.now in
     let r = c.words_for-n in
     let w = r.ensures in
     let f = c.free_sets in
     let s = c.spread in
-    let bits : length b.variables ≤ 64 * r.result = omega arith in record {
+    let variables = rw c.bundle-bundle.ensures at c.variables.ensures.0 in
+    let terms = rw c.bundle-bundle.ensures at c.terms.ensures.0 in
+    let bits : length b.variables ≤ 64 * r.result = omega (arith, w.2, variables) in record {
       fact = record {
         fault = later b c.in_ok-sections_fault.ensures c.in_ok-pairs.ensures.fault;
         pairs = c.in_ok-pairs.ensures.pairs;
       };
-      free_after = area_spread b r.result set_words (length a.free.now) f.new.area s.new.area w.0 w.1 bits c.requires.1 f.ensures (rw (← c.terms.ensures.0) s.ensures);
+      free_after = area_spread b r.result set_words (length a.free.now) f.new.area s.new.area w.0 w.1 bits c.requires (rw c.bundle-bundle.ensures at f.ensures) (rw (← terms) s.ensures);
     }

@@ -1,21 +1,41 @@
--- `closers::close_variable` meets its contract: the step ends in what the image gives.
-use Rattle.std.proofs.Common.{◌≡◌, ℕ, [], sym, ap, subst, ◌∙◌}
+-- `close_variable` meets its contract: the step ends in what the image gives.
+use mathlib.Core.Path.{◌≡◌, refl, sym, ap, subst, ◌∙◌}
+use mathlib.Core.List.{[]}
+use Prim.Native.Nat.{ℕ, ◌≤◌}
+use native.Mathlib.Omega.{arith}
+use Rattle.bundle.specs.Words.{largest_word}
 use Rattle.logic.specs.declared.Image.{Image}
 use Rattle.logic.specs.Contexts.{image}
+use Rattle.logic.specs.Rules.{REFL}
+use Rattle.scratch.proofs.Pushed.{add_none}
 use Rattle.expansion.specs.Visit.{visit, concluded, image_term}
 use Rattle.placing.specs.Outcomes.{VisitOutcome}
+use Rattle.closers.proofs.Numbers.{rule_number}
+use Rattle.closers.proofs.Closings.{concluded_is, concluded_fits}
 use Rattle.closers.proofs.close_variable.Goals.{in-Own, in-Gives}
 use Rattle.closers.proofs.close_variable.Goals as goal
+
+pub add_step-requires : goal.add_step-requires
+add_step-requires c =
+    let n : c.number.result ≡ 1 = rule_number c.number.result REFL c.number.ensures (λ e. cc) in
+    let word : c.match-image.right ≤ largest_word =
+    elim c.match-image.branch [ in-Own w ↦ omega (arith, w.right-is, c.requires.1) | in-Gives w ↦ omega (arith, w.right-is, c.image.ensures.1 _ w.in-Gives.is) ] in
+    record { rule = omega (arith, n); context = c.requires.0; left = c.requires.1; right = word; premises = omega arith }
 
 pub returns : goal.returns
 unfolding visit
 returns c =
     let a = c.args in
-    let t = c.conclude_alone in
     let b = a.filed.now in
+    let n : c.number.result ≡ 1 = rule_number c.number.result REFL c.number.ensures (λ e. cc) in
     let to : Image → ℕ = λ i. image_term i a.term in
     let found : c.image.result ≡ image b a.context a.x = c.image.ensures.0 ∙ ap (λ s. image s a.context a.x) c.scratch.ensures in
     let right : c.match-image.right ≡ to (image b a.context a.x) =
     elim c.match-image.branch
     [ in-Own w ↦ w.right-is ∙ ap to (sym w.in-Own.is ∙ found) | in-Gives w ↦ w.right-is ∙ ap to (sym w.in-Gives.is ∙ found) ] in
-    (subst (λ (n : ℕ). VisitOutcome (concluded b 1 a.context a.term n []) t.new.filed t.result) right t.ensures.0, t.ensures.1)
+    let word : c.match-image.right ≤ largest_word =
+    elim c.match-image.branch [ in-Own w ↦ omega (arith, w.right-is, c.requires.1) | in-Gives w ↦ omega (arith, w.right-is, c.image.ensures.1 _ w.in-Gives.is) ] in
+    let o = concluded_is b 1 a.context a.term c.match-image.right [] n (sym (add_none b)) refl c.add_step.ensures in (
+      subst (λ (t : ℕ). VisitOutcome (concluded b 1 a.context a.term t []) c.add_step.new.filed c.add_step.result) right o,
+      concluded_fits b 1 a.context a.term c.match-image.right [] o word,
+    )

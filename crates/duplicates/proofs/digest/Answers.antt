@@ -4,12 +4,13 @@ use Rattle.duplicates.proofs.digest.Goals as goal
 
 pub returns : goal.returns
 unfolding term_digest
-returns c = (
-  rw (
-    ← c.mixed-d.ensures.0,
-    ← c.mixed_field-d1.ensures.0,
-    ← c.mixed_field-d2.ensures.0,
-    ← c.mixed.ensures.0,
-  ),
-  c.mixed.ensures.1,
-)
+returns c =
+    rw (
+      ← c.empty.ensures,
+      ← c.mixed-d.ensures,
+      ← c.lists_of-first.ensures.1,
+      ← c.lists_of-first.ensures.0,
+      ← c.mixed_field-d1.ensures,
+      ← c.mixed_field-d2.ensures,
+      ← c.mixed.ensures,
+    )

@@ -9,7 +9,7 @@ pub loop-j-init : goal.loop-j-init
 loop-j-init c =
     let a = c.args in
     let b = a.bundle.now in
-    sought_start c.requires.0 (same b a.i) a.d c.requires.2 (λ j t. same_digest b _ _ t ∙ sym c.requires.3) c.from-j.ensures
+    sought_start c.requires.0 (same b a.i) a.d (omega (arith, c.place.ensures)) (λ j t. same_digest b _ _ t ∙ sym c.requires.2) (rw (← c.place.ensures.0) c.from-j.ensures)
 
 pub returns-then-same_term : goal.returns-then-same_term
 returns-then-same_term c =

@@ -6,7 +6,7 @@ use Rattle.duplicates.proofs.mixed_items.Goals as goal
 pub loop-x-preserved : goal.loop-x-preserved
 loop-x-preserved c =
     let s = c.in-Some.ensures.steps in
-    (c.mixed-sum.ensures.1, c.loop-x.invariant.1 ∙ rw (s.0, c.mixed-sum.ensures.0) (mix_on _ _ _ _ _ s.1))
+    c.loop-x.invariant ∙ rw (s.0, c.mixed-sum.ensures) (mix_on _ _ _ _ _ s.1)
 
 pub returns : goal.returns
-returns c = (sym (c.loop-x.invariant.1 ∙ mix_end _ _ _ (λ some. (c.in-None.ensures.steps some).0)), c.loop-x.invariant.0)
+returns c = sym (c.loop-x.invariant ∙ mix_end _ _ _ (λ some. (c.in-None.ensures.steps some).0))

@@ -14,6 +14,8 @@ returns c =
       ← c.term_field-kind.ensures,
       ← c.term_field.ensures,
       eq-eqb _ _ c.if-kind-term_field.false,
+      ← c.lists_of-lists.ensures.1,
+      ← c.lists_of-lists.ensures.0,
       ← c.term_field-2.ensures,
       ← c.term_field-3.ensures,
       ← c.same_field-first.ensures,

@@ -21,8 +21,8 @@ loop-t-preserved c =
     let n : l.t ≡ suc (l.t - 1) = omega arith in
     subst (λ (ix : List ℕ). FiledTo b ix (l.t + 1 - 1)) (sym c.file_term.ensures)
     (filed_on b l.index (l.t - 1) d.result l.invariant l.t (l.t + 1 - 1) n (omega arith)
-    (λ B longer. formed_digested c.requires.0 B longer l.t (omega (arith, c.terms-t-end.ensures)) ∙ sym d.ensures.0)
-    d.ensures.1 (omega (arith, c.terms-t-end.ensures)))
+    (λ B longer. formed_digested c.requires.0 B longer l.t (omega (arith, c.terms-t-end.ensures)) ∙ sym d.ensures)
+    (omega (arith, c.terms-t-end.ensures)))
 
 pub returns : goal.returns
 returns c =

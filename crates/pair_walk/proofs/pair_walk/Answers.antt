@@ -3,35 +3,42 @@ use mathlib.Core.List.{[]}
 use native.Mathlib.Omega.{arith}
 use mathlib.Core.Path.{sym, ◌∙◌}
 use lib.ListN.{length}
+use Rattle.free_variables.specs.TermSets.{free_in}
 use Rattle.images.specs.ContextRows.{image_at}
-use Rattle.images.specs.LentReading.{free_in}
 use Rattle.pair_walk.specs.Agenda.{few_pairs}
 use Rattle.pair_walk.proofs.MorePairs.{same_few, more_same, different_few, more_different}
 use Rattle.pair_walk.proofs.pair_walk.Goals as goal
 
 pub overflow_add-result : goal.overflow_add-result
-overflow_add-result c = let a = c.args in
+overflow_add-result c =
+    let a = c.args in
+    let s = a.sets.now in
     omega (
       arith,
-      same_few (free_in (length a.bundle.now.terms) a.area.now a.n) (image_at (length a.bundle.now.variables) a.images.now a.context) a.bundle.now a.left [] a.right
-          few_pairs c.in-Same.m (sym c.in-Same.is ∙ c.walk_within-walked.ensures),
+      same_few (free_in s) (image_at (length s.bundle.variables) a.images.now a.context) s.bundle a.left [] a.right few_pairs c.in-Same.m
+          (sym c.in-Same.is ∙ c.walk_within-walked.ensures),
     )
 
 pub overflow_add-result-in-Different : goal.overflow_add-result-in-Different
-overflow_add-result-in-Different c = let a = c.args in
+overflow_add-result-in-Different c =
+    let a = c.args in
+    let s = a.sets.now in
     omega (
       arith,
-      different_few (free_in (length a.bundle.now.terms) a.area.now a.n) (image_at (length a.bundle.now.variables) a.images.now a.context) a.bundle.now
-          a.left [] a.right
-          few_pairs c.in-Different.m (sym c.in-Different.is ∙ c.walk_within-walked.ensures),
+      different_few (free_in s) (image_at (length s.bundle.variables) a.images.now a.context) s.bundle a.left [] a.right few_pairs c.in-Different.m
+          (sym c.in-Different.is ∙ c.walk_within-walked.ensures),
     )
 
 pub returns-in-Same : goal.returns-in-Same
-returns-in-Same c = let a = c.args in
-    more_same (free_in (length a.bundle.now.terms) a.area.now a.n) (image_at (length a.bundle.now.variables) a.images.now a.context) a.bundle.now a.left [] a.right
-    few_pairs c.in-Same.m (sym c.in-Same.is ∙ c.walk_within-walked.ensures) 4032
+returns-in-Same c =
+    let a = c.args in
+    let s = a.sets.now in
+    more_same (free_in s) (image_at (length s.bundle.variables) a.images.now a.context) s.bundle a.left [] a.right few_pairs c.in-Same.m
+    (sym c.in-Same.is ∙ c.walk_within-walked.ensures) 4032
 
 pub returns-in-Different : goal.returns-in-Different
-returns-in-Different c = let a = c.args in
-    more_different (free_in (length a.bundle.now.terms) a.area.now a.n) (image_at (length a.bundle.now.variables) a.images.now a.context) a.bundle.now a.left [] a.right
-    few_pairs c.in-Different.m (sym c.in-Different.is ∙ c.walk_within-walked.ensures) 4032
+returns-in-Different c =
+    let a = c.args in
+    let s = a.sets.now in
+    more_different (free_in s) (image_at (length s.bundle.variables) a.images.now a.context) s.bundle a.left [] a.right few_pairs c.in-Different.m
+    (sym c.in-Different.is ∙ c.walk_within-walked.ensures) 4032

@@ -1,87 +1,52 @@
 -- `walk` meets its contract.
-use native.Mathlib.Omega.{arith}
-use mathlib.Core.Path.{refl, ◌∙◌}
+use mathlib.Core.List.{[]}
+use mathlib.Core.Path.{◌≡◌, refl, sym, ap, subst, ◌∙◌}
 use lib.ListN.{length}
+use Rattle.free_variables.specs.TermSets.{TermSets, free_in}
 use Rattle.images.specs.ContextRows.{image_at}
-use Rattle.images.specs.LentReading.{free_in}
-use Rattle.pair_walk.specs.Agenda.{frames, crossed_by}
-use Rattle.pair_walk.proofs.Visiting.{visit_start, visit_differs, open_known, opened_held, opened_whole, turned_end, turned_pair}
+use Rattle.logic.specs.ReflWalk.{within_by}
+use Rattle.pair_walk.specs.Agenda.{Path}
+use Rattle.pair_walk.proofs.Visiting.{Visiting, visit_start, visit_differs, open_known, visit_opened, opened_whole, turned_end, turned_pair}
 use Rattle.pair_walk.proofs.walk.Goals as goal
 
-pub loop-n-init : goal.loop-n-init
-loop-n-init c =
+pub loop-path-init : goal.loop-path-init
+loop-path-init c =
     let a = c.args in
-    let h = c.requires in (
-      visit_start (free_in (length a.bundle.now.terms) a.area.now a.n) (image_at (length a.bundle.now.variables) a.images.now a.context) a.bundle.now a.n
-          a.most a.agenda.now a.places.now a.bound.now a.left a.right h.3 h.4 h.5,
-      refl,
-      refl,
-      refl,
+    let s = a.sets.now in
+    rw (c.of-path.ensures, c.of.ensures)
+    (visit_start (free_in s) (image_at (length s.bundle.variables) a.images.now a.context) s a.most a.left a.right c.requires.4, refl)
+
+pub returns-then-not-meets : goal.returns-then-not-meets
+returns-then-not-meets c = visit_differs c.loop-path.invariant.0 c.meets.ensures c.if-not-meets.true
+
+pub open-requires : goal.open-requires
+open-requires c = open_known c.loop-path.invariant.0 c.meets.ensures c.if-not-meets.false
+
+pub next-requires : goal.next-requires
+next-requires c = rw c.open.ensures (visit_opened c.loop-path.invariant.0 c.meets.ensures c.if-not-meets.false)
+
+pub returns-in-Err : goal.returns-in-Err
+returns-in-Err c =
+    let a = c.args in
+    let p = c.loop-path.path in
+    let free = free_in p.sets in
+    let image = image_at (length p.sets.bundle.variables) a.images.now a.context in
+    turned_end free image c.next.new.path c.loop-path.spare (c.next.ensures.1 free image)
+    (rw c.open.ensures (opened_whole c.loop-path.invariant.0 c.meets.ensures c.if-not-meets.false)) c.in-Err.is
+
+pub loop-path-preserved : goal.loop-path-preserved
+loop-path-preserved c =
+    let a = c.args in
+    let p = c.loop-path.path in
+    let q = c.next.new.path in
+    let s = a.sets.now in
+    let free = free_in p.sets in
+    let image = image_at (length p.sets.bundle.variables) a.images.now a.context in
+    let whole = within_by (free_in s) (image_at (length s.bundle.variables) a.images.now a.context) s.bundle a.left [] a.right a.most in
+    let same : q.sets ≡ p.sets = ap (λ (x : Path). x.sets) c.next.ensures.0 ∙ ap (λ (x : Path). x.sets) c.open.ensures in
+    let next = (turned_pair free image q c.loop-path.spare (c.next.ensures.1 free image)
+    (rw c.open.ensures (opened_whole c.loop-path.invariant.0 c.meets.ensures c.if-not-meets.false)) c.in-Ok.is).0 in (
+      subst (λ (x : TermSets). Visiting (free_in x) (image_at (length x.bundle.variables) a.images.now a.context) whole q c.in-Ok.pair.l c.in-Ok.pair.r
+          c.in-Ok.pair.left) (sym same) next,
+      same ∙ c.loop-path.invariant.1,
     )
-
-pub pair_meets-requires : goal.pair_meets-requires
-pair_meets-requires c =
-    let h = c.requires in
-    let placed = c.loop-n.invariant.0.held.crossing.placed in
-    (h.0, h.1, placed.long, placed.words, h.2)
-
-pub returns-then-not-pair_meets : goal.returns-then-not-pair_meets
-returns-then-not-pair_meets c =
-    let l = c.loop-n in
-    visit_differs l.invariant.0 (c.pair_meets.ensures (crossed_by (frames l.agenda l.height)) l.invariant.0.held.crossing.placed)
-    c.if-not-pair_meets.true
-
-pub open-opened-requires : goal.open-opened-requires
-open-opened-requires c =
-    let l = c.loop-n in
-    open_known l.invariant.0 (c.pair_meets.ensures (crossed_by (frames l.agenda l.height)) l.invariant.0.held.crossing.placed)
-    c.if-not-pair_meets.false
-
-pub next-turn-requires : goal.next-turn-requires
-next-turn-requires c =
-    let l = c.loop-n in
-    let o = c.open-opened in (
-      opened_held l.invariant.0 (c.pair_meets.ensures (crossed_by (frames l.agenda l.height)) l.invariant.0.held.crossing.placed)
-          c.if-not-pair_meets.false o.new.agenda o.result o.ensures.0 o.ensures.2,
-      omega (arith, o.ensures.1, l.invariant.0.room),
-      c.requires.6,
-      c.requires.2,
-    )
-
-pub returns-in-Ended : goal.returns-in-Ended
-returns-in-Ended c =
-    let a = c.args in
-    let l = c.loop-n in
-    let o = c.open-opened in
-    let t = c.next-turn in
-    turned_end (free_in (length a.bundle.now.terms) a.area.now a.n) (image_at (length a.bundle.now.variables) a.images.now a.context) a.bundle.now a.n
-    a.most t.new.agenda t.new.places t.new.bound l.spare
-    (t.ensures (free_in (length a.bundle.now.terms) a.area.now a.n) (image_at (length a.bundle.now.variables) a.images.now a.context)) c.in-Ended.is
-    (opened_whole l.invariant.0 (c.pair_meets.ensures (crossed_by (frames l.agenda l.height)) l.invariant.0.held.crossing.placed)
-    c.if-not-pair_meets.false o.new.agenda o.result o.ensures.0 o.ensures.2)
-
-pub loop-n-smaller : goal.loop-n-smaller
-loop-n-smaller c =
-    let a = c.args in
-    let l = c.loop-n in
-    let o = c.open-opened in
-    let t = c.next-turn in
-    let u = turned_pair (free_in (length a.bundle.now.terms) a.area.now a.n) (image_at (length a.bundle.now.variables) a.images.now a.context)
-    a.bundle.now a.n a.most t.new.agenda t.new.places t.new.bound l.spare
-    (t.ensures (free_in (length a.bundle.now.terms) a.area.now a.n) (image_at (length a.bundle.now.variables) a.images.now a.context)) c.in-Pair.is
-    (opened_whole l.invariant.0 (c.pair_meets.ensures (crossed_by (frames l.agenda l.height)) l.invariant.0.held.crossing.placed)
-    c.if-not-pair_meets.false o.new.agenda o.result o.ensures.0 o.ensures.2) in
-    omega (arith, u.1)
-
-pub loop-n-preserved : goal.loop-n-preserved
-loop-n-preserved c =
-    let a = c.args in
-    let l = c.loop-n in
-    let o = c.open-opened in
-    let t = c.next-turn in
-    let u = turned_pair (free_in (length a.bundle.now.terms) a.area.now a.n) (image_at (length a.bundle.now.variables) a.images.now a.context)
-    a.bundle.now a.n a.most t.new.agenda t.new.places t.new.bound l.spare
-    (t.ensures (free_in (length a.bundle.now.terms) a.area.now a.n) (image_at (length a.bundle.now.variables) a.images.now a.context)) c.in-Pair.is
-    (opened_whole l.invariant.0 (c.pair_meets.ensures (crossed_by (frames l.agenda l.height)) l.invariant.0.held.crossing.placed)
-    c.if-not-pair_meets.false o.new.agenda o.result o.ensures.0 o.ensures.2) in
-    (u.0, t.auto.places ∙ l.invariant.1, t.auto.bound ∙ l.invariant.2, t.auto.agenda ∙ o.ensures.0 ∙ l.invariant.3)

@@ -6,13 +6,13 @@ use Rattle.pair_walk.proofs.walk_within.Goals as goal
 
 pub walk-requires : goal.walk-requires
 walk-requires g c =
-    let a = c.args in
-    let h = c.requires in (
+    let s = c.args.sets.now in
+    let h = c.requires in
+    let few = rw c.bundle.ensures at c.variables.ensures in (
       h.0,
       h.1,
-      h.2,
-      places_none (length a.bundle.now.variables) a.n 512 4 (omega (arith, c.variables.ensures)) h.3,
-      rw length-replicate (omega (arith, h.4)),
+      places_none (length s.bundle.variables) s.n 512 4 (omega (arith, few)) h.2,
+      rw length-replicate (omega (arith, h.3)),
+      h.4,
       h.5,
-      h.6,
     )

@@ -5,17 +5,16 @@ use Prim.Native.Nat.{ℕ}
 use native.Mathlib.Omega.{arith}
 use Rattle.scratch.specs.Stack.{halves_of}
 use Rattle.filing.specs.Filing.{mix_all, root_digest}
-use Rattle.placing.proofs.Placings.{within_is, found_is, application_filed}
+use Rattle.placing.proofs.Placings.{found_is, application_filed}
 use Rattle.placing.proofs.place_application.Goals as goal
 
-pub returns-then-is_some : goal.returns-then-is_some
-returns-then-is_some c =
-    found_is c.args.filed.now _ _ _ c.find_application-found.ensures c.if-is_some.ensures (within_is c.scratch.ensures c.counts.ensures)
+pub returns-in-Some : goal.returns-in-Some
+returns-in-Some c = found_is c.args.filed.now _ _ _ c.find_application.ensures c.in-Some.is c.keep.ensures
 
 pub add_listed_term-requires : goal.add_listed_term-requires
 add_listed_term-requires c =
     let a = c.args in
     let d = c.mixed_halves-d in
     let vs = halves_of true a.arguments.now in
-    let own : d.result ≡ mix_all (root_digest 2 a.symbol) vs = d.ensures.0 ∙ ap (λ (n : ℕ). mix_all n vs) c.root_digest.ensures.0 in
-    (omega arith, c.requires, omega arith, d.ensures.1, application_filed a.filed.now a.symbol vs d.result own)
+    let own : d.result ≡ mix_all (root_digest 2 a.symbol) vs = d.ensures ∙ ap (λ (n : ℕ). mix_all n vs) (rw (← c.number.ensures) c.root_digest-root.ensures) in
+    (c.requires, omega arith, application_filed a.filed.now a.symbol vs d.result own)

@@ -1,21 +1,27 @@
 -- `place_binder` meets its contract: by what the lookup found.
-use Rattle.std.proofs.Common.{rules}
+use native.Mathlib.Omega.{arith}
 use Rattle.bundle.specs.RecordWords.{TermFits}
-use Rattle.logic.proofs.KindTests.{binder_no_list}
-use Rattle.placing.proofs.Placings.{within_is, found_is, plain_is, plain_filed}
+use Rattle.logic.specs.Named.{binder_in}
+use Rattle.filing.proofs.FiledTerms.{binder_kind}
+use Rattle.placing.proofs.Placings.{found_is, plain_is, plain_filed}
 use Rattle.placing.proofs.place_binder.Goals as goal
 
-pub returns-then-is_some : goal.returns-then-is_some
-returns-then-is_some c q e =
-    found_is c.args.filed.now _ _ _ (c.find_binder-found.ensures q e) c.if-is_some.ensures (within_is c.scratch.ensures c.counts.ensures)
+pub returns-in-Some : goal.returns-in-Some
+returns-in-Some c =
+    let found = c.find_binder.ensures (binder_in c.args.q) c.number-kind.ensures in
+    found_is c.args.filed.now _ _ _ found c.in-Some.is c.keep.ensures
 
 pub add_term-requires : goal.add_term-requires
 add_term-requires c =
     let a = c.args in
+    let k = c.number-kind in
     let d = c.root_digest-d in
-    let none = binder_no_list a.kind c.requires.0 in
-    let fits : TermFits (record { kind = a.kind; first = a.y; second = a.body; third = 0 }) = search rules in
-    (fits, d.ensures.1, plain_filed a.filed.now a.kind a.y a.body d.result none.0 none.1 d.ensures.0)
+    let range = binder_kind (binder_in a.q) in
+    let fits : TermFits (record { kind = k.result; first = a.y; second = a.body; third = 0 }) =
+    record { kind = omega (arith, range.1, k.ensures); first = c.requires.0; second = c.requires.1; third = omega arith } in
+    (fits, plain_filed a.filed.now k.result a.y a.body d.result (λ e. omega (arith, range.0, k.ensures)) (λ e. omega (arith, range.1, k.ensures)) d.ensures)
 
 pub returns : goal.returns
-returns c q e = plain_is c.args.filed.now _ _ (c.find_binder-found.ensures q e) c.if-is_some.ensures (rw (← e) c.add_term.ensures)
+returns c =
+    let found = c.find_binder.ensures (binder_in c.args.q) c.number-kind.ensures in
+    plain_is c.args.filed.now _ _ found c.in_default.is (rw (← c.number-kind.ensures) c.add_term.ensures)

@@ -33,10 +33,10 @@ returns c step x =
     let a = c.args in
     let h = c.requires in
     let body = c.if-not-body.false in
-    let t = c.take-last in
+    let t = c.read_link-last in
     let r = c.followed-more in
     let rs = rw c.links-links.ensures.0 at r.ensures in
-    in_all a.read t.result.read 1
+    in_all a.read t.result.links 1
     (end_body a.bundle.now step x a.i a.j a.k c.if-i-j.false body r.result
     c.if-k-eq0.false h.2 (next_is a.bundle.now a.k t.ensures.1 rs))
     t.ensures.2

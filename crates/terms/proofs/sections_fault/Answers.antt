@@ -11,8 +11,8 @@ unfolding sections_fault
 returns-in_err-sections_fault c =
     let e = c.in_err-sections_fault in
     let p = err_from_is_err_and c.from_residual.result c.from_residual.ensures.1 in
-    rw (p.1, p.2) (sections_here _ _ _ e.ensures (number_some e.field-0.0.check))
+    rw (p.1, p.2) (sections_here _ _ _ (rw c.bundle.ensures at e.ensures) (number_some e.field-0.0.check))
 
 pub returns : goal.returns
 unfolding sections_fault
-returns c = c.terms_fault.ensures ∙ sections_on _ _ _ c.in_ok-sections_fault.ensures refl
+returns c = c.terms_fault.ensures ∙ sections_on _ _ _ (rw c.bundle.ensures at c.in_ok-sections_fault.ensures) refl

@@ -5,4 +5,4 @@ use Rattle.unions.proofs.is_known.Goals as goal
 
 pub returns : goal.returns
 unfolding known
-returns c = refl
+returns c marks e = rw e refl

@@ -5,4 +5,4 @@ use Rattle.unions.proofs.is_new.Goals as goal
 
 pub returns : goal.returns
 unfolding unmet
-returns c = refl
+returns c marks e = rw e refl

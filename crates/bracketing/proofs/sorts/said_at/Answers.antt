@@ -1,20 +1,16 @@
 -- `sorts::said_at` meets its contract.
-use mathlib.Core.Path.{sym, ◌∙◌}
-use Rattle.grammar.specs.Bytes.{bytes}
-use Rattle.bracketing.proofs.SortPlaces.{said_none, said_item, said_other}
+use mathlib.Core.Path.{◌∙◌, ap}
+use Rattle.grammar.specs.Bytes.{sort}
+use Rattle.grammar.specs.Grammar.{word}
+use Rattle.lexing.specs.Words.{word_in}
+use Rattle.bracketing.proofs.SortLaws.{said_other}
 use Rattle.bracketing.proofs.sorts.said_at.Goals as goal
 
-pub returns-then-l-ne8 : goal.returns-then-l-ne8
-returns-then-l-ne8 c = let k = c.next_lexeme-l in said_none _ _ k.result k.ensures c.if-l-ne8.true
+pub returns-in_err-sort : goal.returns-in_err-sort
+returns-in_err-sort c = rw c.from_residual.ensures (λ s. c.in_err-sort.ensures (sort s))
 
-pub returns-then-is_word : goal.returns-then-is_word
-unfolding bytes
-returns-then-is_word c =
-    let k = c.next_lexeme-l in
-    said_item _ _ k.result k.ensures c.if-l-ne8.false (sym c.is_word.ensures ∙ c.if-is_word.true)
+pub returns-in-Sort : goal.returns-in-Sort
+returns-in-Sort c = c.in_ok-sort.ensures ∙ ap (λ w. word (word_in w)) c.in-Sort.is
 
-pub returns : goal.returns
-unfolding bytes
-returns c =
-    let k = c.next_lexeme-l in
-    said_other _ _ k.result k.ensures c.if-l-ne8.false (sym c.is_word.ensures ∙ c.if-is_word.false)
+pub returns-in_default : goal.returns-in_default
+returns-in_default c = said_other c.in_ok-sort.ensures c.in_default.not-Sort

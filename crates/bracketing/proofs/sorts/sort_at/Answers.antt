@@ -1,46 +1,30 @@
--- `sorts::sort_at` meets its contract. The invariant: the sort is that of the formula here. The measure is what is left of the text.
-use native.Mathlib.Omega.{arith}
-use Prim.Native.Nat.{◌-◌}
-use mathlib.Core.Path.{refl}
-use Rattle.bracketing.proofs.Fronts.{lies}
-use Rattle.bracketing.proofs.SortPlaces.{sorting_word, sorting_result, sorting_let, sorting_further}
+-- `sorts::sort_at` meets its contract.
+use Rattle.bracketing.proofs.SortLaws.{sort_over, sort_alone, sort_stops, inside_over, inside_none, inside_result, inside_let}
 use Rattle.bracketing.proofs.sorts.sort_at.Goals as goal
 
-pub loop-l-init : goal.loop-l-init
-loop-l-init c = record { inside = c.requires; same = refl }
+pub returns-in_default : goal.returns-in_default
+returns-in_default c = sort_over c.loop-l.invariant c.in_default.ensures
 
-pub next_lexeme-l-requires : goal.next_lexeme-l-requires
-next_lexeme-l-requires c = c.loop-l.invariant.inside
+pub returns-in-Word : goal.returns-in-Word
+returns-in-Word c = sort_alone c.loop-l.invariant c.in-Some.ensures c.in-Word.is c.word_sort.ensures
 
-pub sort_here-requires : goal.sort_here-requires
-sort_here-requires c =
-    (lies _ _ c.next_lexeme-l.result c.next_lexeme-l.ensures)
+pub returns-in-Closes : goal.returns-in-Closes
+returns-in-Closes c = sort_stops c.loop-l.invariant c.in-Some.ensures c.in-Closes.is
 
-pub returns-then-l-ne0 : goal.returns-then-l-ne0
-returns-then-l-ne0 c =
-    sorting_word c.loop-l.invariant c.next_lexeme-l.ensures c.if-l-ne0.true c.sort_here.ensures
+pub returns-in_default-next_lexeme : goal.returns-in_default-next_lexeme
+returns-in_default-next_lexeme c =
+    inside_over c.loop-l.invariant c.in-Some.ensures c.in-Opens.is c.in_default-next_lexeme.ensures
 
-pub next_lexeme-h-requires : goal.next_lexeme-h-requires
-next_lexeme-h-requires c = c.next_lexeme-l.ensures.inside
+pub returns-in_default-lexeme : goal.returns-in_default-lexeme
+returns-in_default-lexeme c =
+    inside_none c.loop-l.invariant c.in-Some.ensures c.in-Opens.is c.in-Some-next_lexeme.ensures c.in_default-lexeme.not-Word
 
-pub result_here-requires : goal.result_here-requires
-result_here-requires c =
-    (lies _ _ c.next_lexeme-h.result c.next_lexeme-h.ensures)
-
-pub returns-then-h-ne7 : goal.returns-then-h-ne7
-returns-then-h-ne7 c =
-    sorting_result c.loop-l.invariant c.next_lexeme-l.ensures c.if-l-ne0.false c.next_lexeme-h.ensures c.if-h-ne7.true
-    c.result_here.ensures
-
-pub after_formula-at-requires : goal.after_formula-at-requires
-after_formula-at-requires c = c.next_lexeme-h.ensures.inside
-
-pub loop-l-smaller : goal.loop-l-smaller
-loop-l-smaller c =
-    let r = c.after_formula-at.ensures in
-    omega (arith, r.inside, sorting_further c.loop-l.invariant c.next_lexeme-l.ensures c.if-l-ne0.false c.next_lexeme-h.ensures r)
+pub returns-in_default-head : goal.returns-in_default-head
+returns-in_default-head c =
+    inside_result c.loop-l.invariant c.in-Some.ensures c.in-Opens.is c.in-Some-next_lexeme.ensures c.in-Word-lexeme.is
+    c.in_default-head.not-Let c.result_of.ensures
 
 pub loop-l-preserved : goal.loop-l-preserved
 loop-l-preserved c =
-    sorting_let c.loop-l.invariant c.next_lexeme-l.ensures c.if-l-ne0.false c.next_lexeme-h.ensures c.if-h-ne7.false
-    c.after_formula-at.ensures
+    inside_let c.loop-l.invariant c.in-Some.ensures c.in-Opens.is c.in-Some-next_lexeme.ensures c.in-Word-lexeme.is
+    c.in-Let.is c.after_formula-rest.ensures

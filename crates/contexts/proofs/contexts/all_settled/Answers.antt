@@ -2,20 +2,11 @@
 use native.Mathlib.Omega.{arith}
 use mathlib.Core.Path.{◌∙◌}
 use Rattle.bundle.specs.Lists.{each}
-use Rattle.images.proofs.ReadingRight.{free_long, settled_right}
+use Rattle.images.proofs.ReadingRight.{settled_right}
 use Rattle.contexts.proofs.contexts.all_settled.Goals as goal
 
-pub overflow_mul-n : goal.overflow_mul-n
-overflow_mul-n c = omega (arith, c.requires.1.long)
-
-pub overflow_mul-n-in-loop-t : goal.overflow_mul-n-in-loop-t
-overflow_mul-n-in-loop-t c = omega (arith, c.requires.1.long)
-
 pub is_settled-requires : goal.is_settled-requires
-is_settled-requires c =
-    let a = c.args in
-    let p = c.requires in
-    (free_long a.bundle.now a.area.now a.n p.0, omega (arith, p.1.long))
+is_settled-requires c = rw c.n.ensures (omega (arith, c.requires.1.long))
 
 pub returns-then-not-is_settled : goal.returns-then-not-is_settled
 unfolding each
@@ -25,8 +16,8 @@ returns-then-not-is_settled c =
     rw (
       c.loop-t.invariant,
       c.in-Some.ensures.steps,
-      ← (c.is_settled.ensures
-          ∙ settled_right a.bundle.now a.area.now a.n p.0 (λ j. omega (arith, c.type_inv.area j)) a.scopes.now a.context c.in-Some.t p.1),
+      ← settled_right a.sets.now p.0 (rw c.words-words.ensures.0 at c.words-words.ensures.2) a.scopes.now a.context c.in-Some.t p.1,
+      ← (rw c.n.ensures at c.is_settled.ensures),
       c.if-not-is_settled.true,
     )
 
@@ -38,8 +29,8 @@ loop-t-preserved c =
     rw (
       c.loop-t.invariant,
       c.in-Some.ensures.steps,
-      ← (c.is_settled.ensures
-          ∙ settled_right a.bundle.now a.area.now a.n p.0 (λ j. omega (arith, c.type_inv.area j)) a.scopes.now a.context c.in-Some.t p.1),
+      ← settled_right a.sets.now p.0 (rw c.words-words.ensures.0 at c.words-words.ensures.2) a.scopes.now a.context c.in-Some.t p.1,
+      ← (rw c.n.ensures at c.is_settled.ensures),
       c.if-not-is_settled.false,
     )
 

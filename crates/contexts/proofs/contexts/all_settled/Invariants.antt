@@ -7,4 +7,5 @@ use Rattle.contexts.proofs.contexts.all_settled.Given as goal
 
 abbrev pub invariant-loop-t : goal.invariant-loop-t
 invariant-loop-t l =
-    each (settled l.bundle l.context) (items l.bundle l.terms) ≡ each (settled l.bundle l.context) l.t-iterator
+    let b = l.sets.bundle in
+    each (settled b l.context) (items b l.terms) ≡ each (settled b l.context) l.t-iterator

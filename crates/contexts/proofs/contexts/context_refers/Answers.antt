@@ -1,28 +1,35 @@
 -- `context_refers` meets its contract: in each branch the kind is known, and the tests are those that `context_refers_as` lists for it.
+use mathlib.Core.Path.{ap, ◌∙◌}
+use Rattle.bundle.specs.Bundle.{Bundle, Context, context_of}
 use Rattle.logic.specs.Tests.{passed}
 use Rattle.logic.specs.Checks.{lists_agree}
 use Rattle.logic.specs.Contexts.{context_refers}
-use Rattle.logic.proofs.Entries.{entry_none}
 use Rattle.contexts.proofs.contexts.context_refers.Goals as goal
 
-pub returns-then-kind-eq-FIXES : goal.returns-then-kind-eq-FIXES
+pub returns-in-Some-Fixes : goal.returns-in-Some-Fixes
 unfolding context_refers
-returns-then-kind-eq-FIXES c =
+returns-in-Some-Fixes c =
     rw (
+      ← c.requires,
       ← c.context_field-kind.ensures,
-      c.if-kind-eq-FIXES.true,
+      c.of.ensures,
+      c.in-Some-Fixes.is,
+      c.in-Some-Fixes.field-0-is,
       ← c.context_field-first.ensures,
       ← c.context_field-second.ensures,
       ← c.context_field-parent.ensures,
       c.variables-variables.ensures.0,
     )
 
-pub returns-then-kind-eq-REPLACES : goal.returns-then-kind-eq-REPLACES
+pub returns-in-Some-Replaces : goal.returns-in-Some-Replaces
 unfolding context_refers lists_agree passed
-returns-then-kind-eq-REPLACES c =
+returns-in-Some-Replaces c =
     rw (
+      ← c.requires,
       ← c.context_field-kind.ensures,
-      c.if-kind-eq-REPLACES.true,
+      c.of.ensures,
+      c.in-Some-Replaces.is,
+      c.in-Some-Replaces.field-0-is,
       ← c.context_field-first.ensures,
       ← c.context_field-second.ensures,
       ← c.context_field-parent.ensures,
@@ -32,14 +39,15 @@ returns-then-kind-eq-REPLACES c =
       ← c.all_numbers-replaced.ensures,
       ← c.all_numbers-replacing.ensures,
       ← c.some_different-distinct.ensures,
-      ← c.variables_fit-fit.ensures,
+      ← (rw (← c.requires) at c.variables_fit-fit.ensures),
     )
 
-pub returns : goal.returns
+pub returns-in-None : goal.returns-in-None
 unfolding context_refers
-returns c =
+returns-in-None c =
     rw (
+      ← c.requires,
       ← c.context_field-kind.ensures,
-      entry_none c.context_field-kind.result
-          c.if-kind-eq-REPLACES.false c.if-kind-eq-FIXES.false,
+      c.of.ensures,
+      c.in-None.is,
     )

@@ -7,10 +7,14 @@ use Rattle.images.specs.ContextRows.{Images, Scopes}
 use Rattle.contexts.proofs.contexts.contexts_fault.Given as goal
 
 abbrev pub invariant-loop-i : goal.invariant-loop-i
-invariant-loop-i l = record {
-  rest : contexts_fault l.bundle ≡ rest_fault (context_fault l.bundle) (length l.bundle.contexts) l.i;
-  images_long : length l.images ≡ length l.initial.images;
-  scopes_long : length l.scopes ≡ length l.initial.scopes;
-  images : Images l.bundle l.images l.i;
-  scopes : Scopes l.bundle l.scopes l.n l.i;
-}
+invariant-loop-i l =
+    let b = l.sorted in
+    record {
+      rest : contexts_fault b ≡ rest_fault (context_fault b) (length b.contexts) l.i;
+      bundle : l.rows.bundle ≡ b;
+      n : l.rows.n ≡ l.sets.n;
+      images_long : length l.rows.images ≡ length l.initial.rows.images;
+      scopes_long : length l.rows.scopes ≡ length l.initial.rows.scopes;
+      images : Images b l.rows.images l.i;
+      scopes : Scopes b l.rows.scopes l.sets.n l.i;
+    }

@@ -4,4 +4,4 @@ use Rattle.crossings.proofs.records.application_meets.Goals as goal
 
 pub returns : goal.returns
 unfolding application_meets
-returns c = rw (c.term_field-symbol.ensures, c.term_field-kind.ensures, c.term_field-other.ensures)
+returns c = rw (c.number.ensures, c.term_field-symbol.ensures, c.term_field-kind.ensures, c.term_field-other.ensures)

@@ -14,7 +14,7 @@ pub invariant_of-self : goal.invariant_of-self
 invariant_of-self c =
     let a = c.args in
     let b = c.self.inside.scratch in
-    let digested = subst (λ (x : Bundle). Digested x (as_term a.term) a.d) (sym c.self.view_is) c.requires.3 in
+    let digested = subst (λ (x : Bundle). Digested x (as_term a.term) a.d) (sym c.self.view_is) c.requires.2 in
     let room : length b.terms < limits.terms = rw c.self.view_is c.requires.0 in
     let next : c.terms-t.result + 1 ≡ suc (length b.terms) = omega (arith, c.terms-t.ensures) in
-    term_indexed (as_term a.term) c.self.invariant digested c.requires.2 room next c.append_term.ensures c.file_term.ensures
+    term_indexed (as_term a.term) c.self.invariant digested room next c.append_term.ensures c.file_term.ensures

@@ -12,4 +12,4 @@ returns c =
     let a = c.args in
     let ts = halves_of true a.arguments.now in
     c.lowest.ensures (same_application a.self.now a.symbol ts) (λ t r small post. search rules)
-    (λ r e. application_digest a.self.now a.symbol ts r e ∙ sym c.requires.1)
+    (λ r e. application_digest a.self.now a.symbol ts r e ∙ sym c.requires)

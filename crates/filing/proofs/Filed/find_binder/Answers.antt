@@ -11,4 +11,4 @@ pub returns : goal.returns
 returns c q k =
     let a = c.args in
     c.lowest.ensures (same_binder q a.y a.body) (λ t r small post. search rules)
-    (λ r e. binder_digest a.self.now q a.y a.body r e ∙ ap (λ (n : ℕ). root_digest n a.y) (sym k) ∙ sym c.requires.1)
+    (λ r e. binder_digest a.self.now q a.y a.body r e ∙ ap (λ (n : ℕ). root_digest n a.y) (sym k) ∙ sym c.requires)

@@ -13,4 +13,4 @@ returns c =
     let vs = halves_of false a.pairs.now in
     let ts = halves_of true a.pairs.now in
     c.lowest.ensures (same_let a.self.now vs ts a.body) (λ t r small post. search rules)
-    (λ r e. let_digest_lem a.self.now vs ts a.body r e ∙ sym c.requires.1)
+    (λ r e. let_digest_lem a.self.now vs ts a.body r e ∙ sym c.requires)

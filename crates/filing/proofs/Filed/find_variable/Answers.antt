@@ -9,4 +9,4 @@ pub returns : goal.returns
 returns c =
     let a = c.args in
     c.lowest.ensures (same_variable a.y) (λ t r small post. search rules)
-    (λ r e. variable_digest a.self.now a.y r e ∙ sym c.requires.1)
+    (λ r e. variable_digest a.self.now a.y r e ∙ sym c.requires)

@@ -3,6 +3,8 @@ use native.Mathlib.Omega.{arith}
 use mathlib.Core.Path.{◌≡◌, refl, ap, ◌∙◌}
 use lib.ListN.{length}
 use Rattle.bundle.specs.Bundle.{Bundle, term_of}
+use Prim.Native.Nat.{◌<◌}
+use Rattle.bundle.specs.Filed.{digests}
 use Rattle.bundle.proofs.Filed.{sought_start, sought_less, sought_hit, sought_miss}
 use Rattle.filing.specs.Filing.{found}
 use Rattle.filing.proofs.FiledTerms.{held_own, found_some, sought_end}
@@ -12,9 +14,10 @@ use Rattle.filing.proofs.Filed.lowest.Goals.{then-same, else-same}
 pub loop-t-init : goal.loop-t-init
 loop-t-init g c =
     let a = c.args in
-    let filed = held_own c.self.view_is c.self.invariant in (
-      omega (arith, filed.low a.d c.requires.0, c.terms.ensures, ap (λ (b : Bundle). length b.terms) c.self.view_is),
-      λ p same own. (0, refl, sought_start filed (λ j. p (term_of a.self.now j)) a.d c.requires.0 (λ j t. own (term_of a.self.now j) t) c.from-t.ensures),
+    let filed = held_own c.self.view_is c.self.invariant in
+    let small : a.d < digests = omega (arith, c.place.ensures) in (
+      omega (arith, filed.low a.d small, rw c.place.ensures.0 at c.from-t.ensures, c.terms.ensures, ap (λ (b : Bundle). length b.terms) c.self.view_is),
+      λ p same own. (0, refl, sought_start filed (λ j. p (term_of a.self.now j)) a.d small (λ j t. own (term_of a.self.now j) t) (rw c.place.ensures.0 at c.from-t.ensures)),
     )
 
 pub loop-t-smaller : goal.loop-t-smaller

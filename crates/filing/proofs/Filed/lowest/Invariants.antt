@@ -11,7 +11,7 @@ abbrev pub invariant-loop-t : goal.invariant-loop-t
 invariant-loop-t g l =
     (l.t ≤ limits.terms)
     × ((p : TermRecord → Bool) → ((t : ℕ) (r : Bool) → t ≤ limits.terms → goal.F-post g l.same t r → r ≡ p (term_of l.self t))
-    → ((r : TermRecord) → p r ≡ true → lookup_digest l.self r ≡ l.d)
+    → ((r : TermRecord) → p r ≡ true → lookup_digest l.self r ≡ l.fn.d)
     → (m : ℕ) × (l.lowest ≡ found m) × SoughtTerm l.self l.self-inside.index p l.t m)
 
 abbrev pub decreases-loop-t : goal.decreases-loop-t

@@ -7,14 +7,12 @@ pub loop-pair-preserved : goal.loop-pair-preserved
 unfolding mix_all
 loop-pair-preserved c =
     let a = c.args in
-    let l = c.loop-pair in (
-      c.mixed-sum.ensures.1,
-      rw (
-        l.invariant.1,
-        rest_more a.upper a.pairs.now l.pair-index c.loop-pair-test.true,
-        ← c.half.ensures.0,
-        c.mixed-sum.ensures.0,
-      ),
+    let l = c.loop-pair in
+    rw (
+      l.invariant,
+      rest_more a.upper a.pairs.now l.pair-index c.loop-pair-test.true,
+      ← c.half.ensures.0,
+      c.mixed-sum.ensures,
     )
 
 pub returns : goal.returns
@@ -22,4 +20,4 @@ unfolding mix_all
 returns c =
     let a = c.args in
     let l = c.loop-pair in
-    (rw (l.invariant.1, rest_none a.upper a.pairs.now l.pair-index c.loop-pair-test.false), l.invariant.0)
+    rw (l.invariant, rest_none a.upper a.pairs.now l.pair-index c.loop-pair-test.false)

@@ -3,16 +3,16 @@ use borrow.Author.Tests.{eq-eqb, ne_eqb}
 use Rattle.logic.specs.Lookup.{same_application}
 use Rattle.filing.proofs.lookups.is_application.Goals as goal
 
-pub returns-then-term-ne-APPLICATION : goal.returns-then-term-ne-APPLICATION
+pub returns-then-term-number : goal.returns-then-term-number
 unfolding same_application
-returns-then-term-ne-APPLICATION c = rw (← c.term_words-term.ensures.0, ne_eqb _ _ c.if-term-ne-APPLICATION.true)
+returns-then-term-number c = rw (← c.term_words-term.ensures.0, ← c.number.ensures, ne_eqb _ _ c.if-term-number.true)
 
 pub returns-then-term-symbol : goal.returns-then-term-symbol
 unfolding same_application
 returns-then-term-symbol c =
-    rw (← c.term_words-term.ensures.0, c.if-term-ne-APPLICATION.false, ne_eqb _ _ c.if-term-symbol.true)
+    rw (← c.term_words-term.ensures.0, c.if-term-number.false, c.number.ensures, ne_eqb _ _ c.if-term-symbol.true)
 
 pub returns : goal.returns
 unfolding same_application
 returns c =
-    rw (← c.term_words-term.ensures.0, c.if-term-ne-APPLICATION.false, eq-eqb _ _ c.if-term-symbol.false) c.same_halves.ensures
+    rw (← c.term_words-term.ensures.0, c.if-term-number.false, c.number.ensures, eq-eqb _ _ c.if-term-symbol.false) c.same_halves.ensures

@@ -4,4 +4,4 @@ use Rattle.filing.proofs.lookups.is_variable.Goals as goal
 
 pub returns : goal.returns
 unfolding same_variable
-returns c = rw (← c.term_words-term.ensures.0)
+returns c = rw (← c.term_words-term.ensures.0, c.number.ensures)

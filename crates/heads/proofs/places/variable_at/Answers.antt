@@ -1,16 +1,16 @@
 -- `places::variable_at` meets its contract: by its first lexeme.
-use mathlib.Core.Bool.{true, false}
+use mathlib.Core.Path.{refl, ap}
+use Rattle.lexing.specs.Words.{lexeme_in}
 use Rattle.heads.proofs.LexemeLaws as L
 use Rattle.heads.proofs.places.variable_at.Goals as goal
 
-pub returns-then-first-ne0 : goal.returns-then-first-ne0
-returns-then-first-ne0 c =
-    L.variable_ends c.args.variables c.next_lexeme-first.ensures c.if-first-ne0.true
+pub returns-in_default : goal.returns-in_default
+returns-in_default c = L.variable_over c.args.variables c.in_default.ensures refl refl
+
+pub returns-in_default-lexeme : goal.returns-in_default-lexeme
+returns-in_default-lexeme c =
+    L.variable_ends c.args.variables c.in-Some.ensures (L.other_than_opens _ c.in_default-lexeme.not-Opens) refl refl
 
 pub returns : goal.returns
 returns c =
-    L.variable_goes c.args.variables
-    c.next_lexeme-first.ensures
-    c.requires.1 c.if-first-ne0.false
-    c.next_lexeme-called.ensures c.next_lexeme-sorted.ensures c.next_lexeme-closed.ensures
-    c.variable_called-variable.ensures
+    L.variable_goes c.args.variables c.in-Some.ensures (ap lexeme_in c.in-Opens.is) c.named_at-named.ensures c.past.ensures c.past-2.ensures refl

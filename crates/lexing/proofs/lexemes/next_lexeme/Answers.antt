@@ -1,32 +1,29 @@
 -- `lexemes::next_lexeme` meets its contract: an answer for each class of byte.
 use native.Mathlib.Omega.{arith}
+use mathlib.Core.Path.{◌≡◌, refl, sym, ap, ◌∙◌}
+use mathlib.Core.List.{◌∷◌}
+use lib.ListN.{drop}
+use borrow.Author.Tests.{ne_eqb}
+use Rattle.lexing.specs.Words.{lexeme_in}
+use Rattle.lexing.specs.Lexes.{lexemes_of}
 use Rattle.lexing.proofs.LexemeLaws as X
+use Rattle.lexing.proofs.lexemes.next_lexeme.Goals.{then-class-eq3, else-class-eq3+then-class-eq4, else-class-eq3+else-class-eq4}
 use Rattle.lexing.proofs.lexemes.next_lexeme.Goals as goal
 
-pub returns-then-start-text : goal.returns-then-start-text
-returns-then-start-text c =
-    let a = c.args in
-    X.lexes_end a.text.now a.i c.skipped-start.result c.skipped-start.ensures c.if-start-text.true
-
-pub returns-then-class-eq6 : goal.returns-then-class-eq6
-returns-then-class-eq6 c =
-    let a = c.args in
-    X.lexes_run a.text.now a.i c.skipped-start.result c.skipped-start.ensures c.run_end-end.result c.word_code-code.result
-    c.run_end-end.ensures c.word_code-code.ensures
-
-pub returns-then-class-gt4 : goal.returns-then-class-gt4
-returns-then-class-gt4 c =
-    let a = c.args in
-    X.lexes_stray a.text.now a.i c.skipped-start.result c.skipped-start.ensures c.if-start-text.false c.class_code-class.result
-    c.class_code-class.ensures c.if-class-gt4.true c.if-class-eq6.false
-
-pub overflow_sub-code : goal.overflow_sub-code
-overflow_sub-code c =
-    let h = c.skipped-start.ensures.starts c.if-start-text.false in
-    omega (arith, h, c.class_code-class.ensures)
+pub returns-then-start-eq0 : goal.returns-then-start-eq0
+returns-then-start-eq0 c = X.over c.args.text.now c.skipped-start.result.now c.skipped-start.ensures c.if-start-eq0.true
 
 pub returns : goal.returns
 returns c =
-    let a = c.args in
-    X.lexes_bracket a.text.now a.i c.skipped-start.result c.skipped-start.ensures c.if-start-text.false c.class_code-class.result
-    c.class_code-class.ensures c.if-class-gt4.false
+    let k = c.class_code-class.result in
+    let is : lexeme_in c.if-class-eq3.lexeme ≡ X.one_lexeme k =
+    elim c.if-class-eq3.branch [
+      | then-class-eq3 w ↦ rw (w.lexeme-is, w.if-class-eq3.true)
+      | else-class-eq3+then-class-eq4 w ↦ rw (w.lexeme-is, w.if-class-eq4.true)
+      | else-class-eq3+else-class-eq4 w ↦ rw (w.lexeme-is, ne_eqb k 3 w.if-class-eq3.false, ne_eqb k 4 w.if-class-eq4.false)
+    ] in
+    let t = c.args.text.now in
+    let r = c.skipped-start.result.now in
+    let h = c.skipped-start.ensures in
+    let one = X.found_one t r h (omega arith) k c.class_code-class.ensures c.if-class-eq6.false in
+    X.found t r h _ 1 (omega arith) (omega arith) refl (one ∙ ap (λ l. l ∷ lexemes_of (drop 1 r)) (sym is))

@@ -1,4 +1,4 @@
--- `lexemes::run_end` meets its contract. The invariant: the bytes from the start up to j are in the run.
+-- `lexemes::run_end` meets its contract. The invariant: the bytes up to j are in the run.
 use native.Mathlib.Omega.{arith}
 use mathlib.Core.Path.{◌≡◌}
 use lib.ListN.{length}
@@ -6,28 +6,28 @@ use Rattle.lexing.proofs.SkipLaws.{run_start, run_on, run_low, run_other, run_pa
 use Rattle.lexing.proofs.lexemes.run_end.Goals as goal
 
 pub loop-j-init : goal.loop-j-init
-loop-j-init c = let a = c.args in run_start a.text.now a.start c.requires.0 c.requires.1
+loop-j-init c = let a = c.args in run_start a.text.now c.requires.0 c.requires.1
 
 pub returns-then-class-lt5 : goal.returns-then-class-lt5
 returns-then-class-lt5 c =
     let a = c.args in
-    run_low a.text.now a.start c.loop-j.j c.loop-j.invariant (omega arith) c.class_code-class.result
+    run_low a.text.now c.loop-j.j c.loop-j.invariant (omega arith) c.class_code-class.result
     c.class_code-class.ensures c.if-class-lt5.true
 
 pub returns-then-class-eq7 : goal.returns-then-class-eq7
 returns-then-class-eq7 c =
     let a = c.args in
-    run_other a.text.now a.start c.loop-j.j c.loop-j.invariant (omega arith) c.class_code-class.result
+    run_other a.text.now c.loop-j.j c.loop-j.invariant (omega arith) c.class_code-class.result
     c.class_code-class.ensures c.if-class-eq7.true
 
 pub loop-j-preserved : goal.loop-j-preserved
 loop-j-preserved c =
     let a = c.args in
-    run_on a.text.now a.start c.loop-j.j c.loop-j.invariant (omega arith) c.class_code-class.result
+    run_on a.text.now c.loop-j.j c.loop-j.invariant (omega arith) c.class_code-class.result
     c.class_code-class.ensures c.if-class-lt5.false c.if-class-eq7.false
 
 pub returns : goal.returns
 returns c =
     let a = c.args in
     let past : c.loop-j.j ≡ length a.text.now = omega arith in
-    rw past at (run_past a.text.now a.start c.loop-j.j c.loop-j.invariant (omega arith))
+    rw past at (run_past a.text.now c.loop-j.j c.loop-j.invariant (omega arith))

@@ -1,7 +1,11 @@
--- `kinds::is_binder` meets its contract: a binder's number is one of those that are tested.
-use mathlib.Core.Path.{sym}
-use Rattle.logic.proofs.TermKinds.{is_binder_numbers}
+-- `kinds::is_binder` meets its contract: it is said of the kind that the number stands for.
+use Rattle.logic.specs.Terms.{is_binder}
 use Rattle.logic.proofs.kinds.is_binder.Goals as goal
 
-pub returns : goal.returns
-returns c = sym (is_binder_numbers c.args.kind)
+pub returns-in-Some : goal.returns-in-Some
+unfolding is_binder
+returns-in-Some c = rw (c.binds.ensures, c.of.ensures, c.in-Some.is)
+
+pub returns-in-None : goal.returns-in-None
+unfolding is_binder
+returns-in-None c = rw (c.of.ensures, c.in-None.is)

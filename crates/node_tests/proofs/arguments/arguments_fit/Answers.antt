@@ -1,10 +1,6 @@
--- `arguments::arguments_fit` meets its contract. The invariant: all fit where those that are left do.
-use mathlib.Core.Path.{◌∙◌, refl}
+-- `arguments::arguments_fit` meets its contract.
 use Rattle.node_tests.proofs.ArgumentLaws.{fits_end, fits_fails, fits_on}
 use Rattle.node_tests.proofs.arguments.arguments_fit.Goals as goal
-
-pub loop-sort-init : goal.loop-sort-init
-loop-sort-init c = record { inside = c.requires; same = rw (c.into_iter-sort-iterator.ensures.into_iter_gives, c.items-sort-items.ensures) }
 
 pub returns-then-here-sort : goal.returns-then-here-sort
 returns-then-here-sort c =
@@ -13,7 +9,7 @@ returns-then-here-sort c =
 pub loop-sort-preserved : goal.loop-sort-preserved
 loop-sort-preserved c =
     fits_on c.loop-sort.invariant c.part_at-here.ensures c.in-Some.ensures.steps c.sort_at-s.ensures c.if-here-sort.false
-    c.after_formula-at.ensures
+    c.after_formula-rest.ensures
 
 pub returns : goal.returns
 returns c = fits_end c.loop-sort.invariant c.part_at.ensures c.in-None.ensures.steps.0

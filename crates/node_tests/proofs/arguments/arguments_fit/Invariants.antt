@@ -3,4 +3,4 @@ use Rattle.node_tests.proofs.ArgumentLaws.{Fits}
 use Rattle.node_tests.proofs.arguments.arguments_fit.Given as goal
 
 abbrev pub invariant-loop-sort : goal.invariant-loop-sort
-invariant-loop-sort l = Fits l.bundle l.text l.i l.list l.sort-iterator l.at
+invariant-loop-sort l = Fits l.bundle l.text l.list l.sort-iterator l.rest

@@ -1,24 +1,20 @@
 -- `heads::bound_at` meets its contract.
 use native.Mathlib.Omega.{arith}
-use Rattle.node_tests.proofs.HeadLaws.{bound_fits, bound_differs}
+use mathlib.Core.Path.{sym}
+use Rattle.node_tests.proofs.HeadLaws.{bound_fits, bound_differs, bound_missing}
 use Rattle.node_tests.proofs.heads.bound_at.Goals as goal
 
-pub returns-then-variable_sort-s : goal.returns-then-variable_sort-s
-returns-then-variable_sort-s c =
-    let a = c.args in
-    let x = c.variable_at-x in
-    let j = c.after_name-j in
-    let s = c.sort_at-s in
-    let u = c.variable_sort in
-    (bound_fits a.bundle.now _ x.result x.ensures.0 u.result u.ensures _ s.result j.ensures.there s.ensures c.if-variable_sort-s.true, x.ensures.1)
+pub returns-in_err-x-clause-bound : goal.returns-in_err-x-clause-bound
+returns-in_err-x-clause-bound c = rw c.from_residual.ensures (bound_missing c.args.bundle.now _ c.in_err-x.ensures.called)
 
-pub returns-else-variable_sort-s : goal.returns-else-variable_sort-s
-returns-else-variable_sort-s c =
-    let a = c.args in
-    let x = c.variable_at-x in
-    let j = c.after_name-j in
-    let s = c.sort_at-s in
-    let u = c.variable_sort in (
-      bound_differs a.bundle.now _ x.result x.ensures.0 u.result u.ensures _ s.result j.ensures.there s.ensures c.if-variable_sort-s.false,
-      omega arith,
-    )
+pub returns-then-variable_sort-sort-clause-bound : goal.returns-then-variable_sort-sort-clause-bound
+returns-then-variable_sort-sort-clause-bound c =
+    let x = c.in_ok-x.ensures.called in
+    let e =
+    bound_fits c.args.bundle.now c.after_name.ensures x.0 c.variable_sort.ensures c.sort_at-sort.ensures c.if-variable_sort-sort.true in
+    (sym e, omega (arith, e, x.0, x.1))
+
+pub returns-else-variable_sort-sort-clause-bound : goal.returns-else-variable_sort-sort-clause-bound
+returns-else-variable_sort-sort-clause-bound c =
+    bound_differs c.args.bundle.now c.after_name.ensures c.in_ok-x.ensures.called.0 c.variable_sort.ensures c.sort_at-sort.ensures
+    c.if-variable_sort-sort.false

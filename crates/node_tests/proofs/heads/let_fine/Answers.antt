@@ -3,7 +3,4 @@ use Rattle.node_tests.proofs.HeadLaws.{fresh_start}
 use Rattle.node_tests.proofs.heads.let_fine.Goals as goal
 
 pub returns : goal.returns
-returns c =
-    let a = c.args in
-    let j = c.after_lexeme-inside in
-    fresh_start a.bundle.now a.text.now j.result _ c.all_fresh.ensures _ j.ensures.there
+returns c = fresh_start c.args.bundle.now c.after_lexeme.ensures c.all_fresh.ensures

@@ -1,142 +1,164 @@
 -- `turns::next` meets its contract.
-use native.Mathlib.Omega.{arith}
-use mathlib.Core.Path.{sym, ◌∙◌}
+use mathlib.Core.Path.{◌≡◌, ap, ◌∙◌}
+use mathlib.Core.Bool.{false, cond}
+use mathlib.Core.List.{[], ◌∷◌}
 use mathlib.Core.Logic.{inl, inr}
-use Prim.Native.Nat.{◌-◌}
-use lib.ListN.{length}
-use Rattle.pair_walk.specs.Agenda.{frames, crossed_by}
-use Rattle.pair_walk.proofs.FrameWords.{crossing_few}
-use Rattle.pair_walk.proofs.ByKind.{body_flag}
+use Rattle.bundle.specs.Bundle.{term_of}
+use Rattle.bundle.specs.Links.{items, next_of}
+use Rattle.logic.specs.Terms.{kind_of}
+use Rattle.logic.specs.Named.{kind_in}
+use Rattle.pair_walk.specs.Agenda.{crossed_by, rest, advanced, closes, leaves, has_body}
 use Rattle.pair_walk.proofs.Finishing.{finish_none}
-use Rattle.pair_walk.proofs.Turning.{one_none, both_none, leave_known, leave_fits, leave_before, leave_after, leave_on}
-use Rattle.pair_walk.proofs.Turning.{pending_known, take_turn, short_turn, closed_after, closed_on, bodies_known, bodies_turn}
+use Rattle.pair_walk.proofs.Turning.{one_none, both_none, kind_at, going_below, going_turn, going_end, leave_top, leave_known, leave_sound, leave_on}
+use Rattle.pair_walk.proofs.Turning.{pending_is, pending_known, below_sound, take_turn, short_turn, closed_on, binder_met, binder_room, binder_turn, let_met, let_room, let_turn}
 use Rattle.pair_walk.proofs.turns.next.Goals as goal
-use Rattle.pair_walk.proofs.turns.next.Goals.{then-i-ne0+else-j-ne0, else-i-ne0}
+use Rattle.pair_walk.proofs.turns.next.Goals.{then-top-ne0+else-top-ne0-2, else-top-ne0}
 
 -- ---- variables are left
 
 pub uncross-requires : goal.uncross-requires
 uncross-requires c =
-    let l = c.loop-height in
-    let known = leave_known l.invariant.0 c.loop-height-test.true c.from-l.ensures c.from-r.ensures c.from-i.ensures c.from-j.ensures
-    c.if-l-eq0.true c.from-p.ensures in
-    let before = leave_before l.invariant.0 c.loop-height-test.true c.from-l.ensures c.from-r.ensures c.from-i.ensures c.from-j.ensures
-    c.if-l-eq0.true c.from-p.ensures in
-    let fits = leave_fits l.invariant.0 c.loop-height-test.true c.from-l.ensures c.from-r.ensures c.from-i.ensures c.from-j.ensures
-    c.if-l-eq0.true c.from-p.ensures in (
-      before.0.long,
-      before.0.words,
-      known.left_known.0,
-      known.left_known.1,
-      known.right_known.0,
-      known.right_known.1,
-      c.requires.3,
-      omega (arith, fits.0, l.invariant.1, c.requires.1, c.requires.2),
-      omega (arith, fits.1, l.invariant.1, c.requires.1, c.requires.2),
+    let p = c.loop-top.path in
+    let t = c.in-Some.top in
+    let s = c.loop-top.invariant.sound in (
+      rest p.frames,
+      leave_top p c.args.left t.l t.r t.i t.j t.e (rest p.frames) c.in-Some.ensures s c.if-l-eq0.true,
+      leave_known p c.args.left t.l t.r t.i t.j t.e (rest p.frames) c.in-Some.ensures s c.if-l-eq0.true,
     )
 
-pub overflow_sub-deep : goal.overflow_sub-deep
-overflow_sub-deep c =
-    let before = leave_before c.loop-height.invariant.0 c.loop-height-test.true c.from-l.ensures c.from-r.ensures c.from-i.ensures c.from-j.ensures
-    c.if-l-eq0.true c.from-p.ensures in
-    omega (arith, before.1)
-
-pub loop-height-preserved-then-l-eq0 : goal.loop-height-preserved-then-l-eq0
-loop-height-preserved-then-l-eq0 c =
-    let l = c.loop-height in
-    let u = c.uncross in
-    let known = leave_known l.invariant.0 c.loop-height-test.true c.from-l.ensures c.from-r.ensures c.from-i.ensures c.from-j.ensures
-    c.if-l-eq0.true c.from-p.ensures in
-    let before = leave_before l.invariant.0 c.loop-height-test.true c.from-l.ensures c.from-r.ensures c.from-i.ensures c.from-j.ensures
-    c.if-l-eq0.true c.from-p.ensures in (
-      leave_after l.invariant.0 c.loop-height-test.true c.from-l.ensures c.from-r.ensures c.from-i.ensures c.from-j.ensures
-          c.if-l-eq0.true c.from-p.ensures u.new.places u.new.bound
-          (u.ensures.2 (crossed_by (frames l.agenda (l.height - 1))) known.left_place known.right_place before.0),
-      omega (arith, l.invariant.1),
-      l.invariant.2,
-      u.ensures.0 ∙ l.invariant.3,
-      u.ensures.1 ∙ l.invariant.4,
-      λ free image.
-          leave_on l.invariant.0 c.loop-height-test.true c.from-l.ensures c.from-r.ensures c.from-i.ensures c.from-j.ensures
-          c.if-l-eq0.true c.from-p.ensures free image
-          ∙ l.invariant.5 free image,
-    )
+pub loop-top-preserved-then-l-eq0 : goal.loop-top-preserved-then-l-eq0
+loop-top-preserved-then-l-eq0 c =
+    let p = c.loop-top.path in
+    let t = c.in-Some.top in
+    let s = c.loop-top.invariant.sound in
+    (going_below c.loop-top.invariant (leave_sound p c.args.left t.l t.r t.i t.j t.e (rest p.frames) c.in-Some.ensures s c.if-l-eq0.true)
+    (leave_on p c.args.left t.l t.r t.i t.j t.e (rest p.frames) c.in-Some.ensures s c.if-l-eq0.true) c.uncross.ensures).0
 
 -- ---- the lists of a pair go on, or one is shorter
 
 pub take-requires : goal.take-requires
 take-requires c =
-    let l = c.loop-height in
-    let known = pending_known l.invariant.0 c.loop-height-test.true c.from-l.ensures c.from-r.ensures c.from-i.ensures c.from-j.ensures
-    c.if-l-eq0.false in (
-      omega (arith, l.invariant.0.long, l.invariant.1, c.requires.1, c.requires.2, c.loop-height-test.true),
-      (c.if-i-ne0.true, known.left_link),
-      (c.if-j-ne0.true, known.right_link),
+    let p = c.loop-top.path in
+    let t = c.in-Some.top in
+    let s = c.loop-top.invariant.sound in
+    let known = pending_known p c.args.left t.l t.r t.i t.j t.e (rest p.frames) c.in-Some.ensures s c.if-l-eq0.false in (
+      pending_is p c.args.left t.l t.r t.i t.j t.e (rest p.frames) c.in-Some.ensures s c.if-l-eq0.false,
+      (c.if-top-ne0.true, known.left_link),
+      (c.if-top-ne0-2.true, known.right_link),
     )
 
-pub returns-then-j-ne0 : goal.returns-then-j-ne0
-returns-then-j-ne0 c = λ free image.
-    let l = c.loop-height in
-    let t = c.take in
-    rw (← l.invariant.5 free image)
-    (take_turn l.invariant.0 c.loop-height-test.true c.from-l.ensures c.from-r.ensures c.from-i.ensures c.from-j.ensures c.if-l-eq0.false
-    t.new.agenda t.result (c.if-i-ne0.true, c.if-j-ne0.true) t.ensures.0 t.ensures.1 t.ensures.2 (omega (arith, l.invariant.1, c.requires.1))
-    free image)
+pub returns-then-top-ne0-2 : goal.returns-then-top-ne0-2
+returns-then-top-ne0-2 c =
+    let p = c.loop-top.path in
+    let t = c.in-Some.top in
+    let s = c.loop-top.invariant.sound in
+    let b = p.sets.bundle in
+    going_turn c.loop-top.invariant
+    (cond (closes (term_of b t.l).kind (next_of b.links t.i) (next_of b.links t.j)) (rest p.frames) (advanced (next_of b.links t.i) (next_of b.links t.j) p.frames))
+    c.take.result c.take.ensures.1
+    (take_turn p c.args.left t.l t.r t.i t.j t.e (rest p.frames) c.in-Some.ensures s c.if-l-eq0.false c.take.result
+    (c.if-top-ne0.true, c.if-top-ne0-2.true) c.take.ensures.0 c.loop-top.invariant.room)
 
-pub returns-then-i-j : goal.returns-then-i-j
-returns-then-i-j c = λ free image.
-    let l = c.loop-height in
-    sym (l.invariant.5 free image)
-    ∙ short_turn l.invariant.0 c.loop-height-test.true c.from-l.ensures c.from-r.ensures c.from-i.ensures c.from-j.ensures c.if-l-eq0.false
-    (one_none c.from-i.result c.from-j.result
-    (elim c.if-i-ne0.branch [ then-i-ne0+else-j-ne0 w ↦ inl (w.if-i-ne0.true, w.if-j-ne0.false) | else-i-ne0 w ↦ inr w.if-i-ne0.false ])
-    c.if-i-j.true)
-    free image
+pub returns-then-top : goal.returns-then-top
+returns-then-top c =
+    let p = c.loop-top.path in
+    let t = c.in-Some.top in
+    let s = c.loop-top.invariant.sound in
+    going_end c.loop-top.invariant
+    (short_turn p c.args.left t.l t.r t.i t.j t.e (rest p.frames) c.in-Some.ensures s c.if-l-eq0.false
+    (one_none t.i t.j
+    (elim c.if-top-ne0.branch [ then-top-ne0+else-top-ne0-2 w ↦ inl (w.if-top-ne0.true, w.if-top-ne0-2.false) | else-top-ne0 w ↦ inr w.if-top-ne0.false ])
+    c.if-top.true))
 
 -- ---- both lists have ended
 
-pub into_bodies-requires : goal.into_bodies-requires
-into_bodies-requires c =
-    let l = c.loop-height in
-    let known = bodies_known l.invariant.0 c.loop-height-test.true c.from-l.ensures c.from-r.ensures c.from-i.ensures c.from-j.ensures
-    c.if-l-eq0.false (both_none c.from-i.result c.from-j.result c.if-i-j.false) c.term_field-kind.ensures in
-    let few = crossing_few (length c.args.bundle.now.variables) c.args.n l.agenda l.places l.bound (l.height - 1) l.deep known.0 in (
-      known.0,
-      body_flag c.term_field-kind.result c.is_binder.ensures ∙ c.if-is_binder-kind.true,
-      known.1,
-      omega (arith, known.2, l.invariant.0.long),
-      c.requires.3,
-      omega (arith, known.2, few, c.requires.2),
-      omega (arith, known.2, c.requires.2),
+pub pop-requires : goal.pop-requires
+pop-requires c =
+    let p = c.loop-top.path in
+    let t = c.in-Some.top in
+    let s = c.loop-top.invariant.sound in
+    pending_is p c.args.left t.l t.r t.i t.j t.e (rest p.frames) c.in-Some.ensures s c.if-l-eq0.false
+
+pub into_body-requires : goal.into_body-requires
+into_body-requires c =
+    let p = c.loop-top.path in
+    let t = c.in-Some.top in
+    let s = c.loop-top.invariant.sound in
+    let kind = kind_at p t.l c.pop.ensures c.bundle.ensures c.term_field.ensures (c.in-Some-Binder.ensures ∙ ap kind_in c.in-Some-Binder.field-0-is) in
+    let ended = both_none t.i t.j c.if-top.false in
+    rw c.pop.ensures (
+      binder_room p c.args.left t.l t.r t.i t.j t.e (rest p.frames) c.in-Some.ensures s c.if-l-eq0.false ended kind,
+      binder_met p c.args.left t.l t.r t.i t.j t.e (rest p.frames) c.in-Some.ensures s c.if-l-eq0.false ended kind,
     )
 
-pub returns-then-is_binder-kind : goal.returns-then-is_binder-kind
-returns-then-is_binder-kind c = λ free image.
-    let l = c.loop-height in
-    let t = c.into_bodies in
-    rw (← l.invariant.5 free image)
-    (bodies_turn l.invariant.0 c.loop-height-test.true c.from-l.ensures c.from-r.ensures c.from-i.ensures c.from-j.ensures c.if-l-eq0.false
-    (both_none c.from-i.result c.from-j.result c.if-i-j.false) c.term_field-kind.ensures t.new.agenda t.new.places t.new.bound t.result
-    (body_flag c.term_field-kind.result c.is_binder.ensures ∙ c.if-is_binder-kind.true) t.ensures.0 t.ensures.1 t.ensures.2 t.ensures.3 free image)
+pub returns-in-Some-Binder : goal.returns-in-Some-Binder
+returns-in-Some-Binder c =
+    let p = c.loop-top.path in
+    let t = c.in-Some.top in
+    let s = c.loop-top.invariant.sound in
+    let b = p.sets.bundle in
+    let kind = kind_at p t.l c.pop.ensures c.bundle.ensures c.term_field.ensures (c.in-Some-Binder.ensures ∙ ap kind_in c.in-Some-Binder.field-0-is) in
+    let ended = both_none t.i t.j c.if-top.false in
+    let into = rw c.pop.ensures at c.into_body.ensures in
+    going_turn c.loop-top.invariant (leaves ((term_of b t.l).a ∷ []) ((term_of b t.r).a ∷ []) (crossed_by (rest p.frames)) (rest p.frames))
+    c.into_body.result into.1
+    (binder_turn p c.args.left t.l t.r t.i t.j t.e (rest p.frames) c.in-Some.ensures s c.if-l-eq0.false ended kind c.into_body.result into.0)
 
-pub loop-height-preserved : goal.loop-height-preserved
-loop-height-preserved c =
-    let l = c.loop-height in
-    let ended = both_none c.from-i.result c.from-j.result c.if-i-j.false in
-    let body = body_flag c.term_field-kind.result c.is_binder.ensures ∙ c.if-is_binder-kind.false in (
-      closed_after l.invariant.0 c.loop-height-test.true c.from-l.ensures c.from-r.ensures c.from-i.ensures c.from-j.ensures c.if-l-eq0.false
-          ended c.term_field-kind.ensures,
-      omega (arith, l.invariant.1),
-      l.invariant.2,
-      l.invariant.3,
-      l.invariant.4,
-      λ free image.
-          closed_on l.invariant.0 c.loop-height-test.true c.from-l.ensures c.from-r.ensures c.from-i.ensures c.from-j.ensures c.if-l-eq0.false
-          ended c.term_field-kind.ensures body free image
-          ∙ l.invariant.5 free image,
+pub into_let-requires : goal.into_let-requires
+into_let-requires c =
+    let p = c.loop-top.path in
+    let t = c.in-Some.top in
+    let s = c.loop-top.invariant.sound in
+    let kind = kind_at p t.l c.pop.ensures c.bundle.ensures c.term_field.ensures (c.in-Some-Let.ensures ∙ ap kind_in c.in-Some-Let.field-0-is) in
+    let ended = both_none t.i t.j c.if-top.false in
+    rw c.pop.ensures (
+      let_room p c.args.left t.l t.r t.i t.j t.e (rest p.frames) c.in-Some.ensures s c.if-l-eq0.false ended kind,
+      let_met p c.args.left t.l t.r t.i t.j t.e (rest p.frames) c.in-Some.ensures s c.if-l-eq0.false ended kind,
     )
+
+pub returns-in-Some-Let : goal.returns-in-Some-Let
+returns-in-Some-Let c =
+    let p = c.loop-top.path in
+    let t = c.in-Some.top in
+    let s = c.loop-top.invariant.sound in
+    let b = p.sets.bundle in
+    let kind = kind_at p t.l c.pop.ensures c.bundle.ensures c.term_field.ensures (c.in-Some-Let.ensures ∙ ap kind_in c.in-Some-Let.field-0-is) in
+    let ended = both_none t.i t.j c.if-top.false in
+    let into = rw c.pop.ensures at c.into_let.ensures in
+    going_turn c.loop-top.invariant (leaves (items b (term_of b t.l).a) (items b (term_of b t.r).a) (crossed_by (rest p.frames)) (rest p.frames))
+    c.into_let.result into.1
+    (let_turn p c.args.left t.l t.r t.i t.j t.e (rest p.frames) c.in-Some.ensures s c.if-l-eq0.false ended kind c.into_let.result into.0)
+
+pub loop-top-preserved-in-Some-Variable : goal.loop-top-preserved-in-Some-Variable
+loop-top-preserved-in-Some-Variable c =
+    let p = c.loop-top.path in
+    let t = c.in-Some.top in
+    let s = c.loop-top.invariant.sound in
+    let none : has_body (kind_of (term_of p.sets.bundle t.l).kind) ≡ false = ap has_body (kind_at p t.l c.pop.ensures c.bundle.ensures c.term_field.ensures (c.in-Some-Variable.ensures ∙ ap kind_in c.in-Some-Variable.field-0-is)) in
+    (going_below c.loop-top.invariant (below_sound p c.args.left t.l t.r t.i t.j t.e (rest p.frames) c.in-Some.ensures s c.if-l-eq0.false)
+    (closed_on p c.args.left t.l t.r t.i t.j t.e (rest p.frames) c.in-Some.ensures s c.if-l-eq0.false (both_none t.i t.j c.if-top.false) none) c.pop.ensures).0
+
+pub loop-top-preserved-in-Some-Application : goal.loop-top-preserved-in-Some-Application
+loop-top-preserved-in-Some-Application c =
+    let p = c.loop-top.path in
+    let t = c.in-Some.top in
+    let s = c.loop-top.invariant.sound in
+    let none : has_body (kind_of (term_of p.sets.bundle t.l).kind) ≡ false = ap has_body (kind_at p t.l c.pop.ensures c.bundle.ensures c.term_field.ensures (c.in-Some-Application.ensures ∙ ap kind_in c.in-Some-Application.field-0-is)) in
+    (going_below c.loop-top.invariant (below_sound p c.args.left t.l t.r t.i t.j t.e (rest p.frames) c.in-Some.ensures s c.if-l-eq0.false)
+    (closed_on p c.args.left t.l t.r t.i t.j t.e (rest p.frames) c.in-Some.ensures s c.if-l-eq0.false (both_none t.i t.j c.if-top.false) none) c.pop.ensures).0
+
+pub loop-top-preserved : goal.loop-top-preserved
+loop-top-preserved c =
+    let p = c.loop-top.path in
+    let t = c.in-Some.top in
+    let s = c.loop-top.invariant.sound in
+    let none : has_body (kind_of (term_of p.sets.bundle t.l).kind) ≡ false = ap has_body (kind_at p t.l c.pop.ensures c.bundle.ensures c.term_field.ensures c.in-None.ensures) in
+    (going_below c.loop-top.invariant (below_sound p c.args.left t.l t.r t.i t.j t.e (rest p.frames) c.in-Some.ensures s c.if-l-eq0.false)
+    (closed_on p c.args.left t.l t.r t.i t.j t.e (rest p.frames) c.in-Some.ensures s c.if-l-eq0.false (both_none t.i t.j c.if-top.false) none) c.pop.ensures).0
+
+-- ---- nothing is left
 
 pub returns : goal.returns
-returns c = λ free image.
-    let l = c.loop-height in
-    sym (l.invariant.5 free image) ∙ finish_none free image c.args.bundle.now l.agenda l.height c.args.left c.loop-height-test.false
+returns c =
+    let p = c.loop-top.path in
+    going_end c.loop-top.invariant (λ free image. finish_none free image p.sets.bundle p.frames c.args.left c.in_default.ensures)

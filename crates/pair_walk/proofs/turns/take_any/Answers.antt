@@ -1,58 +1,38 @@
 -- `turns::take_any` meets its contract: the items of two links, and the links that follow, by the test for an application of which nothing is left.
 use native.Mathlib.Omega.{arith}
-use native.Mathlib.Numerals.{add-one}
-use mathlib.Core.Path.{refl, sym, ◌∙◌}
-use mathlib.Core.Bool.{true, false}
-use Prim.Native.Nat.{◌+◌, ◌*◌}
-use lib.ListN.{get_or}
-use Rattle.bundle.specs.Bundle.{link_of}
+use mathlib.Core.Path.{ap, ◌∙◌}
+use Rattle.bundle.specs.Bundle.{Bundle, link_of, term_of}
 use Rattle.bundle.specs.Links.{next_of}
 use Rattle.bundle.proofs.Walks.{walk_le, next_is}
-use Rattle.pair_walk.specs.Agenda.{frame_of, frames}
-use Rattle.pair_walk.proofs.FrameWords.{turn_at, links_at_lem, taken_at, closes_at}
+use Rattle.pair_walk.proofs.FrameWords.{turn_at, taken_off, taken_on}
 use Rattle.pair_walk.proofs.turns.take_any.Goals as goal
-
-pub returns-then-kind-after : goal.returns-then-kind-after
-returns-then-kind-after c = let a = c.args in
-    let w = a.agenda.now in
-    let bundle = a.bundle.now in
-    let i = c.link-first in
-    let j = c.link-second in
-    let after = next_is a.bundle.now a.i i.ensures.1 (rw c.links-links.ensures.0 at c.followed-after.ensures) in
-    let other = next_is a.bundle.now a.j j.ensures.1 (rw c.links-links.ensures.0 at c.followed-other.ensures) in
-    let test = closes_at c.term_field-kind.ensures after other in
-    let frame = frame_of (get_or w (5 * a.h) 0) (get_or w (5 * a.h + 1) 0) (next_of bundle.links a.i) (next_of bundle.links a.j)
-    (get_or w (5 * a.h + 4) 0) in
-    let t = taken_at w (frames w a.h) frame a.l (link_of bundle a.i).value (link_of bundle a.j).value a.h a.depth a.left c.turn_to.result
-    true (sym c.if-kind-after.true ∙ test) (turn_at a.l a.depth a.left i.ensures.0 j.ensures.0 refl refl c.turn_to.ensures) refl in
-    (refl, t.0, t.1)
+use Rattle.pair_walk.proofs.turns.take_any.Goals.{then-kind-number, else-kind-number}
 
 pub advance-requires : goal.advance-requires
-advance-requires c = let a = c.args in
-    let h = c.requires in
-    let i = c.link-first in
-    let j = c.link-second in
-    let after = next_is a.bundle.now a.i i.ensures.1 (rw c.links-links.ensures.0 at c.followed-after.ensures) in
-    let other = next_is a.bundle.now a.j j.ensures.1 (rw c.links-links.ensures.0 at c.followed-other.ensures) in (
-      h.0,
-      omega (arith, walk_le a.bundle.now a.i c.followed-after.result after, c.links-links.ensures.1),
-      omega (arith, walk_le a.bundle.now a.j c.followed-other.result other, c.links-links.ensures.1),
+advance-requires c =
+    let a = c.args in
+    let b = c.bundle-bundle.result.now in
+    let after = next_is b a.i c.link-first.ensures.1 (rw c.links-links.ensures.0 at c.followed-after.ensures) in
+    let other = next_is b a.j c.link-second.ensures.1 (rw c.links-links.ensures.0 at c.followed-other.ensures) in (
+      c.requires.0,
+      omega (arith, walk_le b a.i c.followed-after.result after, c.links-links.ensures.1),
+      omega (arith, walk_le b a.j c.followed-other.result other, c.links-links.ensures.1),
     )
 
 pub returns : goal.returns
-returns c = let a = c.args in
-    let w = a.agenda.now in
-    let bundle = a.bundle.now in
-    let i = c.link-first in
-    let j = c.link-second in
-    let after = next_is a.bundle.now a.i i.ensures.1 (rw c.links-links.ensures.0 at c.followed-after.ensures) in
-    let other = next_is a.bundle.now a.j j.ensures.1 (rw c.links-links.ensures.0 at c.followed-other.ensures) in
-    let test = closes_at c.term_field-kind.ensures after other in
-    let frame = frame_of (get_or w (5 * a.h) 0) (get_or w (5 * a.h + 1) 0) (next_of bundle.links a.i) (next_of bundle.links a.j)
-    (get_or w (5 * a.h + 4) 0) in
-    let d = c.advance in
-    let t = taken_at d.new.agenda (frames w a.h) frame a.l (link_of bundle a.i).value (link_of bundle a.j).value a.h a.depth a.left
-    c.turn_to-2.result false (sym c.if-kind-after.false ∙ test)
-    (turn_at a.l a.depth a.left i.ensures.0 j.ensures.0 (add-one a.h) refl c.turn_to-2.ensures)
-    (links_at_lem (get_or w (5 * a.h) 0) (get_or w (5 * a.h + 1) 0) (get_or w (5 * a.h + 4) 0) (frames w a.h) after other d.ensures.1) in
-    (d.ensures.0, t.0, t.1)
+returns c =
+    let a = c.args in
+    let p = a.path.now in
+    let b = c.bundle-bundle in
+    let after = next_is b.result.now a.i c.link-first.ensures.1 (rw c.links-links.ensures.0 at c.followed-after.ensures)
+    ∙ ap (λ (x : Bundle). next_of x.links a.i) b.ensures in
+    let other = next_is b.result.now a.j c.link-second.ensures.1 (rw c.links-links.ensures.0 at c.followed-other.ensures)
+    ∙ ap (λ (x : Bundle). next_of x.links a.j) b.ensures in
+    let kind = c.term_field-kind.ensures ∙ ap (λ (x : Bundle). (term_of x a.l).kind) b.ensures in (
+      turn_at a.l a.left (c.link-first.ensures.0 ∙ ap (λ (x : Bundle). (link_of x a.i).value) b.ensures)
+          (c.link-second.ensures.0 ∙ ap (λ (x : Bundle). (link_of x a.j).value) b.ensures) c.turn_to.ensures,
+      elim c.if-kind-number.branch [
+        | then-kind-number w ↦ w.path-is ∙ taken_off p.sets.bundle p a.l a.i a.j kind after other (rw c.number.ensures at w.if-kind-number.true) w.pop.ensures
+        | else-kind-number w ↦ w.path-is ∙ taken_on p.sets.bundle p a.l a.i a.j kind after other (rw c.number.ensures at w.if-kind-number.false) w.advance.ensures
+      ],
+    )

@@ -3,13 +3,13 @@ use Prim.Native.Nat.{◌*◌, ◌≤◌}
 use mathlib.Core.Path.{◌≡◌}
 use lib.ListN.{length}
 use Rattle.images.specs.ContextRows.{image_at}
-use Rattle.images.specs.LentReading.{free_in}
+use Rattle.free_variables.specs.TermSets.{free_in}
 use Rattle.rules.specs.WordSides.{hit_by}
 use Rattle.rules.proofs.BindWords.{Apart}
 use Rattle.rules.proofs.rules.bind_sides.Given as goal
 
 abbrev pub invariant-loop-k : goal.invariant-loop-k
 invariant-loop-k l =
-    (some : l.left ≡ 0 → ⊥) (few : l.left ≤ length l.bundle.terms)
-    → Apart (length l.bundle.terms) l.area l.n l.left (length l.bundle.variables)
-    (hit_by (free_in (length l.bundle.terms) l.area l.n) (image_at (length l.bundle.variables) l.images l.context) l.y) some few (64 * l.k)
+    (some : l.left ≡ 0 → ⊥) (few : l.left ≤ length l.sets.bundle.terms)
+    → Apart l.sets l.left (length l.sets.bundle.variables) (hit_by (free_in l.sets) (image_at (length l.sets.bundle.variables) l.images l.context) l.y)
+    some few (64 * l.k)

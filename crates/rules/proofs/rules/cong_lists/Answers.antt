@@ -10,6 +10,7 @@ returns-then-not-good c = rw (
   ← c.term_field-right_kind.ensures,
   ← c.term_field-left_symbol.ensures,
   ← c.term_field-right_symbol.ensures,
+  ← c.number-application.ensures,
 ) c.if-not-good.true
 
 pub returns : goal.returns
@@ -21,6 +22,7 @@ returns c =
         ← c.term_field-right_kind.ensures,
         ← c.term_field-left_symbol.ensures,
         ← c.term_field-right_symbol.ensures,
+        ← c.number-application.ensures,
       ) c.if-not-good.false;
       body = refl;
       context = refl;

@@ -7,9 +7,10 @@ pub returns : goal.returns
 unfolding passed trans_tests_by
 returns c =
     rw (
-      c.step_carries-from_middle.ensures,
-      c.step_carries-to_middle.ensures,
-      c.taken_field-middle.ensures,
+      c.carries-from_middle.ensures,
+      c.carries-to_middle.ensures,
+      c.field-middle.ensures,
       c.second_item-second.ensures,
       c.first_item-first.ensures,
+      c.bundle-bundle.ensures,
     )

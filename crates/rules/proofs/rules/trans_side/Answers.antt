@@ -7,8 +7,12 @@ pub returns : goal.returns
 unfolding trans_side_by
 returns c =
     rw (
-      le-leb _ _ c.requires.2,
+      le-leb _ _ c.requires.1,
       c.is_settled.ensures,
-      c.taken_field-middle.ensures,
+      c.n.ensures,
+      c.field-middle.ensures,
+      c.of.ensures,
+      c.bundle-2.ensures,
       c.first_item-first.ensures,
+      c.bundle.ensures,
     )

@@ -11,7 +11,7 @@ use lib.ListN.{length}
 use Rattle.sets.specs.Sets.{bit_at, without_bit, LeastBit}
 use Rattle.sets.proofs.Digits.{bit_without, bit_none, bits_same, trailing_below, trailing_here}
 use Rattle.images.specs.ContextRows.{image_at}
-use Rattle.images.specs.LentReading.{free_in}
+use Rattle.free_variables.specs.TermSets.{free_in}
 use Rattle.rules.specs.WordSides.{hit_by, WordApart}
 use Rattle.rules.proofs.rules.word_hits.Invariants.{Left}
 use Rattle.rules.proofs.rules.word_hits.Goals as goal
@@ -72,10 +72,11 @@ overflow_add-z-in-loop-left c =
 pub returns-then-z-variables : goal.returns-then-z-variables
 returns-then-z-variables c =
     let a = c.args in
-    let hit = hit_by (free_in (length a.bundle.now.terms) a.area.now a.n) (image_at (length a.bundle.now.variables) a.images.now a.context) a.y in
+    let last : ℕ = length a.sets.now.bundle.variables in
+    let hit = hit_by (free_in a.sets.now) (image_at last a.images.now a.context) a.y in
     let l = c.loop-left in
     let r = c.lowest_bit-i in (
-      (λ e. none_left a.word a.base (length a.bundle.now.variables) hit l.left l.invariant (λ i low few. below l.left r.result r.ensures i (omega arith))),
+      (λ e. none_left a.word a.base last hit l.left l.invariant (λ i low few. below l.left r.result r.ensures i (omega (arith, rw c.bundle-bundle.ensures at c.variables.ensures.0)))),
       (λ e. absurd (false≢true e)),
     )
 
@@ -88,9 +89,9 @@ returns-then-free_in_image c =
       (λ e. record {
         j = r.result;
         low = low;
-        few = omega arith;
+        few = omega (arith, rw c.bundle-bundle.ensures at c.variables.ensures.0);
         member = l.invariant.part r.result (r.ensures.here low);
-        here = rw (← c.image_of-image.ensures, ← c.free_in_image.ensures, c.if-free_in_image.true);
+        here = rw (← (rw c.bundle-bundle.ensures at c.image_of-image.ensures), ← c.free_in_image.ensures, c.if-free_in_image.true);
       }),
     )
 
@@ -108,18 +109,20 @@ loop-left-smaller c =
 pub loop-left-preserved : goal.loop-left-preserved
 loop-left-preserved c =
     let a = c.args in
-    let hit = hit_by (free_in (length a.bundle.now.terms) a.area.now a.n) (image_at (length a.bundle.now.variables) a.images.now a.context) a.y in
+    let last : ℕ = length a.sets.now.bundle.variables in
+    let hit = hit_by (free_in a.sets.now) (image_at last a.images.now a.context) a.y in
     let l = c.loop-left in
     let r = c.lowest_bit-i in
     rw c.without_bit-left.ensures
-    (left_on a.word a.base (length a.bundle.now.variables) hit l.left l.invariant r.result (omega (arith, c.without_bit-left.ensures))
-    (rw (← c.image_of-image.ensures, ← c.free_in_image.ensures, c.if-free_in_image.false)))
+    (left_on a.word a.base last hit l.left l.invariant r.result (omega (arith, c.without_bit-left.ensures))
+    (rw (← (rw c.bundle-bundle.ensures at c.image_of-image.ensures), ← c.free_in_image.ensures, c.if-free_in_image.false)))
 
 pub returns : goal.returns
 returns c =
     let a = c.args in
-    let hit = hit_by (free_in (length a.bundle.now.terms) a.area.now a.n) (image_at (length a.bundle.now.variables) a.images.now a.context) a.y in
+    let last : ℕ = length a.sets.now.bundle.variables in
+    let hit = hit_by (free_in a.sets.now) (image_at last a.images.now a.context) a.y in
     let l = c.loop-left in (
-      (λ e. none_left a.word a.base (length a.bundle.now.variables) hit l.left l.invariant (λ i low few. rw c.loop-left-test.false (bit_none i))),
+      (λ e. none_left a.word a.base last hit l.left l.invariant (λ i low few. rw c.loop-left-test.false (bit_none i))),
       (λ e. absurd (false≢true e)),
     )

@@ -7,7 +7,7 @@ use lib.ListN.{length}
 use lib.Count.{count_trailing_zeros}
 use Rattle.sets.specs.Sets.{bit_at}
 use Rattle.images.specs.ContextRows.{image_at}
-use Rattle.images.specs.LentReading.{free_in}
+use Rattle.free_variables.specs.TermSets.{free_in}
 use Rattle.rules.specs.WordSides.{hit_by}
 use Rattle.rules.proofs.rules.word_hits.Given as goal
 
@@ -19,8 +19,8 @@ pub record Left (word base last : ℕ) (hit : ℕ → Bool) (x : ℕ) : Type 0 w
 
 abbrev pub invariant-loop-left : goal.invariant-loop-left
 invariant-loop-left l =
-    Left l.word l.base (length l.bundle.variables)
-    (hit_by (free_in (length l.bundle.terms) l.area l.n) (image_at (length l.bundle.variables) l.images l.context) l.y) l.left
+    Left l.word l.base (length l.sets.bundle.variables)
+    (hit_by (free_in l.sets) (image_at (length l.sets.bundle.variables) l.images l.context) l.y) l.left
 
 abbrev pub decreases-loop-left : goal.decreases-loop-left
 decreases-loop-left l = 64 - count_trailing_zeros 64 l.left

@@ -3,4 +3,5 @@ use mathlib.Core.Path.{sym, ◌∙◌}
 use Rattle.show_rules.proofs.strays.stray_in.Goals as goal
 
 pub returns-then-not-mentions : goal.returns-then-not-mentions
-returns-then-not-mentions c = (sym c.is_free.ensures ∙ c.if-is_free.true, c.mentions.ensures c.if-not-mentions.true)
+returns-then-not-mentions c =
+    (sym c.is_free.ensures ∙ c.if-is_free.true, rw c.bundle-bundle.ensures at (c.mentions.ensures c.if-not-mentions.true))

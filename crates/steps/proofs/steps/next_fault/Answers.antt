@@ -8,24 +8,24 @@ use Rattle.steps.proofs.steps.next_fault.Goals as goal
 
 pub returns-then-not-step_refers : goal.returns-then-not-step_refers
 returns-then-not-step_refers c =
-    after_refers _ _ _ _ _ refl _ c.all_numbers-before.ensures (sym c.step_refers.ensures ∙ c.if-not-step_refers.true)
+    after_refers _ _ _ _ _ refl _ (rw c.bundle-bundle.ensures at c.all_numbers-before.ensures)
+    (rw c.bundle-bundle.ensures at (sym c.step_refers.ensures ∙ c.if-not-step_refers.true))
 
 pub scoped_fault-requires : goal.scoped_fault-requires
 scoped_fault-requires c =
-    let a = c.args in
-    let b = a.bundle.now in
-    let s = as_step a.s in
+    let b = c.args.known.now.sets.bundle in
+    let s = as_step c.args.s in
     let e = c.all_numbers-before.result in
-    let refers = sym c.step_refers.ensures ∙ c.if-not-step_refers.false in
+    let refers = rw c.bundle-bundle.ensures at (sym c.step_refers.ensures ∙ c.if-not-step_refers.false) in
     let left = refers_left b s e refers in
     let right = refers_right b s e refers in
-    (c.requires, refers_context b s e refers, left.0, left.1, right.0, right.1)
+    (refers_context b s e refers, left.0, left.1, right.0, right.1)
 
 pub returns : goal.returns
 unfolding reading_in
 returns c =
     let a = c.args in
-    let g = reading_in a.bundle.now a.area.now a.n a.images.now a.scopes.now a.bed.now in
+    let k = a.known.now in
     let e = c.all_numbers-before in
-    after_rule g a.bundle.now (as_step a.s) a.taken (as_step a.s) refl e.result e.ensures _
-    (sym c.step_refers.ensures ∙ c.if-not-step_refers.false) c.scoped_fault.ensures
+    after_rule (reading_in k a.bed.now) k.sets.bundle (as_step a.s) a.taken (as_step a.s) refl e.result (rw c.bundle-bundle.ensures at e.ensures) _
+    (rw c.bundle-bundle.ensures at (sym c.step_refers.ensures ∙ c.if-not-step_refers.false)) c.scoped_fault.ensures

@@ -1,29 +1,44 @@
--- `steps::step_sides` meets its contract: in each arm the rule is known, or known to have no sides.
-use native.Mathlib.Omega.{arith}
-use mathlib.Core.Path.{sym}
-use Rattle.logic.specs.Rules.{rule_of, sides_by}
+-- `steps::step_sides` meets its contract: in each arm the rule is known.
+use mathlib.Core.Path.{◌≡◌, ap, ◌∙◌}
+use mathlib.Core.Bool.{true}
+use Rattle.bundle.specs.Bundle.{Bundle, Step}
+use mathlib.Core.Logic.{⊎_elim}
+use Rattle.logic.specs.Named.{rule_in}
+use Rattle.logic.specs.Readings.{Reading}
+use Rattle.logic.specs.Rules.{Rule, REFL, CONG, LET, sides_by}
 use Rattle.images.specs.LentReading.{reading_in}
-use Rattle.steps.proofs.RuleOf.{no_sides}
 use Rattle.steps.proofs.steps.step_sides.Goals as goal
 
-pub trans_side-requires : goal.trans_side-requires
-trans_side-requires c =
-    let p = c.requires in
-    (p.0.free, p.0.scopes, p.1)
+pub returns-in-Trans : goal.returns-in-Trans
+unfolding sides_by reading_in
+returns-in-Trans c =
+    rw (c.in-Some.ensures ∙ ap rule_in c.in-Trans.is, c.trans_side.ensures, c.sets.ensures.0, c.scopes.ensures.0)
 
-pub bind_sides-requires : goal.bind_sides-requires
-bind_sides-requires c =
-    let p = c.requires in
-    (p.0.free, p.0.images, p.1)
+pub returns-in-Bind : goal.returns-in-Bind
+unfolding sides_by reading_in
+returns-in-Bind c =
+    rw (c.in-Some.ensures ∙ ap rule_in c.in-Bind.is, c.bind_sides.ensures, c.sets-in-Bind.ensures.0, c.images.ensures.0)
 
-pub returns-in-3 : goal.returns-in-3
-unfolding rule_of sides_by reading_in
-returns-in-3 c = rw (c.in-3.is, c.trans_side.ensures)
+-- the other rules have none
+module _ (g : Reading) (b : Bundle) (s : Step) {r : Rule} where
+  refl_none : r ≡ REFL → true ≡ sides_by g b r s
+  unfolding sides_by
+  refl_none e = rw e
 
-pub returns-in-4 : goal.returns-in-4
-unfolding rule_of sides_by reading_in
-returns-in-4 c = rw (c.in-4.is, c.bind_sides.ensures)
+  cong_none : r ≡ CONG → true ≡ sides_by g b r s
+  unfolding sides_by
+  cong_none e = rw e
+
+  let_none : r ≡ LET → true ≡ sides_by g b r s
+  unfolding sides_by
+  let_none e = rw e
+
+pub returns-in-Refl : goal.returns-in-Refl
+returns-in-Refl c =
+    let rule = c.in-Some.ensures in
+    ⊎_elim (λ e. refl_none _ _ _ (rule ∙ ap rule_in e))
+    (⊎_elim (λ e. cong_none _ _ _ (rule ∙ ap rule_in e)) (λ e. let_none _ _ _ (rule ∙ ap rule_in e))) c.in-Refl.is
 
 pub returns-in_default : goal.returns-in_default
-returns-in_default c =
-    sym (no_sides _ _ _ _ (omega arith) (omega arith))
+unfolding sides_by
+returns-in_default c = rw c.in_default.ensures

@@ -1,14 +1,12 @@
 -- `steps::steps_fault` meets its contract: the arrays are zero at first and large enough.
 use native.Mathlib.Omega.{arith}
+use Prim.Native.Nat.{◌≤◌, ◌<◌}
+use lib.ListN.{length}
 use Rattle.bundle.proofs.LinkNotes.{zeros}
 use Rattle.steps.proofs.steps.steps_fault.Goals as goal
 
 pub steps_fault_in-requires : goal.steps_fault_in-requires
-steps_fault_in-requires c =
-    let p = c.requires in
-    (p.0, p.1, p.2, p.3, p.4, omega arith, zeros 256)
+steps_fault_in-requires c = (c.requires, rw (c.links.ensures.0, c.bundle.ensures) at c.if-links-lt256.true, zeros 256)
 
 pub steps_fault_in-requires-2 : goal.steps_fault_in-requires-2
-steps_fault_in-requires-2 c =
-    let p = c.requires in
-    (p.0, p.1, p.2, p.3, p.4, omega arith, zeros 2049)
+steps_fault_in-requires-2 c = (c.requires, omega (arith, rw c.bundle.ensures at c.links.ensures.0, c.links.ensures.1), zeros 2049)

@@ -7,4 +7,6 @@ use Rattle.terms.proofs.terms.large_fault.Goals as goal
 
 pub noted_fault-requires : goal.noted_fault-requires
 noted_fault-requires c =
-    (c.requires, omega arith, zeros (limits.links + 1), omega arith, zeros (limits.links + 1), omega arith, zeros (limits.terms + 1))
+    let links = rw c.bundle-bundle.ensures at c.links.ensures in
+    let terms = rw c.bundle-bundle.ensures at c.terms.ensures in
+    (omega (arith, links), zeros (limits.links + 1), omega (arith, links), zeros (limits.links + 1), omega (arith, terms), zeros (limits.terms + 1))

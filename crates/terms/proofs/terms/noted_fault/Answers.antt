@@ -21,38 +21,41 @@ loop-i-init c =
     let a = c.args in (
       length-replicate {A = ℕ} 2048 0,
       refl,
-      filed_none _ _ _ (zeros 2048).zero c.requires.6.zero,
+      filed_none _ _ _ (zeros 2048).zero c.requires.5.zero,
       rest_start _ _,
-      noted_none (AllTo a.bundle.now 0) (length a.bundle.now.links) a.lower.now c.requires.2
-          c.requires.1,
-      noted_none (SortsFit a.bundle.now) (length a.bundle.now.links) a.fitting.now c.requires.4
-          c.requires.3,
+      noted_none (AllTo a.sorted.now 0) (length a.sorted.now.links) a.lower.now c.requires.1
+          c.requires.0,
+      noted_none (SortsFit a.sorted.now) (length a.sorted.now.links) a.fitting.now c.requires.3
+          c.requires.2,
       refl,
       refl,
     )
 
 pub returns-in-Err : goal.returns-in-Err
 returns-in-Err c =
-    sym (c.loop-i.invariant.3 ∙ rest_here _ _ _ c.in-Err.ensures.0 (omega arith) (number_some c.in-Err.check))
+    sym (c.loop-i.invariant.3 ∙ rest_here _ _ _ c.in-Err.ensures.0 (omega (arith, rw c.bundle-bundle.ensures at c.terms-i-end.ensures.0)) (number_some c.in-Err.check))
 
 pub loop-i-preserved : goal.loop-i-preserved
 loop-i-preserved c =
     let d = c.digest-d in
     let w = c.term_words-w in
     let l = c.loop-i in
-    let b = c.args.bundle.now in
+    let b = c.args.sorted.now in
     let noted = c.in_default.ensures.1 in
-    let heads-room : d.result < length l.heads = omega (arith, d.ensures.1, l.invariant.0) in
-    let next-room : l.i < length l.next = omega (arith, l.invariant.1, c.requires.5) in (
-      length-set l.heads d.result l.i ∙ l.invariant.0,
+    let same = c.bundle-bundle.ensures in
+    let p = c.place-place in
+    let heads-room : p.result < length l.heads = omega (arith, p.ensures.1, l.invariant.0) in
+    let terms = rw same at c.terms-i-end.ensures.0 in
+    let next-room : l.i < length l.next = omega (arith, terms, l.invariant.1, c.requires.4) in (
+      length-set l.heads p.result l.i ∙ l.invariant.0,
       length-set l.next l.i _ ∙ l.invariant.1,
-      term_filed b l.heads l.next l.i d.result (omega arith) l.invariant.2 (d.ensures.0 ∙ ap (term_digest b) w.ensures) heads-room next-room,
-      l.invariant.3 ∙ rest_on _ _ _ c.in_default.ensures.0 (omega arith) refl,
-      lower_up c.args.bundle.now (l.i - 1) (l.i + 1 - 1) _ (omega arith) noted.0,
+      term_filed b l.heads l.next l.i p.result (omega arith) l.invariant.2 (p.ensures.0 ∙ (rw same at d.ensures) ∙ ap (term_digest b) (rw same at w.ensures)) heads-room next-room,
+      l.invariant.3 ∙ rest_on _ _ _ c.in_default.ensures.0 (omega (arith, terms)) refl,
+      lower_up c.args.sorted.now (l.i - 1) (l.i + 1 - 1) _ (omega arith) noted.0,
       noted.1,
       search rules,
       search rules,
     )
 
 pub returns : goal.returns
-returns c = sym (c.loop-i.invariant.3 ∙ rest_end _ _ _ (omega arith))
+returns c = sym (c.loop-i.invariant.3 ∙ rest_end _ _ _ (omega (arith, rw c.bundle-bundle.ensures at c.terms-i-end.ensures.0)))

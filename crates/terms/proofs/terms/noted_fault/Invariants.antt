@@ -12,6 +12,6 @@ use Rattle.terms.proofs.terms.noted_fault.Given as goal
 
 abbrev pub invariant-loop-i : goal.invariant-loop-i
 invariant-loop-i l =
-    (length l.heads ≡ 2048) × (length l.next ≡ length l.initial.next) × FiledBelow l.bundle l.heads l.next l.i
-    × (terms_fault l.bundle ≡ rest_fault (term_fault l.bundle) (length l.bundle.terms) l.i)
-    × LowerNoted l.bundle (l.i - 1) l.lower × Fitting l.bundle l.fitting × (length l.lower ≡ length l.initial.lower) × (length l.fitting ≡ length l.initial.fitting)
+    (length l.heads ≡ 2048) × (length l.next ≡ length l.initial.next) × FiledBelow l.sorted l.heads l.next l.i
+    × (terms_fault l.sorted ≡ rest_fault (term_fault l.sorted) (length l.sorted.terms) l.i)
+    × LowerNoted l.sorted (l.i - 1) l.lower × Fitting l.sorted l.fitting × (length l.lower ≡ length l.initial.lower) × (length l.fitting ≡ length l.initial.fitting)

@@ -6,4 +6,4 @@ use Rattle.terms.proofs.terms.small_fault.Goals as goal
 pub noted_fault-requires : goal.noted_fault-requires
 noted_fault-requires c =
     let p = c.requires in
-    (p.0, omega (arith, p.2), zeros 512, omega (arith, p.2), zeros 512, omega (arith, p.1), zeros 256)
+    (omega (arith, p.1), zeros 512, omega (arith, p.1), zeros 512, omega (arith, p.0), zeros 256)

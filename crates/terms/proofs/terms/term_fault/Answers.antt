@@ -18,7 +18,7 @@ told b i r e = rw e
 pub returns-then-not-term_refers : goal.returns-then-not-term_refers
 returns-then-not-term_refers c =
     let q = c.term_refers in (
-      rw (told _ _ (as_term c.args.w) c.requires.fact.5, ← q.ensures.0, c.if-not-term_refers.true),
+      rw (told _ _ (as_term c.args.w) c.requires.fact.4, ← (rw c.bundle-bundle.ensures at q.ensures.0), c.if-not-term_refers.true),
       tt,
     )
 
@@ -27,8 +27,8 @@ returns-then-not-term_sorted c =
     let q = c.term_refers in
     let fit = c.term_sorted in (
       rw (
-        told _ _ (as_term c.args.w) c.requires.fact.5,
-        ← q.ensures.0,
+        told _ _ (as_term c.args.w) c.requires.fact.4,
+        ← (rw c.bundle-bundle.ensures at q.ensures.0),
         c.if-not-term_refers.false,
         ← fit.ensures.0,
         c.if-not-term_sorted.true,
@@ -43,12 +43,12 @@ returns-then-not-is_new c =
     let referring = c.if-not-term_refers.false in
     let fitting = c.if-not-term_sorted.false in (
       rw (
-        told _ _ (as_term c.args.w) c.requires.fact.5,
-        ← q.ensures.0,
+        told _ _ (as_term c.args.w) c.requires.fact.4,
+        ← (rw c.bundle-bundle.ensures at q.ensures.0),
         referring,
         ← fit.ensures.0,
         fitting,
-        ← c.is_new.ensures,
+        ← (rw c.bundle-bundle.ensures at c.is_new.ensures),
         c.if-not-is_new.true,
       ),
       tt,
@@ -61,13 +61,13 @@ returns c =
     let referring = c.if-not-term_refers.false in
     let fitting = c.if-not-term_sorted.false in (
       rw (
-        told _ _ (as_term c.args.w) c.requires.fact.5,
-        ← q.ensures.0,
+        told _ _ (as_term c.args.w) c.requires.fact.4,
+        ← (rw c.bundle-bundle.ensures at q.ensures.0),
         referring,
         ← fit.ensures.0,
         fitting,
-        ← c.is_new.ensures,
+        ← (rw c.bundle-bundle.ensures at c.is_new.ensures),
         c.if-not-is_new.false,
       ),
-      (q.ensures.1 referring, fit.ensures.1 fitting),
+      ((rw c.bundle-bundle.ensures at q.ensures.1) referring, fit.ensures.1 fitting),
     )

@@ -1,6 +1,7 @@
 -- Each answer cites a law of ListTurns or TermTurns; here their arguments are only fetched from `c`.
-use mathlib.Core.Path.{◌≡◌, sym, ap, subst, ◌∙◌}
+use mathlib.Core.Path.{◌≡◌, ap, subst, ◌∙◌}
 use mathlib.Core.Bool.{true, false}
+use mathlib.Core.Logic.{inl, inr}
 use Prim.Native.Nat.{ℕ}
 use native.Mathlib.Omega.{arith}
 use Rattle.std.proofs.lemmas.Bool.Decides.{nat_tests}
@@ -10,17 +11,22 @@ use Rattle.bundle.specs.declared.Counts.{Counts}
 use Rattle.bundle.specs.Limits.{Within}
 use Rattle.bundle.specs.declared.records.TermWords.{TermWords}
 use Rattle.bundle.specs.RecordWords.{as_term}
+use Rattle.std.specs.Prelude.{Option, Some}
+use Rattle.logic.specs.declared.kinds.Kind.{Kind as KindName}
+use Rattle.logic.specs.Terms.{kind_of}
+use Rattle.logic.specs.Rules.{LET}
+use Rattle.logic.specs.Named.{kind_in, kind_named}
 use Rattle.scratch.specs.Stack.{half_of}
-use Rattle.expansion.specs.File.{counts_in}
 use Rattle.placing.specs.Outcomes.{VisitFits}
 use Rattle.placing.proofs.Pairs.{Pair}
 use Rattle.visits.proofs.ListTurns.{left_le, LinkReads, list_none, first_asks, first_full, first_height, rest_asks, list_more}
-use Rattle.visits.proofs.TermTurns.{Reads, term_words_lem, term_variable, scope_closed, scope_asks, scope_word, scope_full, scope_done}
+use Rattle.closers.proofs.Numbers.{rule_number}
+use Rattle.visits.proofs.TermTurns.{Reads, term_kind, term_words_lem, term_variable, scope_closed, scope_asks, scope_word, scope_full, scope_done}
 use Rattle.visits.proofs.TermTurns.{args_asks, args_full, args_ready, apply_done, let_closed, body_asks, body_full, body_ready, body_done}
 use Rattle.visits.proofs.visits.+visit_list_visit_term.Goals as goal
 
 -- what the scratch s of the filed b says of its counts, of a link, of a term
-within : {s b : Bundle} {k : Counts} → s ≡ b → (k ≡ own_counts s) × Within k → Within (counts_in b)
+within : {s b : Bundle} {k : Counts} → s ≡ b → (k ≡ own_counts s) × Within k → Within (own_counts b)
 within e k = subst (λ (x : Bundle). Within (own_counts x)) e (subst Within k.0 k.1)
 
 link_reads : {s b : Bundle} {l value next : ℕ} → s ≡ b → (l ≡ 0 → ⊥) → value ≡ (link_of s l).value → next ≡ (link_of s l).next → LinkReads b l value next
@@ -32,6 +38,10 @@ link_reads {s} {b} {l} e some v n = record {
 
 term_reads : {s b : Bundle} {t : ℕ} {w : TermWords} → s ≡ b → as_term w ≡ term_of s t → Reads b t w
 term_reads {s} {b} {t} e r = record { is = r ∙ ap (λ (x : Bundle). term_of x t) e }
+
+-- the kind of a number, in the arm of its name
+named : (n : ℕ) {r : Option KindName} {k k' : KindName} → kind_of n ≡ kind_named r → r ≡ Some k → k ≡ k' → kind_of n ≡ kind_in k'
+named n e f g = e ∙ ap kind_named f ∙ ap kind_in g
 
 -- the word that holds a result and a step
 pair : {p x y : ℕ} → half_of true p ≡ x → half_of false p ≡ y → Pair p x y
@@ -77,12 +87,13 @@ visit_list-returns t c =
 -- ---- a variable
 
 pub visit_term-close_variable-requires : goal.visit_term-close_variable-requires
-visit_term-close_variable-requires t c = term_words_lem c.requires (within c.scratch-scratch.ensures c.counts.ensures)
+visit_term-close_variable-requires t c =
+    term_words_lem c.requires (within c.scratch-scratch.ensures c.counts.ensures)
 
-pub visit_term-returns-then-kind-eq-VARIABLE : goal.visit_term-returns-then-kind-eq-VARIABLE
-visit_term-returns-then-kind-eq-VARIABLE t c =
+pub visit_term-returns-in-Some-Variable : goal.visit_term-returns-in-Some-Variable
+visit_term-returns-in-Some-Variable t c =
     let reads = term_reads c.scratch-scratch.ensures c.term_words-words.ensures.0 in
-    term_variable c.requires reads c.if-kind-eq-VARIABLE.true c.close_variable.ensures.0 c.close_variable.ensures.1
+    term_variable c.requires reads (named c.term_words-words.result.kind c.of.ensures c.in-Some-Variable.is c.in-Some-Variable.field-0-is) c.close_variable.ensures.0 c.close_variable.ensures.1
 
 -- ---- a quantifier
 
@@ -91,126 +102,153 @@ visit_term-open_quantifier-requires t c =
     let k = term_words_lem c.requires (within c.scratch-scratch.ensures c.counts.ensures) in
     (c.term_words-words.ensures.1.first, k.0)
 
-pub visit_term-returns-in_err-opened : goal.visit_term-returns-in_err-opened
-visit_term-returns-in_err-opened t c =
+pub visit_term-returns-in_err-opened-in-Some-Binder : goal.visit_term-returns-in_err-opened-in-Some-Binder
+visit_term-returns-in_err-opened-in-Some-Binder t c =
     let reads = term_reads c.scratch-scratch.ensures c.term_words-words.ensures.0 in
-    rw c.from_residual.ensures (scope_closed c.requires reads (sym c.is_binder.ensures ∙ c.if-is_binder.true) c.open_quantifier.ensures c.in_err-opened.was)
+    let q = named c.term_words-words.result.kind c.of.ensures c.in-Some-Binder.is c.in-Some-Binder.field-0-is in
+    rw c.from_residual-in_err-opened-in-Some-Binder.ensures (scope_closed c.requires reads q c.open_quantifier.ensures c.in_err-opened-in-Some-Binder.was)
 
 pub visit_term-visit_term-requires : goal.visit_term-visit_term-requires
 visit_term-visit_term-requires t c =
     let reads = term_reads c.scratch-scratch.ensures c.term_words-words.ensures.0 in
-    let k = scope_asks c.requires reads (sym c.is_binder.ensures ∙ c.if-is_binder.true) c.open_quantifier.ensures c.in_ok-opened.was in
+    let q = named c.term_words-words.result.kind c.of.ensures c.in-Some-Binder.is c.in-Some-Binder.field-0-is in
+    let k = scope_asks c.requires reads q c.open_quantifier.ensures c.in_ok-opened-in-Some-Binder.was in
     (omega (arith, c.decreases, k.1), k.0)
 
-pub visit_term-returns-in_err-body : goal.visit_term-returns-in_err-body
-visit_term-returns-in_err-body t c =
+pub visit_term-returns-in_err-body-in-Some-Binder : goal.visit_term-returns-in_err-body-in-Some-Binder
+visit_term-returns-in_err-body-in-Some-Binder t c =
     let reads = term_reads c.scratch-scratch.ensures c.term_words-words.ensures.0 in
-    rw c.from_residual-in_err-body.ensures
-    (scope_full c.requires reads (sym c.is_binder.ensures ∙ c.if-is_binder.true) c.open_quantifier.ensures c.in_ok-opened.was c.visit_term.ensures
-    c.in_err-body.was)
+    let q = named c.term_words-words.result.kind c.of.ensures c.in-Some-Binder.is c.in-Some-Binder.field-0-is in
+    rw c.from_residual-in_err-body-in-Some-Binder.ensures
+    (scope_full c.requires reads q c.open_quantifier.ensures c.in_ok-opened-in-Some-Binder.was c.visit_term.ensures c.in_err-body-in-Some-Binder.was)
 
 pub visit_term-close_quantifier-requires : goal.visit_term-close_quantifier-requires
 visit_term-close_quantifier-requires t c =
     let reads = term_reads c.scratch-scratch.ensures c.term_words-words.ensures.0 in
-    let q = sym c.is_binder.ensures ∙ c.if-is_binder.true in
+    let q = named c.term_words-words.result.kind c.of.ensures c.in-Some-Binder.is c.in-Some-Binder.field-0-is in
     let w = within c.scratch-scratch.ensures c.counts.ensures in
     let k = term_words_lem c.requires w in
-    let fits = subst VisitFits c.in_ok-body.was c.visit_term.ensures.words in (
-      k.0,
-      k.1,
-      q,
-      c.term_words-words.ensures.1.kind,
-      scope_word c.requires reads q c.open_quantifier.ensures c.in_ok-opened.was w,
-      fits.0,
-      fits.1,
-    )
+    let fits = subst VisitFits c.in_ok-body-in-Some-Binder.was c.visit_term.ensures.words in
+    (k.0, k.1, scope_word c.requires reads q c.open_quantifier.ensures c.in_ok-opened-in-Some-Binder.was w, fits.0, fits.1)
 
-pub visit_term-returns-then-is_binder : goal.visit_term-returns-then-is_binder
-visit_term-returns-then-is_binder t c =
+pub visit_term-returns-in_ok-body-in-Some-Binder : goal.visit_term-returns-in_ok-body-in-Some-Binder
+visit_term-returns-in_ok-body-in-Some-Binder t c =
     let reads = term_reads c.scratch-scratch.ensures c.term_words-words.ensures.0 in
-    scope_done c.requires reads (sym c.is_binder.ensures ∙ c.if-is_binder.true) c.open_quantifier.ensures c.in_ok-opened.was c.visit_term.ensures
-    c.in_ok-body.was c.close_quantifier.ensures.0 c.close_quantifier.ensures.1
+    let q = named c.term_words-words.result.kind c.of.ensures c.in-Some-Binder.is c.in-Some-Binder.field-0-is in
+    scope_done c.requires reads q c.open_quantifier.ensures c.in_ok-opened-in-Some-Binder.was c.visit_term.ensures c.in_ok-body-in-Some-Binder.was c.close_quantifier.ensures.0
+    c.close_quantifier.ensures.1
 
--- ---- the list of arguments, or of bound terms
+-- ---- an application
 
 pub visit_term-visit_list-requires : goal.visit_term-visit_list-requires
 visit_term-visit_list-requires t c =
-    let reads = term_reads c.scratch-scratch.ensures c.term_words-words.ensures.0 in (
-      omega (arith, c.decreases, left_le c.term_words-words.result.second),
-      args_asks c.requires reads c.if-kind-eq-VARIABLE.false (sym c.is_binder.ensures ∙ c.if-is_binder.false),
-    )
-
-pub visit_term-returns-in_err-top : goal.visit_term-returns-in_err-top
-visit_term-returns-in_err-top t c =
     let reads = term_reads c.scratch-scratch.ensures c.term_words-words.ensures.0 in
-    rw c.from_residual-in_err-top.ensures
-    (args_full c.requires reads c.if-kind-eq-VARIABLE.false (sym c.is_binder.ensures ∙ c.if-is_binder.false) c.visit_list.ensures c.in_err-top.was)
+    let e = named c.term_words-words.result.kind c.of.ensures c.in-Some-Application.is c.in-Some-Application.field-0-is in
+    (omega (arith, c.decreases, left_le c.term_words-words.result.second), args_asks c.requires reads (inl e))
+
+pub visit_term-returns-in_err-top-in-Some-Application : goal.visit_term-returns-in_err-top-in-Some-Application
+visit_term-returns-in_err-top-in-Some-Application t c =
+    let reads = term_reads c.scratch-scratch.ensures c.term_words-words.ensures.0 in
+    let e = named c.term_words-words.result.kind c.of.ensures c.in-Some-Application.is c.in-Some-Application.field-0-is in
+    rw c.from_residual.ensures (args_full c.requires reads (inl e) c.visit_list.ensures c.in_err-top-in-Some-Application.was)
 
 -- the pairs are on the stack
-pub visit_term-prove-unreachable-requires-2 : goal.visit_term-prove-unreachable-requires-2
-visit_term-prove-unreachable-requires-2 t c =
-    let reads = term_reads c.scratch-scratch.ensures c.term_words-words.ensures.0 in
-    let k = args_ready c.requires reads c.if-kind-eq-VARIABLE.false (sym c.is_binder.ensures ∙ c.if-is_binder.false) c.visit_list.ensures c.in_ok-top.was in
-    grind (arith, nat_tests)
 
--- ---- an application
+pub visit_term-prove-unreachable-requires-in-Some-Application : goal.visit_term-prove-unreachable-requires-in-Some-Application
+visit_term-prove-unreachable-requires-in-Some-Application t c =
+    let reads = term_reads c.scratch-scratch.ensures c.term_words-words.ensures.0 in
+    let e = named c.term_words-words.result.kind c.of.ensures c.in-Some-Application.is c.in-Some-Application.field-0-is in
+    let k = args_ready c.requires reads (inl e) c.visit_list.ensures c.in_ok-top-in-Some-Application.was in
+    grind (arith, nat_tests)
 
 pub visit_term-close_application-requires : goal.visit_term-close_application-requires
 visit_term-close_application-requires t c =
     let k = term_words_lem c.requires (within c.scratch-scratch.ensures c.counts.ensures) in
     (k.0, k.1, c.term_words-words.ensures.1.first)
 
-pub visit_term-returns-then-kind-eq-APPLICATION : goal.visit_term-returns-then-kind-eq-APPLICATION
-visit_term-returns-then-kind-eq-APPLICATION t c =
+pub visit_term-returns-in_ok-top-in-Some-Application : goal.visit_term-returns-in_ok-top-in-Some-Application
+visit_term-returns-in_ok-top-in-Some-Application t c =
     let reads = term_reads c.scratch-scratch.ensures c.term_words-words.ensures.0 in
-    apply_done c.requires reads c.if-kind-eq-VARIABLE.false (sym c.is_binder.ensures ∙ c.if-is_binder.false) c.visit_list.ensures c.in_ok-top.was
-    c.if-kind-eq-APPLICATION.true c.close_application.ensures.0 c.close_application.ensures.1
+    let e = named c.term_words-words.result.kind c.of.ensures c.in-Some-Application.is c.in-Some-Application.field-0-is in
+    apply_done c.requires reads (inl e) c.visit_list.ensures c.in_ok-top-in-Some-Application.was e c.close_application.ensures.0
+    c.close_application.ensures.1
 
 -- ---- a let
+
+pub visit_term-visit_list-requires-in-Some-Let : goal.visit_term-visit_list-requires-in-Some-Let
+visit_term-visit_list-requires-in-Some-Let t c =
+    let reads = term_reads c.scratch-scratch.ensures c.term_words-words.ensures.0 in
+    let e = named c.term_words-words.result.kind c.of.ensures c.in-Some-Let.is c.in-Some-Let.field-0-is in
+    (omega (arith, c.decreases, left_le c.term_words-words.result.second), args_asks c.requires reads (inr e))
+
+pub visit_term-returns-in_err-top-in-Some-Let : goal.visit_term-returns-in_err-top-in-Some-Let
+visit_term-returns-in_err-top-in-Some-Let t c =
+    let reads = term_reads c.scratch-scratch.ensures c.term_words-words.ensures.0 in
+    let e = named c.term_words-words.result.kind c.of.ensures c.in-Some-Let.is c.in-Some-Let.field-0-is in
+    rw c.from_residual-in_err-top-in-Some-Let.ensures (args_full c.requires reads (inr e) c.visit_list-in-Some-Let.ensures c.in_err-top-in-Some-Let.was)
+
+-- the pairs are on the stack
+
+pub visit_term-prove-unreachable-requires-in-Some-Let : goal.visit_term-prove-unreachable-requires-in-Some-Let
+visit_term-prove-unreachable-requires-in-Some-Let t c =
+    let reads = term_reads c.scratch-scratch.ensures c.term_words-words.ensures.0 in
+    let e = named c.term_words-words.result.kind c.of.ensures c.in-Some-Let.is c.in-Some-Let.field-0-is in
+    let k = args_ready c.requires reads (inr e) c.visit_list-in-Some-Let.ensures c.in_ok-top-in-Some-Let.was in
+    grind (arith, nat_tests)
 
 pub visit_term-open_let-requires : goal.visit_term-open_let-requires
 visit_term-open_let-requires t c =
     let k = term_words_lem c.requires (within c.scratch-scratch.ensures c.counts.ensures) in
     (c.term_words-words.ensures.1.first, k.0)
 
-pub visit_term-returns-in_err-inner : goal.visit_term-returns-in_err-inner
-visit_term-returns-in_err-inner t c =
+pub visit_term-returns-in_err-inner-in-Some-Let : goal.visit_term-returns-in_err-inner-in-Some-Let
+visit_term-returns-in_err-inner-in-Some-Let t c =
     let reads = term_reads c.scratch-scratch.ensures c.term_words-words.ensures.0 in
-    rw c.from_residual-in_err-inner.ensures
-    (let_closed c.requires reads c.if-kind-eq-VARIABLE.false (sym c.is_binder.ensures ∙ c.if-is_binder.false) c.visit_list.ensures c.in_ok-top.was
-    c.if-kind-eq-APPLICATION.false c.open_let.ensures c.in_err-inner.was)
+    let e = named c.term_words-words.result.kind c.of.ensures c.in-Some-Let.is c.in-Some-Let.field-0-is in
+    rw c.from_residual-in_err-inner-in-Some-Let.ensures
+    (let_closed c.requires reads (inr e) c.visit_list-in-Some-Let.ensures c.in_ok-top-in-Some-Let.was e c.open_let.ensures c.in_err-inner-in-Some-Let.was)
 
-pub visit_term-visit_term-requires-2 : goal.visit_term-visit_term-requires-2
-visit_term-visit_term-requires-2 t c =
+pub visit_term-visit_term-requires-in-Some-Let : goal.visit_term-visit_term-requires-in-Some-Let
+visit_term-visit_term-requires-in-Some-Let t c =
     let reads = term_reads c.scratch-scratch.ensures c.term_words-words.ensures.0 in
-    let k = body_asks c.requires reads c.if-kind-eq-VARIABLE.false (sym c.is_binder.ensures ∙ c.if-is_binder.false) c.visit_list.ensures c.in_ok-top.was
-    c.if-kind-eq-APPLICATION.false c.open_let.ensures c.in_ok-inner.was in
+    let e = named c.term_words-words.result.kind c.of.ensures c.in-Some-Let.is c.in-Some-Let.field-0-is in
+    let k = body_asks c.requires reads (inr e) c.visit_list-in-Some-Let.ensures c.in_ok-top-in-Some-Let.was e c.open_let.ensures c.in_ok-inner-in-Some-Let.was in
     (omega (arith, c.decreases, k.1), k.0)
 
-pub visit_term-returns-in_err-body-2 : goal.visit_term-returns-in_err-body-2
-visit_term-returns-in_err-body-2 t c =
+pub visit_term-returns-in_err-body-in-Some-Let : goal.visit_term-returns-in_err-body-in-Some-Let
+visit_term-returns-in_err-body-in-Some-Let t c =
     let reads = term_reads c.scratch-scratch.ensures c.term_words-words.ensures.0 in
-    rw c.from_residual-in_err-body-2.ensures
-    (body_full c.requires reads c.if-kind-eq-VARIABLE.false (sym c.is_binder.ensures ∙ c.if-is_binder.false) c.visit_list.ensures c.in_ok-top.was
-    c.if-kind-eq-APPLICATION.false c.open_let.ensures c.in_ok-inner.was c.visit_term-2.ensures c.in_err-body-2.was)
+    let e = named c.term_words-words.result.kind c.of.ensures c.in-Some-Let.is c.in-Some-Let.field-0-is in
+    rw c.from_residual-in_err-body-in-Some-Let.ensures
+    (body_full c.requires reads (inr e) c.visit_list-in-Some-Let.ensures c.in_ok-top-in-Some-Let.was e c.open_let.ensures c.in_ok-inner-in-Some-Let.was c.visit_term-in-Some-Let.ensures c.in_err-body-in-Some-Let.was)
 
 -- a place for the body's pair
-pub visit_term-prove-unreachable-requires-3 : goal.visit_term-prove-unreachable-requires-3
-visit_term-prove-unreachable-requires-3 t c =
+
+pub visit_term-prove-unreachable-requires-in-Some-Let-2 : goal.visit_term-prove-unreachable-requires-in-Some-Let-2
+visit_term-prove-unreachable-requires-in-Some-Let-2 t c =
     let reads = term_reads c.scratch-scratch.ensures c.term_words-words.ensures.0 in
-    let k = body_ready c.requires reads c.if-kind-eq-VARIABLE.false (sym c.is_binder.ensures ∙ c.if-is_binder.false) c.visit_list.ensures c.in_ok-top.was
-    c.if-kind-eq-APPLICATION.false c.open_let.ensures c.in_ok-inner.was c.visit_term-2.ensures c.in_ok-body-2.was in
+    let e = named c.term_words-words.result.kind c.of.ensures c.in-Some-Let.is c.in-Some-Let.field-0-is in
+    let k = body_ready c.requires reads (inr e) c.visit_list-in-Some-Let.ensures c.in_ok-top-in-Some-Let.was e c.open_let.ensures c.in_ok-inner-in-Some-Let.was c.visit_term-in-Some-Let.ensures c.in_ok-body-in-Some-Let.was in
     omega (arith, k)
 
 pub visit_term-conclude-requires : goal.visit_term-conclude-requires
 visit_term-conclude-requires t c =
     let k = term_words_lem c.requires (within c.scratch-scratch.ensures c.counts.ensures) in
-    let fits = subst VisitFits c.in_ok-body-2.was c.visit_term-2.ensures.words in
-    (omega arith, k.0, k.1, fits.0)
+    let fits = subst VisitFits c.in_ok-body-in-Some-Let.was c.visit_term-in-Some-Let.ensures.words in
+    let n : c.number.result ≡ 5 = rule_number c.number.result LET c.number.ensures (λ e. cc) in
+    (omega (arith, n), k.0, k.1, fits.0)
 
-pub visit_term-returns : goal.visit_term-returns
-visit_term-returns t c =
+pub visit_term-returns-in_ok-body-in-Some-Let : goal.visit_term-returns-in_ok-body-in-Some-Let
+visit_term-returns-in_ok-body-in-Some-Let t c =
+    let n : c.number.result ≡ 5 = rule_number c.number.result LET c.number.ensures (λ z. cc) in
     let reads = term_reads c.scratch-scratch.ensures c.term_words-words.ensures.0 in
-    body_done c.requires reads c.if-kind-eq-VARIABLE.false (sym c.is_binder.ensures ∙ c.if-is_binder.false) c.visit_list.ensures c.in_ok-top.was
-    c.if-kind-eq-APPLICATION.false c.open_let.ensures c.in_ok-inner.was c.visit_term-2.ensures c.in_ok-body-2.was (pair c.pack.ensures.0 c.pack.ensures.1)
-    c.conclude.ensures.0 c.conclude.ensures.1
+    let e = named c.term_words-words.result.kind c.of.ensures c.in-Some-Let.is c.in-Some-Let.field-0-is in
+    body_done c.requires reads (inr e) c.visit_list-in-Some-Let.ensures c.in_ok-top-in-Some-Let.was e c.open_let.ensures c.in_ok-inner-in-Some-Let.was c.visit_term-in-Some-Let.ensures c.in_ok-body-in-Some-Let.was (pair c.pack.ensures.0 c.pack.ensures.1)
+    (rw n at c.conclude.ensures.0) c.conclude.ensures.1
+
+-- ---- no kind
+
+pub visit_term-unreachable-requires : goal.visit_term-unreachable-requires
+visit_term-unreachable-requires t c =
+    let reads = term_reads c.scratch-scratch.ensures c.term_words-words.ensures.0 in
+    term_kind c.requires reads (c.of.ensures ∙ ap kind_named c.in-None.is)

@@ -3,7 +3,6 @@ use mathlib.Core.Path.{refl, ◌∙◌}
 use native.Mathlib.Omega.{arith}
 use native.Mathlib.Nat.{mul-le-mul_right}
 use lib.ListN.{length}
-use Rattle.bundle.proofs.Fields.{record_within}
 use Rattle.logic.proofs.Tests.{numbers_of_lem}
 use Rattle.writer.proofs.JobTests.{closed_is, not_empty_lem, not_known, not_closed, all_hold}
 use Rattle.writer.proofs.jobs.job_fault.Goals as goal
@@ -25,35 +24,13 @@ free_sets-requires c =
       w.0,
       w.1,
       omega (arith, mul-le-mul_right (length c.args.bundle.now.terms) w.1, c.requires),
-      omega (arith, w.2, c.variables-variables.ensures.0),
+      omega (arith, w.2, c.variables.ensures.0),
     )
 
-pub overflow_sub-left : goal.overflow_sub-left
-overflow_sub-left c = (numbers_of_lem c.terms-terms.result c.claim_left-left.result c.if-not-left-terms.false).0
-
-pub overflow_mul-n : goal.overflow_mul-n
-overflow_mul-n c =
+pub of-requires : goal.of-requires
+of-requires c =
     let n = c.words_for-n in
-    let k = numbers_of_lem c.terms-terms.result c.claim_left-left.result c.if-not-left-terms.false in
-    omega (
-      arith,
-      record_within n.result c.terms-terms.result c.claim_left-left.result (λ z. omega (arith, k.0)) k.1,
-      mul-le-mul_right c.terms-terms.result n.ensures.1,
-      c.terms-terms.ensures.1,
-    )
-
-pub is_closed-requires : goal.is_closed-requires
-is_closed-requires c =
-    let n = c.words_for-n in
-    let k = numbers_of_lem c.terms-terms.result c.claim_left-left.result c.if-not-left-terms.false in
-    let room = rw (← c.terms-terms.ensures.0) at c.requires in
-    omega (
-      arith,
-      record_within n.result c.terms-terms.result c.claim_left-left.result (λ z. omega (arith, k.0)) k.1,
-      mul-le-mul_right c.terms-terms.result n.ensures.1,
-      room,
-      c.free_sets.auto.area,
-    )
+    omega (arith, mul-le-mul_right (length c.args.bundle.now.terms) n.ensures.1, c.requires, c.free_sets.auto.area)
 
 pub returns-then-not-is_closed : goal.returns-then-not-is_closed
 returns-then-not-is_closed c =
@@ -62,8 +39,8 @@ returns-then-not-is_closed c =
     let k = numbers_of_lem c.terms-terms.result c.claim_left-left.result c.if-not-left-terms.false in
     let empty = rw (c.contexts-contexts.ensures.0, c.steps-steps.ensures.0, c.claim_right-right.ensures.0) at c.if-not-contexts-steps.false in
     let known = rw (c.claim_left-left.ensures.0, c.terms-terms.ensures.0) at c.if-not-left-terms.false in
-    let closed = c.is_closed.ensures
-    ∙ closed_is b n.result (length c.args.sets.now) _ c.claim_left-left.ensures.0 c.variables-variables.ensures.0 n.ensures.0 n.ensures.2
+    let closed = rw c.of.ensures at c.is_closed.ensures
+    ∙ closed_is b n.result (length c.args.sets.now) _ c.claim_left-left.ensures.0 n.ensures.0 (omega (arith, n.ensures.2, c.variables.ensures.0))
     (omega (arith, mul-le-mul_right (length b.terms) n.ensures.1, c.requires)) c.free_sets.ensures k.0
     (omega (arith, k.1, c.terms-terms.ensures.0)) in
     (c.free_sets.auto.area, not_closed b c.is_closed.result closed empty known c.if-not-is_closed.true)
@@ -75,8 +52,8 @@ returns c =
     let k = numbers_of_lem c.terms-terms.result c.claim_left-left.result c.if-not-left-terms.false in
     let empty = rw (c.contexts-contexts.ensures.0, c.steps-steps.ensures.0, c.claim_right-right.ensures.0) at c.if-not-contexts-steps.false in
     let known = rw (c.claim_left-left.ensures.0, c.terms-terms.ensures.0) at c.if-not-left-terms.false in
-    let closed = c.is_closed.ensures
-    ∙ closed_is b n.result (length c.args.sets.now) _ c.claim_left-left.ensures.0 c.variables-variables.ensures.0 n.ensures.0 n.ensures.2
+    let closed = rw c.of.ensures at c.is_closed.ensures
+    ∙ closed_is b n.result (length c.args.sets.now) _ c.claim_left-left.ensures.0 n.ensures.0 (omega (arith, n.ensures.2, c.variables.ensures.0))
     (omega (arith, mul-le-mul_right (length b.terms) n.ensures.1, c.requires)) c.free_sets.ensures k.0
     (omega (arith, k.1, c.terms-terms.ensures.0)) in
     (c.free_sets.auto.area, all_hold b c.is_closed.result closed empty known c.if-not-is_closed.false)
