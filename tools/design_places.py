@@ -1,6 +1,7 @@
 #!/usr/bin/env python3
-"""design_places.py [POINT [-v]]: counts in crates/*/src the places that docs/DESIGN-PASS.md speaks of; -v lists them. Run it at the top."""
-import collections, glob, re, sys
+"""design_places.py [POINT [-v]]: counts in crates/*/src the places that docs/DESIGN-PASS.md speaks of; -v lists them. Run it at the top.
+`alike` and `zeros` in place of a point's number: two lists to look through, which the page's table does not count."""
+import collections, difflib, glob, itertools, re, sys
 
 
 def sources():
@@ -149,14 +150,34 @@ def point8():
             for l in open(f, encoding='utf-8') if re.match(r'pub [\w-]+ : goal\.', l)]
 
 
+def alike():
+    """pairs of bodies of any crates that are alike by nine parts in ten, names and numbers aside"""
+    kept = set('let mut if else match return for in while loop as true false Some None Ok Err self Self break'.split())
+    shapes = []
+    for f, n, p, r, c, b in functions():
+        words = re.findall(r'b?"[^"]*"|\w+|[^\s\w]', re.sub(r'//.*', '', b))
+        shapes.append((f, n, [w if w in kept or not re.match(r'[\w"]', w) else '0' if w[0].isdigit() else 'N' for w in words]))
+    found = []
+    for (f, n, a), (g, m, b) in itertools.combinations([s for s in shapes if len(s[2]) >= 28], 2):
+        if 5 * abs(len(a) - len(b)) <= len(a) + len(b):
+            likeness = difflib.SequenceMatcher(None, a, b, autojunk=False)
+            if likeness.quick_ratio() >= 0.9 and likeness.ratio() >= 0.9:
+                found.append((f, f'{n} ~ {g.replace("crates/", "").replace("/src", "")}  {m}'))
+    return found
+
+
+def zeros():
+    """comments that say of a result or a field that it is 0 where there is none"""
+    return [(f, l.strip()) for f, t in sources() for l in t.split('\n') if re.search(r'//.*\b0 (?:for|where|if|either|when)\b|//.*[;,(] ?0 (?:is|for) no', l)]
+
+
 if __name__ == '__main__':
-    points = [point1, point2, point3, point4, point5, point6, point7, point8]
+    points = {str(k): p for k, p in enumerate([point1, point2, point3, point4, point5, point6, point7, point8], 1)}
+    more = {'alike': alike, 'zeros': zeros}
     args = [a for a in sys.argv[1:] if a != '-v']
-    for k, p in enumerate(points, 1):
-        if args and str(k) not in args:
-            continue
+    for k, p in [(k, p) for k, p in {**points, **more}.items() if k in (args or points)]:
         found = p()
-        print(f'point {k}: {len(found)}   {p.__doc__}')
+        print(f'{"point " * k.isdigit()}{k}: {len(found)}   {p.__doc__}')
         if '-v' in sys.argv:
             for f, what in found:
                 print(f'    {f.replace("crates/", "").replace("/src", "")}  {what}')

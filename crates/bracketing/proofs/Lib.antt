@@ -2,7 +2,7 @@
 --     BracketLaws   brackets of a spelling, counted
 --     SortsOff      the sort of a formula, read off its spelling
 --     NodesOff      THE THEOREM: every node's test, read off a spelling
---     TextLaws      what follows a lexeme, what follows a formula
+--     TextLaws      what follows two lexemes, what follows a formula
 --     SortLaws      what a name names, the sort of the formula at the front
 pub mod BracketLaws
 pub mod SortsOff

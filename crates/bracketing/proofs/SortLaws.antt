@@ -3,6 +3,7 @@
 --     said_other, no_name                                a word that is no word for a sort, no name
 --     variable_is, symbol_is, variable_small             what a name names, by a count and by the bundle
 --     variable_found, variable_other, variable_missing   the answers of `sorts::variable_at`
+--     variable_in_is                                     the variable behind a bracket, by a count and by the bundle
 --     result_named, result_none, result_other            the answers of `sorts::result_of`
 --     sort_named, sort_none, sort_other                  the answers of `sorts::word_sort`
 --     Sorting, sort_over to inside_let                   the sort, as `sorts::sort_at` goes over lets
@@ -23,7 +24,7 @@ use Rattle.logic.proofs.Tests.{and_right}
 use Rattle.grammar.specs.Bytes as bytes
 use Rattle.grammar.specs.Grammar as grammar
 use Rattle.lexing.specs.Counted.{number_within, variable_among, symbol_among, Numbered}
-use Rattle.lexing.specs.Lexes.{lexemes_of, Found}
+use Rattle.lexing.specs.Lexes.{lexemes_of, Found, rest_of, Leaves}
 use Rattle.lexing.specs.Words.{word_in, lexeme_in}
 use Rattle.lexing.specs.declared.lexemes.Lexed.{Lexed}
 use Rattle.lexing.specs.declared.lexemes.Lexeme.{Lexeme}
@@ -32,9 +33,8 @@ use Rattle.lexing.specs.declared.words.Word.{Word}
 use Rattle.lexing.proofs.NumeralLaws.{counts_suffice}
 use Rattle.reading.specs.Called.{number_after, variable_called, symbol_called}
 use Rattle.reading.specs.Local.{alone_sort}
-use Rattle.bracketing.specs.Brackets.{front_of, rest_of, after_formula}
+use Rattle.bracketing.specs.Brackets.{front_of, after_formula}
 use Rattle.bracketing.specs.Nodes.{name_of, name_in, is_let, variable_in, word_sort, result_of, sort_from, sort_inside, sort_past}
-use Rattle.bracketing.specs.Texts.{Leaves}
 use Rattle.bracketing.proofs.SortsOff.{sort_past_lem}
 
 -- ---- the lexeme at the front
@@ -145,24 +145,36 @@ module _ (b : Bundle) where
 
 -- ---- the variable behind a bracket
 
-module _ (b : Bundle) {text rest : List ℕ} (there : Leaves text (rest_of (lexemes_of text)) rest) where
+module _ (n : ℕ) {text rest : List ℕ} (there : Leaves text (rest_of (lexemes_of text)) rest) where
   abbrev front : grammar.Lexeme
   front = front_of (lexemes_of rest)
 
-  named : variable_called b (name_in front) ≡ variable_in b (lexemes_of text)
-  unfolding variable_in
-  named = ap (λ ls. variable_called b (name_in (front_of ls))) there.lexemes
+  abbrev behind : grammar.Lexeme
+  behind = front_of (rest_of (lexemes_of text))
 
-  pub variable_found : (w : List ℕ) → front ≡ grammar.word (bytes.name w) → variable_called b w ≡ variable_in b (lexemes_of text)
+  named : variable_among n (name_in front) ≡ variable_among n (name_in behind)
+  named = ap (λ ls. variable_among n (name_in (front_of ls))) there.lexemes
+
+  none_among : variable_among n [] ≡ 0
+  unfolding number_within number_after
+  none_among = refl
+
+  pub variable_found : (w : List ℕ) → front ≡ grammar.word (bytes.name w) → variable_among n w ≡ variable_among n (name_in behind)
   unfolding name_in
-  variable_found w e = sym (ap (λ l. variable_called b (name_in l)) e) ∙ named
+  variable_found w e = sym (ap (λ l. variable_among n (name_in l)) e) ∙ named
 
-  pub variable_other : (w : Word) → ((u : _) → w ≡ Word.Name u → ⊥) → front ≡ grammar.word (word_in w) → variable_in b (lexemes_of text) ≡ 0
+  pub variable_other : (w : Word) → ((u : _) → w ≡ Word.Name u → ⊥) → front ≡ grammar.word (word_in w) → variable_among n (name_in behind) ≡ 0
   unfolding name_in
-  variable_other w ne e = sym named ∙ (ap (λ l. variable_called b (name_in l)) e ∙ (ap (variable_called b) (no_name w ne) ∙ no_variable b))
+  variable_other w ne e = sym named ∙ (ap (λ l. variable_among n (name_in l)) e ∙ (ap (variable_among n) (no_name w ne) ∙ none_among))
 
-  pub variable_missing : ((w : bytes.Word) → front ≡ grammar.word w → ⊥) → variable_in b (lexemes_of text) ≡ 0
-  variable_missing ne = sym named ∙ (ap (variable_called b) (nameless front ne) ∙ no_variable b)
+  pub variable_missing : ((w : bytes.Word) → front ≡ grammar.word w → ⊥) → variable_among n (name_in behind) ≡ 0
+  variable_missing ne = sym named ∙ (ap (variable_among n) (nameless front ne) ∙ none_among)
+
+-- the same by the bundle
+pub variable_in_is : (b : Bundle) {n : ℕ} → n ≡ length b.variables → (ls : List grammar.Lexeme)
+    → variable_among n (name_in (front_of (rest_of ls))) ≡ variable_in b ls
+unfolding variable_in
+variable_in_is b e ls = variable_is b (name_in (front_of (rest_of ls))) e
 
 -- ---- the sort of a word
 

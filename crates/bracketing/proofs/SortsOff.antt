@@ -3,17 +3,14 @@
 --     sort_off    THE LAW: the sort at the front of a spelling is the formula's, by its head
 use Prim.Native.Nat.{ℕ, zero, suc}
 use mathlib.Core.Path.{◌≡◌, refl, sym, ap, ◌∙◌}
-use mathlib.Core.Bool.{Bool, true, false, cond}
 use mathlib.Core.List.{List, [], ◌∷◌}
-use lib.Dec.{eqb}
 use Rattle.bundle.specs.Bundle.{Bundle}
-use Rattle.logic.specs.Symbols.{truth_sort, signature_of, result_sort}
-use Rattle.grammar.specs.Bytes.{Connective, conjunction, disjunction, implication, equality}
+use Rattle.logic.specs.Symbols.{signature_of}
 use Rattle.grammar.specs.Grammar.{Formula, called, truth, bracketed, Bracketed, denies, connects, applies, quantifies, lets, and_binding}
 use Rattle.grammar.specs.Grammar.{Lexeme, opens, closes, spell, spell_bracketed, spell_bindings}
 use Rattle.reading.specs.Called.{number_after, variable_called, symbol_called}
-use Rattle.reading.specs.Typing.{connective_symbol}
 use Rattle.reading.specs.Local.{alone_sort, head_sort, inside_sort}
+use Rattle.reading.proofs.TypingExactly.{join_result}
 use Rattle.bracketing.specs.Brackets.{open_after, if_none, skip}
 use Rattle.bracketing.specs.Nodes.{word_sort, result_of, sort_from, sort_inside, sort_past}
 use Rattle.bracketing.proofs.BracketLaws.{skip_binding_list}
@@ -33,18 +30,6 @@ module _ (b : Bundle) where
   sort_past_lem n [] = refl
   sort_past_lem n (l ∷ ls) = past_on n l ls (sort_past_lem (open_after l n) ls)
 
-  -- and, or, => and = make truths
-  connective_truth : (c : Connective) (s : ℕ) → result_sort b (signature_of b (connective_symbol c s)) ≡ truth_sort
-  unfolding connective_symbol signature_of result_sort
-  connective_truth conjunction s = refl
-  connective_truth disjunction s = refl
-  connective_truth implication s = refl
-  connective_truth equality s = go (eqb s truth_sort)
-    where
-      go : (p : Bool) → result_sort b (signature_of b (cond p 7 8)) ≡ truth_sort
-      go true = refl
-      go false = refl
-
   mutual
     unfolding sort_from head_sort spell word_sort result_of number_after variable_called symbol_called alone_sort signature_of
 
@@ -55,7 +40,7 @@ module _ (b : Bundle) where
 
     sort_inside_lem : (φ : Bracketed) (rest : List Lexeme) → sort_inside b (spell_bracketed φ rest) ≡ inside_sort b φ
     sort_inside_lem (denies φ) rest = refl
-    sort_inside_lem (connects c φ ψ) rest = sym (connective_truth c (head_sort b φ))
+    sort_inside_lem (connects c φ ψ) rest = sym (join_result b c (head_sort b φ))
     sort_inside_lem (applies f φ φs) rest = refl
     sort_inside_lem (quantifies q x xs φ) rest = refl
     sort_inside_lem (lets x φ xs ψ) rest =

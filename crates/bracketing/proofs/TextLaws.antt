@@ -1,7 +1,7 @@
--- What is left of a text: what follows a lexeme, what follows a formula.
---     leaves_all, leaves_next, leaves_two        what follows a lexeme, and what follows two
---     starts_not, starts_next                    whether a part starts here
---     Skipping, skip_over, skip_here, skip_next  a formula skipped, as `brackets::after_formula` goes over it
+-- What is left of a text: what follows two lexemes, what follows a formula.
+--     leaves_two                                             what follows two lexemes
+--     starts_not, starts_next                                whether a part starts here
+--     Skipping, skip_start, skip_over, skip_here, skip_next  a formula skipped, as `brackets::after_formula` goes over it
 use Prim.Native.Nat.{ℕ, zero, suc, ◌+◌, ◌-◌, ◌≤◌, ◌<◌}
 use native.Mathlib.Omega.{arith}
 use mathlib.Core.Path.{◌≡◌, refl, sym, ap, ◌∙◌}
@@ -9,28 +9,21 @@ use mathlib.Core.Bool.{true, false}
 use mathlib.Core.List.{List, [], ◌∷◌}
 use lib.ListN.{length}
 use Rattle.grammar.specs.Grammar.{Lexeme, opens, closes, word, stray}
-use Rattle.lexing.specs.Lexes.{lexemes_of, Found}
+use Rattle.lexing.specs.Lexes.{lexemes_of, Found, Tail, rest_of, Leaves}
 use Rattle.lexing.specs.Words.{lexeme_in}
 use Rattle.lexing.specs.declared.lexemes.Lexed.{Lexed}
 use Rattle.lexing.specs.declared.lexemes.Lexeme as code
-use Rattle.bracketing.specs.Brackets.{rest_of, one_less, open_after, if_none, skip, after_formula, starts_part}
-use Rattle.bracketing.specs.Texts.{Leaves}
+use Rattle.lexing.proofs.Tails.{tail_self, tail_after}
+use Rattle.bracketing.specs.Brackets.{one_less, open_after, if_none, skip, after_formula, starts_part}
 
--- ---- after a lexeme
+-- ---- after two lexemes
 
 module _ (text : List ℕ) where
-  pub leaves_all : lexemes_of text ≡ [] → Leaves text (rest_of (lexemes_of text)) text
-  unfolding rest_of
-  leaves_all e = record { lexemes = e ∙ sym (ap rest_of e); fewer = omega arith; moves = λ ne. absurd (ne e) }
-
-  pub leaves_next : (l : Lexed) → Found text l → Leaves text (rest_of (lexemes_of text)) l.rest.now
-  unfolding rest_of
-  leaves_next l f = record { lexemes = sym (ap rest_of f.next); fewer = omega (arith, f.fewer); moves = λ ne. f.fewer }
-
   pub leaves_two : (rest last : List ℕ) → Leaves text (rest_of (lexemes_of text)) rest → Leaves rest (rest_of (lexemes_of rest)) last
       → Leaves text (rest_of (rest_of (lexemes_of text))) last
   leaves_two rest last h g = record {
     lexemes = g.lexemes ∙ ap rest_of h.lexemes;
+    tail = tail_after h.tail g.tail;
     fewer = omega (arith, g.fewer, h.fewer);
     moves = λ ne. omega (arith, g.fewer, h.moves ne);
   }
@@ -69,14 +62,19 @@ open_few stray n = omega arith
 -- what is left of the text once its first formula is skipped up to where n of its brackets are open
 pub record Skipping (text : List ℕ) (n : ℕ) (rest : List ℕ) : Type 0 where
   pub few : n + length rest ≤ length text
+  pub tail : Tail text rest
   pub start : n ≡ 0 → rest ≡ text
   pub same : skip n (lexemes_of rest) ≡ after_formula (lexemes_of text)
+
+pub skip_start : (text : List ℕ) → Skipping text 0 text
+skip_start text = record { few = omega arith; tail = tail_self text; start = λ z. refl; same = refl }
 
 module _ {text : List ℕ} {n : ℕ} {rest : List ℕ} (s : Skipping text n rest) where
   pub skip_over : lexemes_of rest ≡ [] → Leaves text (after_formula (lexemes_of text)) rest
   unfolding skip
   skip_over e = record {
     lexemes = e ∙ (sym (ap (skip n) e) ∙ s.same);
+    tail = s.tail;
     fewer = omega (arith, s.few);
     moves = λ some. go n refl some;
   }
@@ -94,6 +92,7 @@ module _ {text : List ℕ} {n : ℕ} {rest : List ℕ} (s : Skipping text n rest
     unfolding if_none
     skip_here z = record {
       lexemes = sym (ap (λ k. if_none k (lexemes_of l.rest.now) (skip k (lexemes_of l.rest.now))) z) ∙ turned;
+      tail = tail_after s.tail f.tail;
       fewer = omega (arith, s.few, f.fewer);
       moves = λ some. omega (arith, s.few, f.fewer);
     }
@@ -102,6 +101,7 @@ module _ {text : List ℕ} {n : ℕ} {rest : List ℕ} (s : Skipping text n rest
     unfolding if_none
     skip_next nz = record {
       few = omega (arith, s.few, f.fewer, e, open_few (lexeme_in l.lexeme) n);
+      tail = tail_after s.tail f.tail;
       start = λ z. absurd (nz z);
       same = sym (go m nz) ∙ turned;
     }

@@ -2,14 +2,10 @@
 use Rattle.std.specs.Prelude.{ℕ, zero, suc, Bool, true, false, cond, not, List, [], ◌∷◌}
 use Rattle.grammar.specs.Grammar.{Lexeme, opens, closes, word, stray}
 
--- the lexeme at the front, a stray one where there is none; and what follows it
+-- the lexeme at the front, a stray one where there is none; what follows it is `rest_of` of lexing
 unfoldable pub front_of : List Lexeme → Lexeme
 front_of [] = stray
 front_of (l ∷ ls) = l
-
-unfoldable pub rest_of : List Lexeme → List Lexeme
-rest_of [] = []
-rest_of (l ∷ ls) = ls
 
 unfoldable pub is_opening : Lexeme → Bool
 is_opening opens = true

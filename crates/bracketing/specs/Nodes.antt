@@ -11,7 +11,8 @@ use Rattle.grammar.specs.Names.{names, all_known}
 use Rattle.reading.specs.Called.{variable_called, symbol_called, known_in}
 use Rattle.reading.specs.Typing.{sort_number}
 use Rattle.reading.specs.Local.{alone_sort, alone_fine, accepts, head_sort, fine}
-use Rattle.bracketing.specs.Brackets.{front_of, rest_of, is_opening, open_after, if_none, after_formula, parts_from, skip, parts}
+use Rattle.lexing.specs.Lexes.{rest_of}
+use Rattle.bracketing.specs.Brackets.{front_of, is_opening, open_after, if_none, after_formula, parts_from, skip, parts}
 
 -- ---- words
 

@@ -1,17 +1,10 @@
--- What code finds at the front of a text: the lexemes behind some, a word, a word for a sort.
-use Rattle.std.specs.Prelude.{ℕ, Option, None, Some, ◌≤◌, ◌<◌, ◌≡◌, List, [], length}
+-- What code finds at the front of a text: a word, a word for a sort.
+use Rattle.std.specs.Prelude.{Option, None, Some, ◌≡◌}
 use Rattle.grammar.specs.Bytes as bytes
 use Rattle.grammar.specs.Grammar.{Lexeme, word}
-use Rattle.lexing.specs.Lexes.{lexemes_of}
 use Rattle.lexing.specs.Words.{sort_in, word_in}
 use Rattle.lexing.specs.declared.words.SortWord.{SortWord}
 use Rattle.lexing.specs.declared.words.Word.{Word}
-
--- Of the text there is left what has the lexemes ls; it is shorter where there was a lexeme.
-pub record Leaves (text : List ℕ) (ls : List Lexeme) (rest : List ℕ) : Type 0 where
-  pub lexemes : lexemes_of rest ≡ ls
-  pub fewer : length rest ≤ length text
-  pub moves : (lexemes_of text ≡ [] → ⊥) → length rest < length text
 
 -- the word that a lexeme is, as code has it
 abbrev pub Worded : Lexeme → Option Word → Type 0

@@ -1,11 +1,10 @@
-// Brackets counted: what follows a lexeme, what follows a formula.
+// Brackets counted: what follows a bracket and a name, what follows a formula.
 ghost use Rattle.std.specs.Prelude.{◌≡◌, ◌<◌};
 ghost use Rattle.lexing.specs.Words.{lexeme_in};
-ghost use Rattle.lexing.specs.Lexes.{lexemes_of};
-ghost use Rattle.bracketing.specs.Brackets.{rest_of, open_after, after_formula, starts_part};
-ghost use Rattle.bracketing.specs.Texts.{Leaves};
+ghost use Rattle.lexing.specs.Lexes.{lexemes_of, rest_of, Leaves};
+ghost use Rattle.bracketing.specs.Brackets.{open_after, after_formula, starts_part};
 
-use lexing::lexemes::{Lexeme, next_lexeme};
+use lexing::lexemes::{Lexeme, after_lexeme, next_lexeme};
 
 // How many brackets are open after a lexeme, where n were before it.
 #[tactic(auto, using(crate::proofs::TextLaws::less_one), unfolding(crate::specs::Brackets::open_after))]
@@ -17,16 +16,6 @@ fn open_after(lexeme: Lexeme, n: usize) -> usize
         Lexeme::Opens => n + 1,
         Lexeme::Closes => n.saturating_sub(1),
         Lexeme::Stray | Lexeme::Word(_) => n,
-    }
-}
-
-// What follows the first lexeme.
-pub fn after_lexeme<'a>(text: &'a [u8]) -> &'a [u8]
-    ensures { Leaves text.now (rest_of (lexemes_of text.now)) result.now }
-{
-    match next_lexeme(text) {
-        Some(l) => l.rest,
-        None => text,
     }
 }
 

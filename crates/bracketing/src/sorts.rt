@@ -1,16 +1,16 @@
 // What a word names, and the sort of the formula at the front of a text.
 ghost use Rattle.std.specs.Prelude.{IfSome, ◌≡◌, ◌≤◌};
 ghost use Rattle.bundle.specs.Limits.{limits};
-ghost use Rattle.lexing.specs.Counted.{Numbered};
+ghost use Rattle.lexing.specs.Counted.{Numbered, variable_among};
 ghost use Rattle.lexing.specs.Words.{word_in};
-ghost use Rattle.lexing.specs.Lexes.{lexemes_of};
+ghost use Rattle.lexing.specs.Lexes.{lexemes_of, rest_of};
 ghost use Rattle.bracketing.specs.Brackets.{front_of};
-ghost use Rattle.bracketing.specs.Nodes.{variable_in, word_sort, result_of, sort_from};
+ghost use Rattle.bracketing.specs.Nodes.{name_in, word_sort, result_of, sort_from};
 ghost use Rattle.bracketing.specs.Texts.{Worded, Says};
 
-use super::brackets::{after_formula, after_lexeme};
+use super::brackets::after_formula;
 use bundle::Bundle;
-use lexing::lexemes::{Lexeme, next_lexeme};
+use lexing::lexemes::{Lexeme, after_lexeme, next_lexeme};
 use lexing::names::{symbol_called, variable_called};
 use lexing::words::{SortWord, Word};
 use sorting::sorts::{result_sort, signature_of};
@@ -25,13 +25,14 @@ fn word_at<'a>(text: &'a [u8]) -> Option<Word<'a>>
     }
 }
 
-// The variable after the bracket at the front.
-pub fn variable_at(bundle: &Bundle, text: &[u8]) -> Option<usize>
-    ensures called { Numbered (variable_in bundle.now (lexemes_of text.now)) result }
+// The variable after the bracket at the front, where so many are declared.
+pub fn variable_at(variables: usize, text: &[u8]) -> Option<usize>
+    requires { variables ≤ limits.variables }
+    ensures called { Numbered (variable_among variables (name_in (front_of (rest_of (lexemes_of text.now))))) result }
     ensures small { IfSome result (λ x. x ≤ limits.variables) }
 {
     match word_at(after_lexeme(text))? {
-        Word::Name(name) => variable_called(bundle.variables(), name),
+        Word::Name(name) => variable_called(variables, name),
         _ => None,
     }
 }

@@ -72,7 +72,7 @@ impl<'b, L: Links> Iterator for Items<'b, L> {
     }
 }
 
-// The link after link i, whose next is so: 0 where the list ends there.
+// The link after link i, whose next is so: 0 where the list ends there. Link 0 is no link, here as in the file.
 pub fn followed(links: usize, i: usize, next: usize) -> usize
     ensures { result ≡ follows links i next }
 {

@@ -262,7 +262,7 @@ impl Counts {
         self.contexts_at() + 4 * self.contexts
     }
 
-    // The words of section s.
+    // The words of section s: by number, since all that ask go over the sections in their order.
     pub fn extent(self, s: usize) -> usize
         requires { Within self × (s < sections) }
         ensures { result ≡ extent_of self s }

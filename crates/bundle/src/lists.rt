@@ -63,14 +63,14 @@ impl<'a> Bundle<'a> {
         true
     }
 
-    // The first item of a list, 0 for none: a link that is none reads zeros.
+    // The first item of a list; 0 for none, and no `Option`: a link that is none reads zeros, and what the item is compared with are records' fields.
     pub fn first_item(&self, list: usize) -> usize
         ensures { result ≡ first_of (items self.now list) }
     {
         self.link_field(list, 0)
     }
 
-    // The second item of a list, 0 for none.
+    // The second item of a list; 0 for none, as above.
     pub fn second_item(&self, list: usize) -> usize
         ensures { result ≡ second_of (items self.now list) }
     {
@@ -78,7 +78,7 @@ impl<'a> Bundle<'a> {
         self.link_field(second, 0)
     }
 
-    // The last item of a list, 0 for none.
+    // The last item of a list; 0 for none, as above.
     pub fn last_item(&self, list: usize) -> usize
         ensures { result ≡ last_of (items self.now list) }
     {

@@ -6,6 +6,8 @@ ghost use Rattle.bundle.specs.LinkNotes.{LowerNoted};
 
 use super::Bundle;
 
+// Notes are bytes and no `bool`s: clauses speak of lists of numbers.
+
 impl<'a> Bundle<'a> {
     // Whether each item from link `start` on is 1 to n: up to a link from which that is noted. Each link on the way is noted before the rest of its
     // list is known, so what is noted holds only where the answer is yes.

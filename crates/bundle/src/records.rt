@@ -87,6 +87,7 @@ fn link_in(section: &[u8], i: usize) -> LinkWords
     }
 }
 
+// Field k of record i: a field is told by its number, as in the definitions.
 impl<'a> Bundle<'a> {
     pub fn symbol_field(&self, i: usize, k: usize) -> usize
         requires { k < 2 }
@@ -129,7 +130,7 @@ impl<'a> Bundle<'a> {
         field(self.steps, 5, self.counts.steps, i, k)
     }
 
-    // The words of term i.
+    // The words of term i. `Scratch` has its own, alike: the fields are read from another memory.
     pub fn term_words(&self, i: usize) -> TermWords
         ensures { as_term result ≡ term_of self.now i }
     {

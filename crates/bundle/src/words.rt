@@ -1,17 +1,10 @@
 // Words of a file of bytes, and what its header says.
 ghost use Rattle.std.specs.Prelude.{◌≡◌, ◌+◌, ◌*◌, ◌≤◌, length};
-ghost use Rattle.bundle.specs.Words.{joined_of, word_at};
+ghost use Rattle.bundle.specs.Words.{word_at};
 ghost use Rattle.bundle.specs.Limits.{least_bytes, header_words, left_word, right_word};
 ghost use Rattle.bundle.specs.File.{counts_of};
 
 use super::{Bundle, Counts};
-
-// Four bytes as one little-endian word. The bytes come by value, so their range is known.
-fn joined(a: u8, b: u8, c: u8, d: u8) -> u32
-    ensures { result ≡ joined_of a b c d }
-{
-    a as u32 + 256 * (b as u32) + 65536 * (c as u32) + 16777216 * (d as u32)
-}
 
 // A word as a number that can be an index: the library has no `From<u32> for usize`.
 pub fn wide(x: u32) -> usize
@@ -29,12 +22,13 @@ pub fn as_word(x: usize) -> u32
 }
 
 // Word k of the file, as a number that can be an index.
+#[tactic(auto, unfolding(crate::specs::Words::word_at))]
 pub fn word_at(file: &[u8], k: usize) -> usize
     requires { 4 * k + 4 ≤ length file.now }
     ensures { (result ≡ word_at file.now k) × (result ≤ 4294967295) }
 {
     let a = 4 * k;
-    wide(joined(file[a], file[a + 1], file[a + 2], file[a + 3]))
+    wide(u32::from_le_bytes([file[a], file[a + 1], file[a + 2], file[a + 3]]))
 }
 
 // The claim's left term, and its right term, as the header has them.

@@ -147,7 +147,8 @@ fn sorted_fault(sorted: &SortedBundle, free: &mut [u64]) -> Result<usize, Failur
     Ok(pairs)
 }
 
-// The same, with room for the sorts: a file with few terms gets little.
+// The same, with room for the sorts: a file with few terms gets little. As noted_sections of terms: tried as one function that takes a closure, and what the
+// closure leaves in the area was not proved.
 fn noted_fault(bundle: &Bundle, free: &mut [u64]) -> Result<usize, Failure>
     requires { set_words * length bundle.now.terms ≤ length free.old }
     ensures fact { Found (or_next (sections_fault bundle.now) (late_fault bundle.now)) bundle.now result }

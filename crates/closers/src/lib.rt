@@ -1,9 +1,11 @@
 // What a visit opens and closes with, each against its definition without limits. `None` as soon as a section would pass its limit.
 #![tactic(auto)]
 
-ghost use Rattle.std.specs.Prelude.{◌≡◌, true, false, [], ◌∷◌, ◌≤◌};
+ghost use Rattle.std.specs.Prelude.{◌≡◌, true, false, ℕ, List, ◌≤◌};
 ghost use Rattle.bundle.specs.Words.{largest_word};
+ghost use Rattle.bundle.specs.Bundle.{Bundle};
 ghost use Rattle.logic.specs.Named.{binder_in};
+ghost use Rattle.logic.specs.Longer.{add_list, list_start};
 ghost use Rattle.scratch.specs.Stack.{halves_of};
 ghost use Rattle.expansion.specs.Nodes.{leaf};
 ghost use Rattle.expansion.specs.Visit.{visit, concluded, replacing, renaming, open_binder, close_application, close_binder};
@@ -18,13 +20,15 @@ use placing::{
     Opened, Visited, add_context, add_halves, add_step, add_value, place_application, place_binder,
     place_fresh,
 };
+use scratch::appends::Appends;
 
 // ---- A list, and then a record. Words are `usize` (see crate `scratch`, appends.rt). Context and term are no struct: they stand in the order of the
-// definitions, and each call would take one apart again for the step's words.
+// definitions, and each call would take one apart again for the step's words. What appends no term takes a scratch, filed or not.
 
-// The step of a visit whose premises are the lower halves of pairs.
-pub fn conclude(
-    filed: &mut Filed<'_>,
+// The step of a visit whose premises are the lower halves of pairs. The rule by number: 0 too may be given, which is no rule's, so a `Rule` would ask for
+// more.
+pub fn conclude<S: Appends>(
+    scratch: &mut S,
     rule: usize,
     context: usize,
     left: usize,
@@ -32,11 +36,12 @@ pub fn conclude(
     pairs: &[u64],
 ) -> Option<Visited>
     requires { (rule ≤ 5) × (context ≤ largest_word) × (left ≤ largest_word) × (right ≤ largest_word) }
-    ensures { VisitOutcome (concluded filed.old rule context left right (halves_of false pairs.now)) filed.new result × VisitFits result }
+    ensures { VisitOutcome (concluded (S.bundle scratch.old) rule context left right (halves_of false pairs.now)) (S.bundle scratch.new) result
+        × VisitFits result }
 {
-    let premises = add_halves(filed, pairs, false)?;
+    let premises = add_halves(scratch, pairs, false)?;
     add_step(
-        filed,
+        scratch,
         StepWords {
             rule,
             context,
@@ -47,63 +52,60 @@ pub fn conclude(
     )
 }
 
+// A context that replaces the variables of a list by the terms ts, whose list was just appended to b: it starts at `terms`.
+fn open_replacing<S: Appends>(
+    scratch: &mut S,
+    variables: usize,
+    parent: usize,
+    terms: usize,
+) -> Option<usize>
+    requires { (variables ≤ largest_word) × (parent ≤ largest_word) × (terms ≤ largest_word) }
+    ensures { (b : Bundle) (ts : List ℕ) → S.bundle scratch.old ≡ add_list b ts → terms ≡ list_start b ts
+        → OpenOutcome (replacing b variables parent ts) (S.bundle scratch.new) result }
+{
+    add_context(
+        scratch,
+        ContextWords {
+            kind: Entry::Replaces.number(),
+            first: variables,
+            second: terms,
+            parent,
+        },
+    )
+}
+
 // A context that replaces the variables of a list by the upper halves of pairs.
-pub fn open_let(
-    filed: &mut Filed<'_>,
+pub fn open_let<S: Appends>(
+    scratch: &mut S,
     variables: usize,
     parent: usize,
     pairs: &[u64],
 ) -> Option<usize>
     requires { (variables ≤ largest_word) × (parent ≤ largest_word) }
-    ensures { OpenOutcome (replacing filed.old variables parent (halves_of true pairs.now)) filed.new result }
+    ensures { OpenOutcome (replacing (S.bundle scratch.old) variables parent (halves_of true pairs.now)) (S.bundle scratch.new) result }
 {
-    let second = add_halves(filed, pairs, true)?;
-    add_context(
-        filed,
-        ContextWords {
-            kind: Entry::Replaces.number(),
-            first: variables,
-            second,
-            parent,
-        },
-    )
-}
-
-// A context that replaces the variables of a list by one term.
-fn open_one(filed: &mut Filed<'_>, variables: usize, parent: usize, term: usize) -> Option<usize>
-    requires { (variables ≤ largest_word) × (parent ≤ largest_word) × (term ≤ largest_word) }
-    ensures { OpenOutcome (replacing filed.old variables parent (term ∷ [])) filed.new result }
-{
-    let second = add_value(filed, term)?;
-    add_context(
-        filed,
-        ContextWords {
-            kind: Entry::Replaces.number(),
-            first: variables,
-            second,
-            parent,
-        },
-    )
+    let terms = add_halves(scratch, pairs, true)?;
+    open_replacing(scratch, variables, parent, terms)
 }
 
 // ---- Variable
 
 // REFL from the term, which is variable x, to the image of x.
-pub fn close_variable(
-    filed: &mut Filed<'_>,
+pub fn close_variable<S: Appends>(
+    scratch: &mut S,
     context: usize,
     term: usize,
     x: usize,
 ) -> Option<Visited>
     requires { (context ≤ largest_word) × (term ≤ largest_word) }
-    ensures { VisitOutcome (visit (leaf term x) context filed.old) filed.new result × VisitFits result }
+    ensures { VisitOutcome (visit (leaf term x) context (S.bundle scratch.old)) (S.bundle scratch.new) result × VisitFits result }
 {
-    let right = match filed.scratch().image(context, x) {
+    let right = match scratch.image(context, x) {
         Image::Own => term,
         Image::Gives(t) => t,
     };
     add_step(
-        filed,
+        scratch,
         StepWords {
             rule: Rule::Refl.number(),
             context,
@@ -132,18 +134,18 @@ pub fn close_application(
 }
 
 // The contexts of a quantifier over x whose new variable is y, with the term t: y fixed, then x replaced by t.
-fn open_renaming(
-    filed: &mut Filed<'_>,
+fn open_renaming<S: Appends>(
+    scratch: &mut S,
     x: usize,
     y: usize,
     t: usize,
     parent: usize,
 ) -> Option<usize>
     requires { (x ≤ largest_word) × (y ≤ largest_word) × (t ≤ largest_word) × (parent ≤ largest_word) }
-    ensures { OpenOutcome (renaming filed.old x y t parent) filed.new result }
+    ensures { OpenOutcome (renaming (S.bundle scratch.old) x y t parent) (S.bundle scratch.new) result }
 {
     let context = add_context(
-        filed,
+        scratch,
         ContextWords {
             kind: Entry::Fixes.number(),
             first: y,
@@ -151,8 +153,9 @@ fn open_renaming(
             parent,
         },
     )?;
-    let variables = add_value(filed, x)?;
-    open_one(filed, variables, context, t)
+    let variables = add_value(scratch, x)?;
+    let terms = add_value(scratch, t)?;
+    open_replacing(scratch, variables, context, terms)
 }
 
 // The new variable, its term and the contexts of a quantifier over x. Its result binds the new variable.

@@ -1,6 +1,7 @@
 -- What the arrays hold of the binders crossed.
 --     places_none        zeros, where none is crossed
---     left_at, right_at, left_past, right_past     a place that was read, and that of a number that is no variable's
+--     left_at, right_at        a place that was read
+--     left_half, right_half    each side's half of the places
 --     places_crossed     a binder more
 --     places_uncrossed   one less: the places that its variables had before are put back
 use mathlib.Core.Path.{◌≡◌, refl, sym, ap, ◌∙◌}
@@ -10,8 +11,8 @@ use Prim.Native.Nat.{ℕ, zero, suc, ◌+◌, ◌*◌, ◌-◌, ◌/◌, ◌%◌
 use native.Mathlib.Omega.{arith}
 use native.Mathlib.Numerals.{add-one}
 use native.Mathlib.Decide.{ℕ_discrete}
-use lib.ListN.{length, get_or, set, replicate, length-set, length-replicate}
-use lib.Seq.{get_or-set_same, get_or-set_other}
+use lib.ListN.{length, get_or, set, take, drop, replicate, length-set, length-drop, length-replicate}
+use lib.Seq.{get_or-set_same, get_or-set_other, get_or-take, get_or-drop, length-take-le}
 use lib.Dec.{eqb}
 use borrow.Author.Tests.{eq-eqb, ne_eqb}
 use Rattle.bundle.specs.Lists.{has}
@@ -19,8 +20,8 @@ use Rattle.sets.specs.Sets.{bit_at, holds, member, inserted, removed}
 use Rattle.sets.proofs.Digits.{bit_none}
 use Rattle.sets.proofs.Members.{holds_small, member_inserted, member_removed, changed_length}
 use Rattle.logic.specs.ReflWalk.{Crossed, lefts, rights}
-use Rattle.crossings.specs.Places.{stamp, Places}
-use Rattle.crossings.proofs.Stamps.{stamp_past, has_stamp, lefts_length, rights_length}
+use Rattle.crossings.specs.Places.{stamp, Half, Places}
+use Rattle.crossings.proofs.Stamps.{has_stamp, lefts_length, rights_length}
 
 -- ---- nothing crossed
 
@@ -51,14 +52,27 @@ module _ (variables n : ℕ) (w m : List ℕ) (ps : Crossed) (known : Places var
   pub left_at : (x : ℕ) → 1 ≤ x → x ≤ variables → {t : ℕ} → t ≡ get_or w (x - 1) 0 → t ≡ stamp (lefts ps) x
   left_at x one few e = e ∙ known.left x one few
 
-  pub left_past : (x : ℕ) → ((1 ≤ x) × (x ≤ variables) → ⊥) → 0 ≡ stamp (lefts ps) x
-  left_past x out = sym (stamp_past variables (lefts ps) known.lefts_known x out)
-
   pub right_at : (y : ℕ) → 1 ≤ y → y ≤ variables → {t : ℕ} → t ≡ get_or w (variables + (y - 1)) 0 → t ≡ stamp (rights ps) y
   right_at y one few e = e ∙ known.right y one few
 
-  pub right_past : (y : ℕ) → ((1 ≤ y) × (y ≤ variables) → ⊥) → 0 ≡ stamp (rights ps) y
-  right_past y out = sym (stamp_past variables (rights ps) known.rights_known y out)
+  -- each side's half
+  pub left_half : Half (take variables w) (lefts ps)
+  left_half =
+      let all : length (take variables w) ≡ variables = length-take-le variables w (omega (arith, known.long)) in
+      record {
+        place = λ x one few. get_or-take variables w (x - 1) 0 (omega (arith, one, few, all)) ∙ known.left x one (omega (arith, few, all));
+        known = rw all known.lefts_known;
+      }
+
+  pub right_half : Half (take (variables + variables - variables) (drop variables w)) (rights ps)
+  right_half =
+      let m = variables + variables - variables in
+      let all : length (take m (drop variables w)) ≡ variables = length-take-le m (drop variables w) (rw length-drop (omega (arith, known.long))) ∙ omega arith in
+      record {
+        place = λ y one few. get_or-take m (drop variables w) (y - 1) 0 (omega (arith, one, few, all)) ∙ get_or-drop variables w (y - 1) 0
+            ∙ known.right y one (omega (arith, few, all));
+        known = rw all known.rights_known;
+      }
 
 -- ---- places written: s at x on the left, t at y on the right
 

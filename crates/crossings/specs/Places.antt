@@ -1,6 +1,6 @@
 -- What the walk of whole-term REFL knows of the binders that it has crossed, in two arrays: the places of the variables among them, so that a crossed
 -- variable is looked up by one load, and the set of the variables that are bound on the right.
-use Rattle.std.specs.Prelude.{ℕ, suc, ◌+◌, ◌*◌, ◌-◌, ◌≤◌, ◌≡◌, cond, List, [], ◌∷◌, length, get_or, eqb}
+use Rattle.std.specs.Prelude.{ℕ, suc, ◌+◌, ◌-◌, ◌≤◌, ◌≡◌, cond, List, [], ◌∷◌, length, get_or, eqb}
 use Rattle.bundle.specs.Lists.{has}
 use Rattle.sets.specs.Sets.{member}
 use Rattle.free_variables.specs.TermSets.{TermSets, Words}
@@ -12,6 +12,11 @@ use Rattle.logic.specs.ReflWalk.{Crossed, lefts, rights}
 unfoldable pub stamp : List ℕ → ℕ → ℕ
 stamp [] x = 0
 stamp (y ∷ ys) x = cond (eqb x y) (suc (length ys)) (stamp ys x)
+
+-- One side's half of the places: w has those of the variables bound on that side, ys, the nearest first.
+pub record Half (w ys : List ℕ) : Type 0 where
+  pub place : (x : ℕ) → 1 ≤ x → x ≤ length w → get_or w (x - 1) 0 ≡ stamp ys x
+  pub known : All (Number (length w)) ys
 
 -- The arrays have the binders crossed: w the place of each of the file's variables on the left, then on the right; m, n words of it, the set of those
 -- bound on the right, and nothing else.
@@ -35,7 +40,6 @@ pub record Binders : Type 0 where
 pub record BindersFit (sets : TermSets) (w m : List ℕ) : Type 0 where
   pub long : length sets.bundle.variables + length sets.bundle.variables ≤ length w
   pub words : sets.n ≤ length m
-  pub bits : length sets.bundle.variables ≤ 64 * sets.n
   pub small : Words sets.words
 
 abbrev pub HaveCrossed : Binders → Crossed → Type 0

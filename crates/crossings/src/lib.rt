@@ -7,24 +7,19 @@ ghost use Rattle.free_variables.specs.TermSets.{free_in};
 ghost use Rattle.logic.specs.Lists.{Number};
 ghost use Rattle.logic.specs.ReflWalk.{Crossed, lefts, rights, variable_meets};
 ghost use Rattle.images.specs.ContextRows.{image_at};
-ghost use Rattle.crossings.specs.Places.{stamp, Places, Binders, BindersFit, HaveCrossed};
+ghost use Rattle.crossings.specs.Places.{stamp, Binders, BindersFit, HaveCrossed};
 ghost use Rattle.crossings.specs.Pairs.{meets_by};
 
+pub mod arrays; // arrays.rt: the places of the variables crossed, in lent words
 pub mod records; // records.rt: records that meet, where the left one is no variable
 pub mod variables; // variables.rt: whether a term is the image of a variable
 
+use arrays::{Before, cross, place_in, uncross};
 use bundle::Bundle;
 use free_variables::term_sets::TermSets;
 use images::images::image_of;
 use logic::kinds::{Kind, is_binder};
 use std::marker::Model;
-
-// The places that two variables had before a binder of them was crossed.
-#[derive(Clone, Copy)]
-pub struct Before {
-    pub left: usize,
-    pub right: usize,
-}
 
 // The binders crossed on a walk, in lent words: the place of each of the file's variables on the left, then on the right; the set of those bound on
 // the right. With the sets of the file's terms.
@@ -46,40 +41,9 @@ impl<'s, 'a> Model for Binders<'s, 'a> {
     ghost invariant = { λ b. BindersFit b.sets b.places.now b.bound.now };
 }
 
-// The place of x among the variables bound on the left, 0 where it is none of them.
-fn left_place(bundle: &Bundle, places: &[u16], x: usize) -> usize
-    requires { length bundle.now.variables + length bundle.now.variables ≤ length places.now }
-    ensures { (n : ℕ) (bound : List ℕ) (ps : Crossed) → Places (length bundle.now.variables) n places.now bound ps → result ≡ stamp (lefts ps) x }
-{
-    let count = bundle.variables();
-    if x == 0 {
-        return 0;
-    }
-    if x > count {
-        return 0;
-    }
-    usize::from(places[x - 1])
-}
-
-// The same on the right.
-fn right_place(bundle: &Bundle, places: &[u16], y: usize) -> usize
-    requires { length bundle.now.variables + length bundle.now.variables ≤ length places.now }
-    ensures { (n : ℕ) (bound : List ℕ) (ps : Crossed) → Places (length bundle.now.variables) n places.now bound ps → result ≡ stamp (rights ps) y }
-{
-    let count = bundle.variables();
-    if y == 0 {
-        return 0;
-    }
-    if y > count {
-        return 0;
-    }
-    usize::from(places[count + (y - 1)])
-}
-
 impl<'s, 'a> Binders<'s, 'a> {
     pub fn of(sets: &TermSets<'s>, places: &'a mut [u16], bound: &'a mut [u64]) -> Binders<'s, 'a>
-        requires { (length sets.now.bundle.variables + length sets.now.bundle.variables ≤ length places.old) × (sets.now.n ≤ length bound.old)
-            × (length sets.now.bundle.variables ≤ 64 * sets.now.n) }
+        requires { (length sets.now.bundle.variables + length sets.now.bundle.variables ≤ length places.old) × (sets.now.n ≤ length bound.old) }
         ensures { result ≡ record { sets = sets.now; places = places.old; bound = bound.old } }
     {
         let sets = TermSets::of(sets.bundle(), sets.words(), sets.n());
@@ -100,55 +64,50 @@ impl<'s, 'a> Binders<'s, 'a> {
 
     // Crosses a binder of x on the left and of y on the right, where `depth` were crossed before.
     pub fn cross(&mut self, x: usize, y: usize, depth: usize) -> Before
-        requires { Number (length self.old.sets.bundle.variables) x × Number (length self.old.sets.bundle.variables) y × (depth < 65535) }
+        requires { Number (length self.old.sets.bundle.variables) x × Number (length self.old.sets.bundle.variables) y
+            × (length self.old.sets.bundle.variables ≤ 64 * self.old.sets.n) × (depth < 65535) }
         ensures { (self.new.sets ≡ self.old.sets)
             × ((ps : Crossed) → length ps ≡ depth → HaveCrossed self.old ps
             → HaveCrossed self.new ((x, y) ∷ ps) × (result.left ≡ stamp (lefts ps) x) × (result.right ≡ stamp (rights ps) y))
             × (length self.new.places ≡ length self.old.places) × (length self.new.bound ≡ length self.old.bound) }
     {
         let count = self.sets.bundle().variables();
-        let left = usize::from(self.places[x - 1]);
-        let right = usize::from(self.places[count + (y - 1)]);
-        let place = (depth + 1) as u16;
-        self.places[x - 1] = place;
-        self.places[count + (y - 1)] = place;
-        sets::insert(self.bound, 0, self.sets.n(), y);
-        Before { left, right }
+        let n = self.sets.n();
+        cross(count, n, self.places, self.bound, x, y, depth)
     }
 
     // Takes that back: x had the place `left` before, and y had `right`.
     pub fn uncross(&mut self, x: usize, y: usize, left: usize, right: usize)
-        requires { Number (length self.old.sets.bundle.variables) x × Number (length self.old.sets.bundle.variables) y × (left ≤ 65535) × (right ≤ 65535) }
+        requires { Number (length self.old.sets.bundle.variables) x × Number (length self.old.sets.bundle.variables) y
+            × (length self.old.sets.bundle.variables ≤ 64 * self.old.sets.n) × (left ≤ 65535) × (right ≤ 65535) }
         ensures { (self.new.sets ≡ self.old.sets)
             × ((ps : Crossed) → left ≡ stamp (lefts ps) x → right ≡ stamp (rights ps) y → HaveCrossed self.old ((x, y) ∷ ps) → HaveCrossed self.new ps)
             × (length self.new.places ≡ length self.old.places) × (length self.new.bound ≡ length self.old.bound) }
     {
         let count = self.sets.bundle().variables();
-        self.places[x - 1] = left as u16;
-        self.places[count + (y - 1)] = right as u16;
-        if right == 0 {
-            sets::remove(self.bound, 0, self.sets.n(), y);
-        }
+        let n = self.sets.n();
+        uncross(count, n, self.places, self.bound, x, y, left, right);
     }
 
     // ---- Pairs
 
     // Whether variable x on the left meets the term r. At a free variable, r is settled where just the variables bound on the right are moved: it has
     // none of them free.
-    fn variable_meets(&self, images: &[u16], context: usize, x: usize, r: usize) -> bool
+    pub fn variable_meets(&self, images: &[u16], context: usize, x: usize, r: usize) -> bool
         requires { length self.now.sets.bundle.variables * (context + 1) ≤ length images.now }
         ensures { (ps : Crossed) → HaveCrossed self.now ps
             → result ≡ variable_meets (free_in self.now.sets) (image_at (length self.now.sets.bundle.variables) images.now context) self.now.sets.bundle ps x r }
     {
         let bundle = self.sets.bundle();
-        let place = left_place(bundle, self.places, x);
+        let count = bundle.variables();
+        let place = place_in(&self.places[..count], x);
         if place != 0 {
             let kind = bundle.term_field(r, 0);
             let z = bundle.term_field(r, 1);
-            let other = right_place(bundle, self.places, z);
+            let other = place_in(&self.places[count..count + count], z);
             return (kind == Kind::Variable.number()) & (place == other);
         }
-        let image = image_of(bundle, images, context, x);
+        let image = image_of(count, images, context, x);
         let good = variables::image_is(bundle, image, x, r);
         if !good {
             return false;

@@ -37,7 +37,8 @@ pub fn binder_meets(bundle: &Bundle, l: usize, r: usize) -> bool
     (other == kind) & sorts
 }
 
-// Whether two lists of variables have the same sorts, one by one.
+// Whether two lists of variables have the same sorts, one by one. As `same_list` and `same_length`, two lists side by side, each with a test and a
+// definition of its own.
 pub fn all_sorts_meet(bundle: &Bundle, first: usize, second: usize) -> bool
     ensures { result ≡ all_sorts_meet bundle.now (items bundle.now first) (items bundle.now second) }
 {

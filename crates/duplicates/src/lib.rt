@@ -1,5 +1,5 @@
 // Check 9: whether a term is equal to an earlier one. Earlier terms are filed by a digest of their records: `heads` has the newest term of each
-// digest, `next` the one before each term among those with its digest, 0 for none. So a term is compared with those of its digest alone.
+// digest, `next` the one before each term among those with its digest, 0 for none: no term has number 0, and a word of 16 bits is enough. So a term is compared with those of its digest alone.
 #![tactic(auto)]
 
 ghost use Rattle.std.specs.Prelude.{◌≡◌, ◌<◌, length};
@@ -14,20 +14,21 @@ use bundle::digests::{DIGESTS, Digest};
 use bundle::records::TermWords;
 use logic::kinds::Kind;
 
-// Whether the first field of a term is a list, by its kind; and the second.
-fn lists_of(kind: usize) -> (bool, bool)
-    ensures { (result.0 ≡ first_is_list kind) × (result.1 ≡ second_is_list kind) }
+// Whether the first field of a term is a list, by its kind: that of a let is.
+fn first_is_list(kind: usize) -> bool
+    ensures { result ≡ first_is_list kind }
 {
-    match Kind::of(kind) {
-        Some(Kind::Application) => (false, true),
-        Some(Kind::Let) => (true, true),
-        Some(Kind::Variable) => (false, false),
-        Some(Kind::Binder(_)) => (false, false),
-        None => (false, false),
-    }
+    kind == Kind::Let.number()
 }
 
-// A digest and the first items of a list.
+// Whether the second one is: that of an application and that of a let are.
+fn second_is_list(kind: usize) -> bool
+    ensures { result ≡ second_is_list kind }
+{
+    (kind == Kind::Application.number()) | (kind == Kind::Let.number())
+}
+
+// A digest and the first items of a list. That of `filing` takes all items (DECISIONS 60).
 fn mixed_items(bundle: &Bundle, d: Digest, list: usize) -> Digest
     ensures { result ≡ mix_items 8 d (items bundle.now list) }
 {
@@ -55,9 +56,8 @@ pub fn digest(bundle: &Bundle, w: TermWords) -> Digest
 {
     let kind = w.kind;
     let d = Digest::empty().mixed(kind);
-    let (first, second) = lists_of(kind);
-    let d1 = mixed_field(bundle, first, d, w.first);
-    let d2 = mixed_field(bundle, second, d1, w.second);
+    let d1 = mixed_field(bundle, first_is_list(kind), d, w.first);
+    let d2 = mixed_field(bundle, second_is_list(kind), d1, w.second);
     d2.mixed(w.third)
 }
 
@@ -76,16 +76,15 @@ pub fn same_term(bundle: &Bundle, i: usize, j: usize) -> bool
     if kind != bundle.term_field(j, 0) {
         return false;
     }
-    let (lists, more_lists) = lists_of(kind);
     let first = same_field(
         bundle,
-        lists,
+        first_is_list(kind),
         bundle.term_field(i, 1),
         bundle.term_field(j, 1),
     );
     let second = same_field(
         bundle,
-        more_lists,
+        second_is_list(kind),
         bundle.term_field(i, 2),
         bundle.term_field(j, 2),
     );

@@ -31,7 +31,7 @@ pub struct ReadTerm<'a> {
     pub rest: &'a [u8],
 }
 
-// What reading parts gives: where the stack of pairs ends, the sort of the first, and the text behind them.
+// What reading parts gives: where the stack of pairs ends, the sort of the first (0 where there is none, as definitions have it), and the text behind them.
 #[derive(Clone, Copy)]
 pub struct ReadParts<'a> {
     pub height: usize,
@@ -110,7 +110,7 @@ pub fn bind_term<'a>(
     })
 }
 
-// A let in a body: the variables are the lower halves of pairs, the bound terms their upper halves.
+// A let in a body, alike to a binder, with another record: the variables are the lower halves of pairs, the bound terms their upper halves.
 pub fn let_term<'a>(
     filed: &mut Filed<'_>,
     pairs: &[u64],

@@ -4,13 +4,6 @@
 
 use bundle::Bundle;
 
-// The first bytes of an area, so many as the file has.
-fn write_start(area: &[u8], length: usize) {
-    if length <= area.len() {
-        io::write_all(1, &area[..length]);
-    }
-}
-
 fn main() {
     let mut input = io::large_buffer();
     let n = io::read_full(0, &mut input);
@@ -18,7 +11,11 @@ fn main() {
     let mut words = [0u32; Bundle::WORDS];
     let mut sets = [0u64; Bundle::SET_WORDS * Bundle::TERMS];
     match writer::expand(&input[..n], &mut out, &mut words, &mut sets) {
-        Ok(length) => write_start(&out, length),
+        Ok(length) => {
+            if let Some(file) = out.get(..length) {
+                io::write_all(1, file);
+            }
+        }
         Err(failure) => {
             io::write_all(2, b"refused ");
             io::print_decimal(2, failure.check.number() as u64);

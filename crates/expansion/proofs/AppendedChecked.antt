@@ -159,95 +159,42 @@ module _ (b : Bundle) (vs : List ℕ) where
             ∙ get_or-append-add b.links (consecutive (suc m) vs) i no_link)
             (consecutive_next (suc m) vs i (omega (arith, list_length)))
 
+-- Sections that no `let` speaks of have no new records.
+
 pub list_checked : (b : Bundle) (vs : List ℕ) → Checked b → Checked (add_list b vs)
 list_checked b vs old =
-    let B : Bundle = add_list b vs in
-    more_checked (list_longer b vs) old
-    record {
-      links = list_in_order b vs (longer_refl B);
-      symbols = past_none (SymbolFormed B) (length b.symbols);
-      variables = past_none (VariableFormed B) (length b.variables);
-      terms = past_none (TermFormed B) (length b.terms);
-      no_equal = past_none (NoEqual B) (length b.terms);
-      contexts = past_none (ContextFormed B) (length b.contexts);
-    }
-    (λ well. past_none (StepHolds B) (length b.steps))
+    let links = list_in_order b vs (longer_refl (add_list b vs)) in
+    more_checked (list_longer b vs) old (search (arith, past_none)) (λ well. search (arith, past_none))
 
 -- ---- one record
 
 pub variable_checked : (b : Bundle) (s : ℕ) → Checked b → IsSort b s → Checked (with_variables b (s ∷ []))
 variable_checked b s old h =
     let B : Bundle = with_variables b (s ∷ []) in
-    more_checked (variables_longer b (s ∷ [])) old
-    record {
-      links = past_none (LinkFormed B) (length b.links);
-      symbols = past_none (SymbolFormed B) (length b.symbols);
-      variables = past_one (VariableFormed B) b.variables s (subst (IsSort b) (sym (variable_added b s (longer_refl B))) h);
-      terms = past_none (TermFormed B) (length b.terms);
-      no_equal = past_none (NoEqual B) (length b.terms);
-      contexts = past_none (ContextFormed B) (length b.contexts);
-    }
-    (λ well. past_none (StepHolds B) (length b.steps))
+    let variables = past_one (VariableFormed B) b.variables s (subst (IsSort b) (sym (variable_added b s (longer_refl B))) h) in
+    more_checked (variables_longer b (s ∷ [])) old (search (arith, past_none)) (λ well. search (arith, past_none))
 
 pub term_checked : (b : Bundle) (r : TermRecord) → Checked b → TermFormed (with_terms b (r ∷ [])) (suc (length b.terms))
     → ((i : ℕ) → Number (length b.terms) i → fields_of b (term_of b i) ≡ fields_of (with_terms b (r ∷ [])) r → ⊥) → Checked (with_terms b (r ∷ []))
 term_checked b r old formed other =
     let B : Bundle = with_terms b (r ∷ []) in
-    more_checked (terms_longer b (r ∷ [])) old
-    record {
-      links = past_none (LinkFormed B) (length b.links);
-      symbols = past_none (SymbolFormed B) (length b.symbols);
-      variables = past_none (VariableFormed B) (length b.variables);
-      terms = past_one (TermFormed B) b.terms r formed;
-      no_equal = past_one (NoEqual B) b.terms r (λ i n e. other i (n.0, omega (arith, n.1))
-          (sym (fields_kept (terms_longer b (r ∷ [])) old.formed.tables i (omega (arith, n.1))) ∙ e
-          ∙ ap (fields_of B) (term_added b r (longer_refl B))));
-      contexts = past_none (ContextFormed B) (length b.contexts);
-    }
-    (λ well. past_none (StepHolds B) (length b.steps))
+    let terms = past_one (TermFormed B) b.terms r formed in
+    let no_equal = past_one (NoEqual B) b.terms r (λ i n e. other i (n.0, omega (arith, n.1))
+    (sym (fields_kept (terms_longer b (r ∷ [])) old.formed.tables i (omega (arith, n.1))) ∙ e ∙ ap (fields_of B) (term_added b r (longer_refl B)))) in
+    more_checked (terms_longer b (r ∷ [])) old (search (arith, past_none)) (λ well. search (arith, past_none))
 
 pub context_checked : (b : Bundle) (r : Context) → Checked b → ContextFormed (with_contexts b (r ∷ [])) (suc (length b.contexts))
     → Checked (with_contexts b (r ∷ []))
 context_checked b r old formed =
-    let B : Bundle = with_contexts b (r ∷ []) in
-    more_checked (contexts_longer b (r ∷ [])) old
-    record {
-      links = past_none (LinkFormed B) (length b.links);
-      symbols = past_none (SymbolFormed B) (length b.symbols);
-      variables = past_none (VariableFormed B) (length b.variables);
-      terms = past_none (TermFormed B) (length b.terms);
-      no_equal = past_none (NoEqual B) (length b.terms);
-      contexts = past_one (ContextFormed B) b.contexts r formed;
-    }
-    (λ well. past_none (StepHolds B) (length b.steps))
+    let contexts = past_one (ContextFormed (with_contexts b (r ∷ []))) b.contexts r formed in
+    more_checked (contexts_longer b (r ∷ [])) old (search (arith, past_none)) (λ well. search (arith, past_none))
 
 pub step_checked : (b : Bundle) (s : Step) → Checked b
     → (WellFormed (with_steps b (s ∷ [])) → StepHolds (with_steps b (s ∷ [])) (suc (length b.steps))) → Checked (with_steps b (s ∷ []))
 step_checked b s old holds =
-    let B : Bundle = with_steps b (s ∷ []) in
-    more_checked (steps_longer b (s ∷ [])) old
-    record {
-      links = past_none (LinkFormed B) (length b.links);
-      symbols = past_none (SymbolFormed B) (length b.symbols);
-      variables = past_none (VariableFormed B) (length b.variables);
-      terms = past_none (TermFormed B) (length b.terms);
-      no_equal = past_none (NoEqual B) (length b.terms);
-      contexts = past_none (ContextFormed B) (length b.contexts);
-    }
-    (λ well. past_one (StepHolds B) b.steps s (holds well))
+    more_checked (steps_longer b (s ∷ [])) old (search (arith, past_none)) (λ well. past_one (StepHolds (with_steps b (s ∷ []))) b.steps s (holds well))
 
 -- ---- the same records, and another claim
 
 pub claiming_checked : (b : Bundle) (l r : ℕ) → Checked b → Checked (claiming b l r)
-claiming_checked b l r old =
-    let B : Bundle = claiming b l r in
-    more_checked (claiming_longer b l r) old
-    record {
-      links = past_none (LinkFormed B) (length b.links);
-      symbols = past_none (SymbolFormed B) (length b.symbols);
-      variables = past_none (VariableFormed B) (length b.variables);
-      terms = past_none (TermFormed B) (length b.terms);
-      no_equal = past_none (NoEqual B) (length b.terms);
-      contexts = past_none (ContextFormed B) (length b.contexts);
-    }
-    (λ well. past_none (StepHolds B) (length b.steps))
+claiming_checked b l r old = more_checked (claiming_longer b l r) old (search (arith, past_none)) (λ well. search (arith, past_none))

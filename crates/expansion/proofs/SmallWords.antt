@@ -71,69 +71,19 @@ file_small f h = memory_small (word_at f) (counts_of f) (counts_of f) (word_smal
 
 module _ {b : Bundle} (small : SmallBundle b) where
   pub small_variables : (s : ℕ) → Word s → SmallBundle (with_variables b (s ∷ []))
-  small_variables s h = record {
-    version = small.version;
-    symbols = small.symbols;
-    variables = all_snoc (λ s. All Word (variable_words s)) b.variables s small.variables (h, tt);
-    terms = small.terms;
-    links = small.links;
-    contexts = small.contexts;
-    steps = small.steps;
-    left = small.left;
-    right = small.right;
-  }
+  small_variables s h = let more = all_snoc (λ s. All Word (variable_words s)) b.variables s small.variables (h, tt) in search arith
 
   pub small_terms : (r : TermRecord) → All Word (term_words r) → SmallBundle (with_terms b (r ∷ []))
-  small_terms r h = record {
-    version = small.version;
-    symbols = small.symbols;
-    variables = small.variables;
-    terms = all_snoc (λ r. All Word (term_words r)) b.terms r small.terms h;
-    links = small.links;
-    contexts = small.contexts;
-    steps = small.steps;
-    left = small.left;
-    right = small.right;
-  }
+  small_terms r h = let more = all_snoc (λ r. All Word (term_words r)) b.terms r small.terms h in search arith
 
   pub small_links : (rs : List Link) → All (λ r. All Word (link_words r)) rs → SmallBundle (with_links b rs)
-  small_links rs h = record {
-    version = small.version;
-    symbols = small.symbols;
-    variables = small.variables;
-    terms = small.terms;
-    links = all_append (λ r. All Word (link_words r)) b.links rs small.links h;
-    contexts = small.contexts;
-    steps = small.steps;
-    left = small.left;
-    right = small.right;
-  }
+  small_links rs h = let more = all_append (λ r. All Word (link_words r)) b.links rs small.links h in search arith
 
   pub small_contexts : (r : Context) → All Word (context_words r) → SmallBundle (with_contexts b (r ∷ []))
-  small_contexts r h = record {
-    version = small.version;
-    symbols = small.symbols;
-    variables = small.variables;
-    terms = small.terms;
-    links = small.links;
-    contexts = all_snoc (λ r. All Word (context_words r)) b.contexts r small.contexts h;
-    steps = small.steps;
-    left = small.left;
-    right = small.right;
-  }
+  small_contexts r h = let more = all_snoc (λ r. All Word (context_words r)) b.contexts r small.contexts h in search arith
 
   pub small_steps : (r : Step) → All Word (step_words r) → SmallBundle (with_steps b (r ∷ []))
-  small_steps r h = record {
-    version = small.version;
-    symbols = small.symbols;
-    variables = small.variables;
-    terms = small.terms;
-    links = small.links;
-    contexts = small.contexts;
-    steps = all_snoc (λ r. All Word (step_words r)) b.steps r small.steps h;
-    left = small.left;
-    right = small.right;
-  }
+  small_steps r h = let more = all_snoc (λ r. All Word (step_words r)) b.steps r small.steps h in search arith
 
 -- ---- items of lists, and images
 

@@ -6,7 +6,8 @@ use super::sections::copy_section;
 use bundle::{Bundle, Counts};
 use scratch::Scratch;
 
-// Copies the header and every section of the job into its place in the words, where each section has room for its limit.
+// Copies the header and every section of the job into its place in the words, where each section has room for its limit. The walk over the sections is
+// that of `store_file`, turned round: one for both would take what is done with a section as a closure, whose clauses would have to say both.
 pub fn copy_job<'a>(job: &Bundle<'_>, words: &'a mut [u32]) -> Scratch<'a>
     requires { words_of limits ≤ length words.old }
     ensures { result ≡ job.now }

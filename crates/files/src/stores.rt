@@ -29,6 +29,7 @@ fn header(c: Counts, left: usize, right: usize) -> [u32; Bundle::HEADER]
 }
 
 // Stores the file of the bundle in the scratch, with the claim that `left` is `right`, at the start of the output. Its length in bytes.
+// The walk over the sections is that of `copy_job`, turned round (see there).
 pub fn store_file(scratch: &Scratch<'_>, left: usize, right: usize, out: &mut [u8]) -> usize
     requires { (left ≤ largest_word) × (right ≤ largest_word) × (bytes_of limits ≤ length out.old)
         × (scratch.now.version ≤ largest_word) }

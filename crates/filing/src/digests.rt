@@ -10,7 +10,7 @@ use logic::kinds::Kind;
 use scratch::Scratch;
 use scratch::pairs::half;
 
-// The digest of a kind and a first field.
+// The digest of a kind and a first field. The kind by number: a term's record may have any.
 pub fn root_digest(kind: usize, first: usize) -> Digest
     ensures { result ≡ root_digest kind first }
 {
@@ -50,7 +50,8 @@ fn let_digest(scratch: &Scratch<'_>, variables: usize, bound: usize, body: usize
     f.mixed(body)
 }
 
-// The digest of a let, by its pairs and its body: a pair has a variable in its lower half and the variable's bound term in its upper.
+// The digest of a let, by its pairs and its body: a pair has a variable in its lower half and the variable's bound term in its upper. As `let_digest`, of
+// lists that are not yet in the scratch.
 pub fn pairs_digest(body: usize, pairs: &[u64]) -> Digest
     ensures { result ≡ let_digest (halves_of false pairs.now) (halves_of true pairs.now) body }
 {

@@ -5,23 +5,25 @@ ghost use Rattle.std.specs.Prelude.{◌≡◌, [], ◌∷◌, ◌+◌, ◌≤◌
 ghost use Rattle.bundle.specs.Words.{largest_word};
 ghost use Rattle.bundle.specs.Limits.{limits};
 ghost use Rattle.bundle.specs.Filed.{digests};
-ghost use Rattle.bundle.specs.RecordWords.{as_term, as_context, as_step, TermFits, ContextFits, StepFits};
+ghost use Rattle.bundle.specs.RecordWords.{as_term, TermFits};
 ghost use Rattle.logic.specs.WellFormed.{TablesFormed};
-ghost use Rattle.logic.specs.Longer.{with_variables, with_terms, with_contexts, with_steps, add_list, list_start};
-ghost use Rattle.scratch.specs.Stack.{halves_of};
+ghost use Rattle.logic.specs.Longer.{with_variables, with_terms};
 ghost use Rattle.filing.specs.Filing.{Digested, Indexed};
 
 pub mod digests; // digests.rt: digests of terms
 pub mod lookups; // lookups.rt: terms looked up
 
-use bundle::Bundle;
 use bundle::digests::{DIGESTS, Digest};
 use bundle::records::{ContextWords, StepWords, TermWords};
+use bundle::{Bundle, Counts};
 use digests::digest;
+use logic::Image;
 use scratch::Scratch;
+use scratch::appends::Appends;
 use std::marker::Model;
 
-// The places of an index: for each digest its newest term, then, from place DIGESTS on, for each term the one before it with its digest; 0 for none.
+// The places of an index: for each digest its newest term, then, from place DIGESTS on, for each term the one before it with its digest; 0 for none, which is no
+// term's number. One array, as the definition of the index has it.
 const PLACES: usize = DIGESTS + Bundle::TERMS + 1;
 
 // A scratch of which all terms are filed by a digest, made of what terms are looked up by. A clause sees the bundle.
@@ -78,7 +80,7 @@ impl<'a> Filed<'a> {
         &self.scratch
     }
 
-    // ---- One record or one list appended to a section that has room: as the scratch does, and a term is filed.
+    // ---- One record appended to a section that has room: as the scratch does, and a term is filed.
 
     pub fn append_variable(&mut self, sort: usize)
         requires { (length self.old.variables < limits.variables) × (sort ≤ largest_word) }
@@ -96,34 +98,35 @@ impl<'a> Filed<'a> {
         self.scratch.append_term(term);
         file_term(&mut self.index, d, t);
     }
+}
 
-    pub fn append_context(&mut self, context: ContextWords)
-        requires { (length self.old.contexts < limits.contexts) × ContextFits context }
-        ensures { self.new ≡ with_contexts self.old (as_context context ∷ []) }
-    {
-        self.scratch.append_context(context);
+// Lists, contexts and steps are appended as the scratch does: the index holds terms alone.
+impl<'a> Appends for Filed<'a> {
+    ghost use Rattle.bundle.specs.Bundle.{Bundle};
+
+    ghost bundle = { λ (b : Bundle). b };
+
+    fn counts(&self) -> Counts {
+        self.scratch.counts()
     }
 
-    pub fn append_step(&mut self, step: StepWords)
-        requires { (length self.old.steps < limits.steps) × StepFits step }
-        ensures { self.new ≡ with_steps self.old (as_step step ∷ []) }
-    {
-        self.scratch.append_step(step);
+    fn image(&self, context: usize, x: usize) -> Image {
+        self.scratch.image(context, x)
     }
 
-    // The upper halves of pairs, or the lower, as a list. Its first link, 0 for the empty list.
-    pub fn push_halves(&mut self, pairs: &[u64], upper: bool) -> usize
-        requires { length self.old.links + length pairs.now ≤ limits.links }
-        ensures { (self.new ≡ add_list self.old (halves_of upper pairs.now)) × (result ≡ list_start self.old (halves_of upper pairs.now)) }
-    {
+    fn push_halves(&mut self, pairs: &[u64], upper: bool) -> usize {
         self.scratch.push_halves(pairs, upper)
     }
 
-    // One value as a list. Its link.
-    pub fn push_one(&mut self, value: usize) -> usize
-        requires { (length self.old.links < limits.links) × (value ≤ largest_word) }
-        ensures { (self.new ≡ add_list self.old (value ∷ [])) × (result ≡ list_start self.old (value ∷ [])) }
-    {
+    fn push_one(&mut self, value: usize) -> usize {
         self.scratch.push_one(value)
+    }
+
+    fn append_context(&mut self, context: ContextWords) {
+        self.scratch.append_context(context);
+    }
+
+    fn append_step(&mut self, step: StepWords) {
+        self.scratch.append_step(step);
     }
 }

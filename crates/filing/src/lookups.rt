@@ -13,6 +13,7 @@ use bundle::Bundle;
 use bundle::digests::{DIGESTS, Digest};
 use logic::kinds::Kind;
 use scratch::Scratch;
+use scratch::lists::same_halves;
 
 // Whether term t is the variable y.
 fn is_variable(scratch: &Scratch<'_>, t: usize, y: usize) -> bool
@@ -33,7 +34,7 @@ fn is_application(scratch: &Scratch<'_>, t: usize, symbol: usize, arguments: &[u
     if term.first != symbol {
         return false;
     }
-    scratch.same_halves(term.second, arguments, true)
+    same_halves(scratch, term.second, arguments, true)
 }
 
 // Whether term t has this kind, which is a binder's, this variable and this body.
@@ -52,8 +53,8 @@ fn is_let(scratch: &Scratch<'_>, t: usize, body: usize, pairs: &[u64]) -> bool
     if term.kind != Kind::Let.number() {
         return false;
     }
-    let named = scratch.same_halves(term.first, pairs, false);
-    let bound = scratch.same_halves(term.second, pairs, true);
+    let named = same_halves(scratch, term.first, pairs, false);
+    let bound = same_halves(scratch, term.second, pairs, true);
     named & (bound & (term.third == body))
 }
 
@@ -79,6 +80,8 @@ impl<'a> Filed<'a> {
         lowest
     }
 
+    // The four that follow are alike: each hands its own test to `lowest`, and has a definition of its own.
+
     // d is the digest of the variable.
     pub fn find_variable(&self, d: Digest, y: usize) -> Option<usize>
         requires { d ≡ root_digest 1 y }
@@ -97,7 +100,7 @@ impl<'a> Filed<'a> {
         self.lowest(d, |t| is_application(scratch, t, symbol, arguments))
     }
 
-    // d is the digest of the binder.
+    // d is the digest of the binder. Its kind by number: any may be asked for, and a `Binder` would ask for more.
     pub fn find_binder(&self, d: Digest, kind: usize, y: usize, body: usize) -> Option<usize>
         requires { d ≡ root_digest kind y }
         ensures { (q : Binder) → kind ≡ number_of (binder q) → result ≡ found (seek (same_binder q y body) self.now.terms) }

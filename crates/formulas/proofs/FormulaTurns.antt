@@ -32,7 +32,8 @@ use Rattle.reading.specs.Called.{variable_called, symbol_called}
 use Rattle.reading.specs.Typing.{connective_symbol, nested}
 use Rattle.reading.specs.Local.{alone_sort, alone_term, head_sort, plain, bound_names}
 use Rattle.reading.specs.Records.{file}
-use Rattle.lexing.specs.Lexes.{lexemes_of}
+use Rattle.lexing.specs.Lexes.{lexemes_of, Tail}
+use Rattle.lexing.proofs.Tails.{tail_after}
 use Rattle.heads.specs.declared.Headed.{Headed}
 use Rattle.heads.specs.declared.Item.{Item}
 use Rattle.heads.specs.HeadSymbols.{variable_for, symbol_for}
@@ -85,9 +86,10 @@ rest_of {rest = rest} {x = x} (TermOutcome.done w k t is d) = let same : t ≡ x
 rest_of (TermOutcome.full o k) = absurd (cc)
 
 pub placed_leaves : {text st : List ℕ} {h : ℕ} {st' : List ℕ} {p : PlacedTerm} {s : ℕ} {rest : List ℕ} {b' : Bundle} {r : Option ReadTerm} → StackKept st st' h
-    → TermOutcome p s rest b' r → TermFits r → length rest < length text → Leaves text st h st' r
-placed_leaves {r = None} kept o fits l = record { kept = kept; word = tt; fewer = tt }
-placed_leaves {r = Some x} kept o fits l = record { kept = kept; word = fits; fewer = omega (arith, ap length (rest_of o), l) }
+    → TermOutcome p s rest b' r → TermFits r → Tail text rest → length rest < length text → Leaves text st h st' r
+placed_leaves {r = None} kept o fits t l = record { kept = kept; word = tt; tail = tt; fewer = tt }
+placed_leaves {r = Some x} kept o fits t l =
+    record { kept = kept; word = fits; tail = rw (rest_of o) t; fewer = omega (arith, ap length (rest_of o), l) }
 
 at_levels : {τ : Term} {s : ℕ} {ls : List Lexeme} {b : Bundle} {h n n' : ℕ} {b' : Bundle} {r : Option ReadTerm} → n ≡ n'
     → ReadOutcome τ s ls b h n' b' r → ReadOutcome τ s ls b h n b' r
@@ -96,16 +98,21 @@ at_levels {τ} {s} {ls} {b} {h} {n} {n'} {b'} {r} e o = subst (λ (m : ℕ). Rea
 -- ---- no formula, no level, no room
 
 pub none_leaves : {text st : List ℕ} {h : ℕ} {st' : List ℕ} → StackKept st st' h → Leaves text st h st' None
-none_leaves kept = record { kept = kept; word = tt; fewer = tt }
+none_leaves kept = record { kept = kept; word = tt; tail = tt; fewer = tt }
 
 pub deep_reads : (D : Bundle) (text : List ℕ) {b : Bundle} {h n : ℕ} {b' : Bundle} → n ≡ 0 → Reads D text b h n b' None
 deep_reads D text e φ rest l = ReadOutcome.full (no_level (plain D φ) (omega (arith, e))) refl
 
 -- ---- from a shorter text
 
-pub later_leaves : {text rest st : List ℕ} {h : ℕ} {st' : List ℕ} {r : Option ReadTerm} → length rest ≤ length text → Leaves rest st h st' r
-    → Leaves text st h st' r
-later_leaves {r = r} l left = record { kept = left.kept; word = left.word; fewer = IfSome_then r left.fewer (λ t g. omega (arith, l, g)) }
+pub later_leaves : {text rest st : List ℕ} {h : ℕ} {st' : List ℕ} {r : Option ReadTerm} → Tail text rest → length rest ≤ length text
+    → Leaves rest st h st' r → Leaves text st h st' r
+later_leaves {r = r} t l left = record {
+  kept = left.kept;
+  word = left.word;
+  tail = IfSome_then r left.tail (λ x g. tail_after t g);
+  fewer = IfSome_then r left.fewer (λ x g. omega (arith, l, g));
+}
 
 -- ---- a formula with its closing bracket
 
@@ -124,13 +131,15 @@ module _ {τ : Term} {s : ℕ} {rest : List Lexeme} {b : Bundle} {h n : ℕ} {b'
   closed_none is o = ReadOutcome.full (read_full o is) refl
 
 -- there is no more left behind the bracket
-pub closed_leaves : {text inside st : List ℕ} {h : ℕ} {st' : List ℕ} {r : Option ReadTerm} {body x : ReadTerm} → length inside ≤ length text
-    → Leaves inside st h st' r → r ≡ Some body → Closed body x → Leaves text st h st' (Some x)
-closed_leaves {inside = inside} l left is c =
+pub closed_leaves : {text inside st : List ℕ} {h : ℕ} {st' : List ℕ} {r : Option ReadTerm} {body x : ReadTerm} → Tail text inside
+    → length inside ≤ length text → Leaves inside st h st' r → r ≡ Some body → Closed body x → Leaves text st h st' (Some x)
+closed_leaves {inside = inside} t l left is c =
+    let u = at_some (λ (t : ReadTerm). Tail inside t.rest.now) is left.tail in
     let e = at_some (λ (t : ReadTerm). length t.rest.now < length inside) is left.fewer in
     record {
       kept = left.kept;
       word = omega (arith, c.0, at_some (λ (t : ReadTerm). t.term ≤ largest_word) is left.word);
+      tail = tail_after t (tail_after u c.2.tail);
       fewer = omega (arith, l, e, c.2.fewer);
     }
 

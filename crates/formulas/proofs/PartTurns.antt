@@ -24,7 +24,8 @@ use Rattle.placing.proofs.Pairs.{Pair, below_same, below_trans, below_set, below
 use Rattle.grammar.specs.Grammar.{Lexeme, closes, spell}
 use Rattle.reading.specs.Local.{head_sort, plain}
 use Rattle.reading.specs.Records.{file, file_all}
-use Rattle.lexing.specs.Lexes.{lexemes_of}
+use Rattle.lexing.specs.Lexes.{lexemes_of, Tail}
+use Rattle.lexing.proofs.Tails.{tail_after}
 use Rattle.heads.specs.declared.Item.{Item}
 use Rattle.heads.specs.Places.{Part, after_part, spell_parts, PartAt, PartEnd}
 use Rattle.endings.specs.declared.ReadTerm.{ReadTerm}
@@ -86,7 +87,7 @@ module _ (D : Bundle) (n : ℕ) (bound : Bool) where
     pub reads : ReadsParts D text b h n bound first b' st' r
 
   no_parts : {text st : List ℕ} {h : ℕ} {st' : List ℕ} → StackKept st st' h → LeavesParts text st h st' None
-  no_parts kept = record { kept = kept; height = tt; fewer = tt }
+  no_parts kept = record { kept = kept; height = tt; tail = tt; fewer = tt }
 
   module _ {text : List ℕ} {item : Item} (at : PartAt text (length D.variables) bound item) {v : ℕ} (on : item.variable ≡ Some v) where
     not_ended : (P : List Part → List Lexeme → Type 0)
@@ -108,7 +109,12 @@ module _ (D : Bundle) (n : ℕ) (bound : Bool) where
           → Given text b st h first b st (Some x)
       unfolding terms_of file
       parts_end e {x} top same left = record {
-        leaves = record { kept = below_same st h; height = (omega (arith, top), omega (arith, top, asks.height)); fewer = omega (arith, ap length left, at.item.fewer) };
+        leaves = record {
+          kept = below_same st h;
+          height = (omega (arith, top), omega (arith, top, asks.height));
+          tail = rw left at.item.tail;
+          fewer = omega (arith, ap length left, at.item.fewer);
+        };
         reads = go;
       }
         where
@@ -144,6 +150,9 @@ module _ (D : Bundle) (n : ℕ) (bound : Bool) where
           }
 
           module _ {x : ReadTerm} (is : read ≡ Some x) (room : h < limits.links) where
+            read_tail : Tail item.rest.now x.rest.now
+            read_tail = at_some (λ (t : ReadTerm). Tail item.rest.now t.rest.now) is left.tail
+
             part_room : h < length st1
             part_room = omega (arith, room, asks.places, left.kept.long)
 
@@ -166,6 +175,7 @@ module _ (D : Bundle) (n : ℕ) (bound : Bool) where
                 leaves = record {
                   kept = below_trans (omega arith) (below_trans (omega arith) left.kept (below_set st1 h h pair (omega arith))) g.leaves.kept;
                   height = IfSome_then r g.leaves.height (λ p z. (omega (arith, z.0), z.1));
+                  tail = IfSome_then r g.leaves.tail (λ p z. tail_after at.item.tail (tail_after read_tail (tail_after end.tail z)));
                   fewer = IfSome_then r g.leaves.fewer (λ p z. omega (arith, z, at.item.fewer, part_later));
                 };
                 reads = not_ended at on _ (λ p ps rest k m. go p ps rest k m);
@@ -234,6 +244,11 @@ module _ (D : Bundle) {text st : List ℕ} {b : Bundle} {h n : ℕ} {b1 : Bundle
                 (subst (λ (y : Bundle). TooLarge (plain D φ) y x.height n) d.bundle o)) refl
 
         module _ {body : ReadTerm} (body_is : read ≡ Some body) where
+          further : Tail text body.rest.now
+          further =
+              tail_after (at_some (λ (p : ReadParts). Tail text p.rest.now) is leaves.tail)
+              (at_some (λ (t : ReadTerm). Tail x.rest.now t.rest.now) body_is left.tail)
+
           inside : length body.rest.now < length x.rest.now
           inside = at_some (λ (t : ReadTerm). length t.rest.now < length x.rest.now) body_is left.fewer
 
@@ -245,7 +260,7 @@ module _ (D : Bundle) {text st : List ℕ} {b : Bundle} {h n : ℕ} {b1 : Bundle
                 → TermOutcome (place_let b2 (halves false st2 h x.height) (halves true st2 h x.height) whole.term) whole.sort whole.rest.now b3 res
                 → Leaves text st h st2 res × ReadsLet D text b h n b3 res
             unfolding file
-            let_gives {b3} {res} fits o = (placed_leaves kept o fits (omega (arith, few, inside, closed.2.fewer)), go)
+            let_gives {b3} {res} fits o = (placed_leaves kept o fits (tail_after further closed.2.tail) (omega (arith, few, inside, closed.2.fewer)), go)
               where
                 go : ReadsLet D text b h n b3 res
                 go ps φ rest l =

@@ -15,7 +15,7 @@ use Rattle.reading.specs.Local.{head_sort, plain}
 use Rattle.reading.specs.Records.{file, file_all, depth, depth_all}
 use Rattle.reading.specs.Answers.{ReadAs, FitsLimits}
 use Rattle.reading.specs.Demands.{DeclarationsFormed}
-use Rattle.lexing.specs.Lexes.{lexemes_of}
+use Rattle.lexing.specs.Lexes.{lexemes_of, Tail}
 use Rattle.heads.specs.Places.{Part, spell_parts}
 use Rattle.endings.specs.declared.ReadTerm.{ReadTerm}
 use Rattle.endings.specs.declared.ReadParts.{ReadParts}
@@ -90,7 +90,7 @@ pub data PartsOutcome (ts : Terms) (vs : List ℕ) (m s : ℕ) (ls : List Lexeme
     done : (x : ReadParts) → r ≡ Some x → PartsDone ts vs m s ls b h b' st x → PartsOutcome ts vs m s ls b h n b' st r
     full : AllTooLarge ts b h n → r ≡ None → PartsOutcome ts vs m s ls b h n b' st r
 
--- ---- what a call asks, and what it leaves, whatever the text is
+-- ---- what a call asks, and what it leaves, whatever the text is: the text from some byte on
 
 pub record Asks (st : List ℕ) (h : ℕ) : Type 0 where
   pub places : limits.links ≤ length st
@@ -99,11 +99,13 @@ pub record Asks (st : List ℕ) (h : ℕ) : Type 0 where
 pub record Leaves (text st : List ℕ) (h : ℕ) (st' : List ℕ) (r : Option ReadTerm) : Type 0 where
   pub kept : StackKept st st' h
   pub word : TermFits r
+  pub tail : IfSome r (λ t. Tail text t.rest.now)
   pub fewer : IfSome r (λ t. length t.rest.now < length text)
 
 pub record LeavesParts (text st : List ℕ) (h : ℕ) (st' : List ℕ) (r : Option ReadParts) : Type 0 where
   pub kept : StackKept st st' h
   pub height : IfSome r (λ p. (h ≤ p.height) × (p.height ≤ limits.links))
+  pub tail : IfSome r (λ p. Tail text p.rest.now)
   pub fewer : IfSome r (λ p. length p.rest.now ≤ length text)
 
 -- ---- and what it gives, where the text spells this: D has the declarations, b is the bundle before, b' the one after

@@ -128,7 +128,7 @@ fn read_parts<'a>(
     }
     Some(ReadParts {
         height: top,
-        sort: first.unwrap_or(0),
+        sort: first.unwrap_or(0), // 0 where there is no part, as the definition has it
         rest: part.rest,
     })
 }

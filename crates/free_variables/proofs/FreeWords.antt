@@ -1,11 +1,10 @@
--- Free variables, settled terms and terms in scope, as words that may hold anything have them.
---     numbers_past                              a number past the last is none
---     free_zero, free_past, free_some           a number that is no term's has no free variables; a term's are the members of its set
---     settled_zero, settled_past, settled_some  the same of settled terms
---     scope_zero, scope_past, scope_some        and of terms in scope; scope_part: in parts of the words
---     set_within                                the set of a term stands within the words
---     known_room                                where there is room for all contexts there is for one
-use mathlib.Core.Path.{◌≡◌, refl, sym, ◌∙◌}
+-- Free variables and terms in scope, as words that may hold anything have them.
+--     numbers_past                      a number past the last is none
+--     free_zero, free_past, free_some   a number that is no term's has no free variables; a term's are the members of its set
+--     scope_part                        terms in scope, by parts of the words
+--     set_within                        the set of a term stands within the words
+--     known_room                        where there is room for all contexts there is for one
+use mathlib.Core.Path.{◌≡◌, refl, ◌∙◌}
 use mathlib.Core.Bool.{Bool, true, false, ◌&&◌}
 use mathlib.Core.List.{List}
 use Prim.Native.Nat.{ℕ, ◌+◌, ◌*◌, ◌-◌, ◌≤◌, ◌<◌}
@@ -17,10 +16,10 @@ use lib.Dec.{ltb, leb}
 use borrow.Author.Tests.{lt-leb}
 use Rattle.bundle.specs.Lists.{numbers}
 use Rattle.bundle.proofs.Fields.{record_within}
-use Rattle.sets.specs.Sets.{member, disjoint_of, subset_of}
+use Rattle.sets.specs.Sets.{member, subset_of}
 use Rattle.sets.proofs.Subsets.{subset_part}
 use Rattle.logic.proofs.Tests.{numbers_in}
-use Rattle.free_variables.specs.TermSets.{TermSets, free_in, settled_in, in_scope_in}
+use Rattle.free_variables.specs.TermSets.{TermSets, in_scope_among, free_in}
 
 pub numbers_past : (n t : ℕ) → n < t → numbers n t ≡ false
 numbers_past n t h = go (ltb 0 t)
@@ -42,38 +41,15 @@ module _ (s : TermSets) (t v : ℕ) where
   unfolding free_in
   free_some some few = rw (numbers_in (length s.bundle.terms) t (omega arith) few)
 
-module _ (s : TermSets) (m : List ℕ) (at t : ℕ) where
-  pub settled_zero : t ≡ 0 → settled_in s m at t ≡ true
-  unfolding settled_in
-  settled_zero e = rw e
-
-  pub settled_past : length s.bundle.terms < t → settled_in s m at t ≡ true
-  unfolding settled_in
-  settled_past h = rw (numbers_past (length s.bundle.terms) t h)
-
-  pub settled_some : (t ≡ 0 → ⊥) → t ≤ length s.bundle.terms → settled_in s m at t ≡ disjoint_of s.words (s.n * (t - 1)) m at s.n
-  unfolding settled_in
-  settled_some some few = rw (numbers_in (length s.bundle.terms) t (omega arith) few)
-
-  pub scope_zero : t ≡ 0 → in_scope_in s m at t ≡ true
-  unfolding in_scope_in
-  scope_zero e = rw e
-
-  pub scope_past : length s.bundle.terms < t → in_scope_in s m at t ≡ true
-  unfolding in_scope_in
-  scope_past h = rw (numbers_past (length s.bundle.terms) t h)
-
-  pub scope_some : (t ≡ 0 → ⊥) → t ≤ length s.bundle.terms → in_scope_in s m at t ≡ subset_of s.words (s.n * (t - 1)) m at s.n
-  unfolding in_scope_in
-  scope_some some few = rw (numbers_in (length s.bundle.terms) t (omega arith) few)
-
-  -- the same of parts of the words that start where the sets do
-  pub scope_part : (t ≡ 0 → ⊥) → t ≤ length s.bundle.terms → (l m' : ℕ) → s.n ≤ l → s.n ≤ m'
-      → subset_of (take l (drop (s.n * (t - 1)) s.words)) 0 (take m' (drop at m)) 0 s.n ≡ in_scope_in s m at t
+-- the set of term t and that at `at`, by parts of the words that start where they do
+module _ (terms : ℕ) (w : List ℕ) (n : ℕ) (m : List ℕ) (at t : ℕ) where
+  pub scope_part : (t ≡ 0 → ⊥) → t ≤ terms → (l m' : ℕ) → n ≤ l → n ≤ m'
+      → subset_of (take l (drop (n * (t - 1)) w)) 0 (take m' (drop at m)) 0 n ≡ in_scope_among terms w n m at t
+  unfolding in_scope_among
   scope_part some few l m' long-l long-m =
-      subset_part s.words (take l (drop (s.n * (t - 1)) s.words)) 0 (s.n * (t - 1)) m (take m' (drop at m)) 0 at s.n
-      (λ k h. part s.words (s.n * (t - 1)) l k (omega arith)) (λ k h. part m at m' k (omega arith))
-      ∙ sym (scope_some some few)
+      rw (numbers_in terms t (omega arith) few)
+      (subset_part w (take l (drop (n * (t - 1)) w)) 0 (n * (t - 1)) m (take m' (drop at m)) 0 at n
+      (λ k h. part w (n * (t - 1)) l k (omega arith)) (λ k h. part m at m' k (omega arith)))
     where
       part : (v : List ℕ) (from l k : ℕ) → k < l → get_or (take l (drop from v)) (0 + k) 0 ≡ get_or v (from + k) 0
       part v from l k h =

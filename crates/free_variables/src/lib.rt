@@ -2,6 +2,7 @@
 // A set is given by its place in the area, and not as a slice: those of the terms below it are read while it is written.
 #![tactic(auto)]
 
+pub mod parts; // parts.rt: the sets of terms by their words alone
 pub mod spread; // spread.rt: sets of few words made sets of as many as a term has
 pub mod term_sets; // term_sets.rt: a set for each term, in lent words
 
@@ -32,7 +33,7 @@ fn remove_list(bundle: &Bundle, area: &mut [u64], n: usize, at: usize, list: usi
 
 // ---- Terms
 
-// Writes the free set of term t, but for the terms of its list, from the sets of the terms below it. Gives that list, 0 where it has none.
+// Writes the free set of term t, but for the terms of its list, from the sets of the terms below it. Gives that list; 0, the empty list, where it has none.
 fn free_own(bundle: &Bundle, area: &mut [u64], n: usize, t: usize, at: usize) -> usize
     requires { SetRoom area.old n t at × (length bundle.now.variables ≤ 64 * n) }
     ensures { (result ≡ list_of (term_of bundle.now t)) × Put area.old area.new n at (own_by bundle.now (set_below area.old n t) (term_of bundle.now t)) }

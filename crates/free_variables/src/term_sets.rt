@@ -2,6 +2,7 @@
 ghost use Rattle.std.specs.Prelude.{◌≡◌, ◌&&◌, ◌+◌, ◌*◌, ◌≤◌, length};
 ghost use Rattle.free_variables.specs.TermSets.{TermSets, Words, free_in, settled_in, in_scope_in, mentioned_at};
 
+use super::parts;
 use bundle::Bundle;
 use std::marker::Model;
 
@@ -56,27 +57,16 @@ impl<'a> TermSets<'a> {
     pub fn is_free(&self, t: usize, v: usize) -> bool
         ensures { result ≡ free_in self.now t v }
     {
-        if t == 0 {
-            return false;
-        }
-        if t > self.bundle.terms() {
-            return false;
-        }
-        sets::member(self.words, self.n * (t - 1), self.n, v)
+        parts::is_free(self.bundle.terms(), self.words, self.n, t, v)
     }
 
-    // Whether term t is settled where the set at `at` is that of the moved variables: it has none of them free.
+    // Whether term t is settled where the set at `at` is that of the moved variables: it has none of them free. The set by its place, as in `sets`: that of
+    // a context is one of many in an area.
     pub fn is_settled(&self, moved: &[u64], at: usize, t: usize) -> bool
         requires { at + self.now.n ≤ length moved.now }
         ensures { result ≡ settled_in self.now moved.now at t }
     {
-        if t == 0 {
-            return true;
-        }
-        if t > self.bundle.terms() {
-            return true;
-        }
-        sets::disjoint(self.words, self.n * (t - 1), moved, at, self.n)
+        parts::is_settled(self.bundle.terms(), self.words, self.n, moved, at, t)
     }
 
     // Whether two terms are in scope in a context: each free variable of theirs is mentioned there.
@@ -86,10 +76,7 @@ impl<'a> TermSets<'a> {
         ensures { let scope = in_scope_in self.now scopes.now (mentioned_at self.now.n context) in
             result ≡ (scope left && scope right) }
     {
-        let n = self.n;
-        let mentioned = &scopes[2 * n * context + n..];
-        let first = &self.words[n * (left - 1)..];
-        let second = &self.words[n * (right - 1)..];
-        sets::both_subsets(first, second, mentioned, n)
+        let terms = self.bundle.terms();
+        parts::both_in_scope(terms, self.words, self.n, scopes, context, left, right)
     }
 }

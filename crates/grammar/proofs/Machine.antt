@@ -5,7 +5,7 @@
 use mathlib.Core.Path.{◌≡◌, refl, sym, ap, ◌∙◌}
 use mathlib.Core.List.{List, [], ◌∷◌, ◌++◌}
 use mathlib.Core.Option.{Option, none, some, none-ne-some, some-injective}
-use Rattle.grammar.specs.Bytes.{Word, constant, negation, connective, quantifier, letting, sort, name}
+use Rattle.grammar.specs.Bytes.{constant, negation, connective, quantifier, letting, sort, name}
 use Rattle.grammar.specs.Grammar.{SortedVariable, declares, Formula, called, truth, bracketed, Bracketed, denies, connects, applies, quantifies}
 use Rattle.grammar.specs.Grammar.{lets, Formulas, no_formula, and_formula, Bindings, no_binding, and_binding, Lexeme, opens, closes, word, stray}
 use Rattle.grammar.specs.Grammar.{spell, spell_variable, spell_variables, spell_bracketed, spell_formulas, spell_bindings, spelling}
@@ -19,69 +19,37 @@ abbrev Sound : (d : Due) → Lexeme → Option (Move d) → Type 0
 Sound d l none = Unit {0}
 Sound d l (some m) = (g : Fill m.next) (rest : List Lexeme) → spell_one d (m.back g) rest ≡ l ∷ spell_fill m.next g rest
 
-on_formula_lem : (w : Word) → Sound formula (word w) (on_formula w)
-unfolding on_formula spell_one spell_fill
-on_formula_lem (constant v) = λ g rest. refl
-on_formula_lem negation = tt
-on_formula_lem (connective c) = tt
-on_formula_lem (quantifier q) = tt
-on_formula_lem letting = tt
-on_formula_lem (sort s) = tt
-on_formula_lem (name w) = λ g rest. refl
-
-on_formulas_lem : (w : Word) → Sound formulas (word w) (on_formulas w)
-unfolding on_formulas spell_one spell_fill
-on_formulas_lem (constant v) = λ g rest. refl
-on_formulas_lem negation = tt
-on_formulas_lem (connective c) = tt
-on_formulas_lem (quantifier q) = tt
-on_formulas_lem letting = tt
-on_formulas_lem (sort s) = tt
-on_formulas_lem (name w) = λ g rest. refl
-
-on_inside_lem : (w : Word) → Sound inside (word w) (on_inside w)
-unfolding on_inside spell_one spell_fill
-on_inside_lem (constant v) = tt
-on_inside_lem negation = λ g rest. refl
-on_inside_lem (connective c) = λ g rest. refl
-on_inside_lem (quantifier q) = λ g rest. refl
-on_inside_lem letting = λ g rest. refl
-on_inside_lem (sort s) = tt
-on_inside_lem (name w) = λ g rest. refl
-
-on_variable_lem : (w : Word) → Sound variable (word w) (on_variable w)
-unfolding on_variable spell_one spell_fill
-on_variable_lem (constant v) = tt
-on_variable_lem negation = tt
-on_variable_lem (connective c) = tt
-on_variable_lem (quantifier q) = tt
-on_variable_lem letting = tt
-on_variable_lem (sort s) = tt
-on_variable_lem (name w) = λ g rest. refl
-
-on_sort_lem : (w : Word) → Sound sortName (word w) (on_sort w)
-unfolding on_sort spell_one spell_fill
-on_sort_lem (constant v) = tt
-on_sort_lem negation = tt
-on_sort_lem (connective c) = tt
-on_sort_lem (quantifier q) = tt
-on_sort_lem letting = tt
-on_sort_lem (sort s) = λ g rest. refl
-on_sort_lem (name w) = tt
-
 pub moves : (d : Due) (l : Lexeme) → Sound d l (advance d l)
-unfolding advance spell_one spell_fill
+unfolding advance on_formula on_formulas on_inside on_variable on_sort spell_one spell_fill
 moves formula opens = λ g rest. refl
 moves formula closes = tt
-moves formula (word w) = on_formula_lem w
+moves formula (word (constant v)) = λ g rest. refl
+moves formula (word negation) = tt
+moves formula (word (connective c)) = tt
+moves formula (word (quantifier q)) = tt
+moves formula (word letting) = tt
+moves formula (word (sort s)) = tt
+moves formula (word (name w)) = λ g rest. refl
 moves formula stray = tt
 moves formulas opens = λ g rest. refl
 moves formulas closes = λ g rest. refl
-moves formulas (word w) = on_formulas_lem w
+moves formulas (word (constant v)) = λ g rest. refl
+moves formulas (word negation) = tt
+moves formulas (word (connective c)) = tt
+moves formulas (word (quantifier q)) = tt
+moves formulas (word letting) = tt
+moves formulas (word (sort s)) = tt
+moves formulas (word (name w)) = λ g rest. refl
 moves formulas stray = tt
 moves inside opens = tt
 moves inside closes = tt
-moves inside (word w) = on_inside_lem w
+moves inside (word (constant v)) = tt
+moves inside (word negation) = λ g rest. refl
+moves inside (word (connective c)) = λ g rest. refl
+moves inside (word (quantifier q)) = λ g rest. refl
+moves inside (word letting) = λ g rest. refl
+moves inside (word (sort s)) = tt
+moves inside (word (name w)) = λ g rest. refl
 moves inside stray = tt
 moves opener opens = λ g rest. refl
 moves opener closes = tt
@@ -109,11 +77,23 @@ moves bounds (word w) = tt
 moves bounds stray = tt
 moves variable opens = tt
 moves variable closes = tt
-moves variable (word w) = on_variable_lem w
+moves variable (word (constant v)) = tt
+moves variable (word negation) = tt
+moves variable (word (connective c)) = tt
+moves variable (word (quantifier q)) = tt
+moves variable (word letting) = tt
+moves variable (word (sort s)) = tt
+moves variable (word (name w)) = λ g rest. refl
 moves variable stray = tt
 moves sortName opens = tt
 moves sortName closes = tt
-moves sortName (word w) = on_sort_lem w
+moves sortName (word (constant v)) = tt
+moves sortName (word negation) = tt
+moves sortName (word (connective c)) = tt
+moves sortName (word (quantifier q)) = tt
+moves sortName (word letting) = tt
+moves sortName (word (sort s)) = λ g rest. refl
+moves sortName (word (name w)) = tt
 moves sortName stray = tt
 
 -- ---- what is read is spelled

@@ -12,7 +12,7 @@ use Rattle.grammar.specs.Bytes.{Class, space, lineEnd, semicolon, opening, closi
 use Rattle.grammar.specs.Bytes.{quantifier, letting, sort, name, class_of, word_of}
 use Rattle.grammar.specs.Grammar.{SortedVariable, declares, Formula, called, truth, bracketed, Bracketed, denies, connects, applies, quantifies}
 use Rattle.grammar.specs.Grammar.{lets, Formulas, no_formula, and_formula, Bindings, no_binding, and_binding, Lexeme, opens, closes, word, stray}
-use Rattle.grammar.specs.Grammar.{spell, spell_variable, spell_variables, spell_bracketed, spell_formulas, spell_bindings, spelling, Mode, between}
+use Rattle.grammar.specs.Grammar.{spell, spell_variables, spell_bracketed, spell_formulas, spell_bindings, spelling, Mode, between}
 use Rattle.grammar.specs.Grammar.{comment, within, bracket, ends, onwards, last, lexemes_from, lexemes, Reads}
 use Rattle.grammar.specs.Parser.{Due, formula, formulas, inside, opener, closer, sorted, sorteds, bound, bounds, variable, sortName, One, Fill}
 use Rattle.grammar.specs.Parser.{Stack, and_then, push, advance, on_formula, on_formulas, on_inside, on_variable, on_sort, takes, feed}

@@ -1,5 +1,5 @@
 -- The next lexeme of a text whose lexemes are known.
---     next_is, none_next                      the lexeme that is found, and what follows; or there is none
+--     next_is, none_next, behind              the lexeme that is found, and what follows; or there is none
 --     spell_arguments, spell_pairs            parts are spelled as the arguments and the pairs that they are
 --     alone_at, bracket_at, none_at, over_at  heads
 --     no_head                                 where no head is found, no formula is spelled
@@ -25,11 +25,13 @@ use Rattle.grammar.specs.Grammar.{Formulas, no_formula, and_formula, Bindings, n
 use Rattle.grammar.specs.Grammar.{spell, spell_bracketed, spell_variable, spell_variables, spell_formulas, spell_bindings}
 use Rattle.lexing.specs.Counted.{Numbered}
 use Rattle.lexing.specs.Words.{word_in, lexeme_in}
-use Rattle.lexing.specs.Lexes.{lexemes_of, Found}
+use Rattle.lexing.specs.Lexes.{lexemes_of, Tail, Found, rest_of, Leaves}
 use Rattle.lexing.specs.declared.lexemes.Lexed.{Lexed}
 use Rattle.lexing.specs.declared.lexemes.Lexeme.{Lexeme as Read}
 use Rattle.lexing.specs.declared.words.Word.{Word}
+use Rattle.lexing.proofs.Tails.{tail_self, tail_after}
 use Rattle.lexing.proofs.NumeralLaws.{numbered_or}
+use Rattle.lexing.proofs.LexemeLaws.{word_same}
 use Rattle.heads.specs.declared.Head.{Head}
 use Rattle.heads.specs.declared.Headed.{Headed}
 use Rattle.heads.specs.declared.Item.{Item}
@@ -37,7 +39,7 @@ use Rattle.heads.specs.HeadSymbols.{variable_for}
 use Rattle.heads.proofs.WordNumbers.{variable_le}
 use Rattle.heads.specs.Places as P
 use Rattle.heads.specs.Places.{Part, after_part, spell_part, spell_parts, arguments, pairs, head_in, Starts, HeadInside, HeadOf, HeadAt, BracketedAt}
-use Rattle.heads.specs.Places.{ListedAt, Ends, GoesOn, VariableOf, PartOf, ItemAt, NamedAt, VariableAt, PartAt, Past, PartEnd}
+use Rattle.heads.specs.Places.{ListedAt, Ends, GoesOn, VariableOf, PartOf, ItemAt, NamedAt, VariableAt, PartAt, PartEnd}
 
 -- ---- the next lexeme
 
@@ -59,8 +61,10 @@ next_is {text} {r} f l ls e =
     tails : {l l' : Lexeme} {ls ls' : List Lexeme} → l ∷ ls ≡ l' ∷ ls' → ls ≡ ls'
     tails e = cc
 
-word_same : {v w : _} → word v ≡ word w → v ≡ w
-word_same e = cc
+pub behind : {text rest : List ℕ} → Leaves text (rest_of (lexemes_of text)) rest → {l : Lexeme} {ls : List Lexeme} → lexemes_of text ≡ l ∷ ls
+    → lexemes_of rest ≡ ls
+unfolding rest_of
+behind there e = there.lexemes ∙ ap rest_of e
 
 no_word : {w : _} → word w ≡ opens → ⊥
 no_word e = let z : ◌≡◌ {A = Bool} true false = cc in true≢false z
@@ -83,7 +87,7 @@ spell_pairs (and_binding x φ xs) rest =
 module _ {text : List ℕ} {first : Lexed} (h : Found text first) where
   pub alone_at : (w : Word) → lexeme_in first.lexeme ≡ word (word_in w) → HeadAt text (Some (record { head = Head.Alone w; rest = first.rest }))
   unfolding spell
-  alone_at w is = record { fewer = h.fewer; means = means }
+  alone_at w is = record { tail = h.tail; fewer = h.fewer; means = means }
     where
       means : (φ : Formula) (rest : List Lexeme) → lexemes_of text ≡ spell φ rest → HeadOf (Some (record { head = Head.Alone w; rest = first.rest })) φ rest
       means (called v) rest e = let k = next_is h (word (name v)) rest e in (ap P.alone (word_same (sym is ∙ k.lexeme)), k.after)
@@ -92,8 +96,12 @@ module _ {text : List ℕ} {first : Lexed} (h : Found text first) where
 
   pub bracket_at : {r : Option Headed} → lexeme_in first.lexeme ≡ opens → BracketedAt first.rest.now r → HeadAt text r
   unfolding spell
-  bracket_at {r} is b = record { fewer = fewer r b.fewer; means = means }
+  bracket_at {r} is b = record { tail = tail r b.tail; fewer = fewer r b.fewer; means = means }
     where
+      tail : (r : Option Headed) → IfSome r (λ x. Tail first.rest.now x.rest.now) → IfSome r (λ x. Tail text x.rest.now)
+      tail None t = tt
+      tail (Some x) t = tail_after h.tail t
+
       fewer : (r : Option Headed) → IfSome r (λ x. length x.rest.now < length first.rest.now) → IfSome r (λ x. length x.rest.now < length text)
       fewer None l = tt
       fewer (Some x) l = omega (arith, l, h.fewer)
@@ -106,7 +114,7 @@ module _ {text : List ℕ} {first : Lexed} (h : Found text first) where
   -- no formula starts with another lexeme
   pub none_at : (l : Lexeme) → lexeme_in first.lexeme ≡ l → (l ≡ opens → ⊥) → ((w : _) → l ≡ word w → ⊥) → HeadAt text None
   unfolding spell
-  none_at l is other noWord = record { fewer = tt; means = means }
+  none_at l is other noWord = record { tail = tt; fewer = tt; means = means }
     where
       means : (φ : Formula) (rest : List Lexeme) → lexemes_of text ≡ spell φ rest → HeadOf None φ rest
       means (called v) rest e = noWord (name v) (sym is ∙ (next_is h (word (name v)) rest e).lexeme)
@@ -115,7 +123,7 @@ module _ {text : List ℕ} {first : Lexed} (h : Found text first) where
 
 pub over_at : {text : List ℕ} → lexemes_of text ≡ [] → HeadAt text None
 unfolding spell
-over_at {text} over = record { fewer = tt; means = means }
+over_at {text} over = record { tail = tt; fewer = tt; means = means }
   where
     means : (φ : Formula) (rest : List Lexeme) → lexemes_of text ≡ spell φ rest → HeadOf None φ rest
     means (called v) rest e = none_next over e
@@ -160,7 +168,7 @@ module _ {text : List ℕ} {next : Lexed} (h : Found text next) where
   pub application_at : (w : Word) → lexeme_in next.lexeme ≡ word (word_in w) → ((b : BinderName) → w ≡ Word.Quantifier b → ⊥) → (w ≡ Word.Let → ⊥)
       → BracketedAt text (Some (record { head = Head.Application w; rest = next.rest }))
   unfolding spell spell_parts
-  application_at w is noQuantifier noLet = record { fewer = h.fewer; means = means }
+  application_at w is noQuantifier noLet = record { tail = h.tail; fewer = h.fewer; means = means }
     where
       means : (φ : Bracketed) (rest : List Lexeme) → lexemes_of text ≡ spell_bracketed φ rest
           → HeadInside (Some (record { head = Head.Application w; rest = next.rest })) φ rest
@@ -172,6 +180,10 @@ module _ {text : List ℕ} {next : Lexed} (h : Found text next) where
       means (quantifies q x xs φ) rest e = absurd (is_quantifier w q (word_same (sym is ∙ (next_is h _ _ e).lexeme)) noQuantifier)
       means (lets x φ xs ψ) rest e = absurd (is_let w (word_same (sym is ∙ (next_is h _ _ e).lexeme)) noLet)
 
+  tail : (r : Option Headed) → IfSome r (λ x. Tail next.rest.now x.rest.now) → IfSome r (λ x. Tail text x.rest.now)
+  tail None t = tt
+  tail (Some x) t = tail_after h.tail t
+
   fewer : (r : Option Headed) → IfSome r (λ x. length x.rest.now < length next.rest.now) → IfSome r (λ x. length x.rest.now < length text)
   fewer None l = tt
   fewer (Some x) l = omega (arith, l, h.fewer)
@@ -179,7 +191,7 @@ module _ {text : List ℕ} {next : Lexed} (h : Found text next) where
   pub quantifier_at : {r : Option Headed} (q : Binder) → lexeme_in next.lexeme ≡ word (quantifier q) → ListedAt next.rest.now (P.quantifying q) r
       → BracketedAt text r
   unfolding spell spell_variables
-  quantifier_at {r} q is b = record { fewer = fewer r b.fewer; means = means }
+  quantifier_at {r} q is b = record { tail = tail r b.tail; fewer = fewer r b.fewer; means = means }
     where
       means : (φ : Bracketed) (rest : List Lexeme) → lexemes_of text ≡ spell_bracketed φ rest → HeadInside r φ rest
       means (denies φ) rest e = absurd (other (sym is ∙ (next_is h _ _ e).lexeme))
@@ -208,7 +220,7 @@ module _ {text : List ℕ} {next : Lexed} (h : Found text next) where
 
   pub let_at : {r : Option Headed} → lexeme_in next.lexeme ≡ word letting → ListedAt next.rest.now P.binding r → BracketedAt text r
   unfolding spell spell_parts
-  let_at {r} is b = record { fewer = fewer r b.fewer; means = means }
+  let_at {r} is b = record { tail = tail r b.tail; fewer = fewer r b.fewer; means = means }
     where
       means : (φ : Bracketed) (rest : List Lexeme) → lexemes_of text ≡ spell_bracketed φ rest → HeadInside r φ rest
       means (denies φ) rest e = absurd (other (sym is ∙ (next_is h _ _ e).lexeme))
@@ -234,7 +246,7 @@ module _ {text : List ℕ} {next : Lexed} (h : Found text next) where
   -- no word
   pub no_word_at : ((w : _) → lexeme_in next.lexeme ≡ word w → ⊥) → BracketedAt text None
   unfolding spell
-  no_word_at other = record { fewer = tt; means = means }
+  no_word_at other = record { tail = tt; fewer = tt; means = means }
     where
       means : (φ : Bracketed) (rest : List Lexeme) → lexemes_of text ≡ spell_bracketed φ rest → HeadInside None φ rest
       means (denies φ) rest e = other _ (next_is h _ _ e).lexeme
@@ -245,7 +257,7 @@ module _ {text : List ℕ} {next : Lexed} (h : Found text next) where
 
 pub over_inside : {text : List ℕ} → lexemes_of text ≡ [] → BracketedAt text None
 unfolding spell
-over_inside {text} over = record { fewer = tt; means = means }
+over_inside {text} over = record { tail = tt; fewer = tt; means = means }
   where
     means : (φ : Bracketed) (rest : List Lexeme) → lexemes_of text ≡ spell_bracketed φ rest → HeadInside None φ rest
     means (denies φ) rest e = none_next over e
@@ -283,7 +295,7 @@ module _ (n : ℕ) {text : List ℕ} where
     name_on small w is v numbered {x} k =
         let same : x ≡ variable_for n (word_in w) = k ∙ numbered_or _ v numbered in
         record {
-          item = record { fewer = omega (arith, h.fewer); word = omega (arith, same, small, variable_le n (word_in w)) };
+          item = record { tail = h.tail; fewer = omega (arith, h.fewer); word = omega (arith, same, small, variable_le n (word_in w)) };
           means = λ u ls e.
               let next = next_is h (word (name u)) ls e in
               record {
@@ -294,13 +306,13 @@ module _ (n : ℕ) {text : List ℕ} where
 
   -- ---- the variables of a quantifier
 
-  ended : {r : Item} → length r.rest.now ≤ length text → r.variable ≡ None → ItemAt text r
-  ended {r} l nothing = record { fewer = l; word = subst (λ (v : Option ℕ). IfSome v (λ x. x ≤ 4294967295)) (sym nothing) tt }
+  ended : {r : Item} → Tail text r.rest.now → length r.rest.now ≤ length text → r.variable ≡ None → ItemAt text r
+  ended {r} t l nothing = record { tail = t; fewer = l; word = subst (λ (v : Option ℕ). IfSome v (λ x. x ≤ 4294967295)) (sym nothing) tt }
 
   pub variable_over : {r : Item} → lexemes_of text ≡ [] → r.rest.now ≡ text → r.variable ≡ None → VariableAt text n r
   unfolding spell_variables spell_variable
   variable_over {r} over left nothing = record {
-    item = ended (omega (arith, ap length left)) nothing;
+    item = ended (rw left (tail_self text)) (omega (arith, ap length left)) nothing;
     further = subst (λ (v : Option ℕ). IfSome v (λ x. length r.rest.now < length text)) (sym nothing) tt;
     means = means;
   }
@@ -313,7 +325,7 @@ module _ (n : ℕ) {text : List ℕ} where
     pub variable_ends : {r : Item} → (lexeme_in first.lexeme ≡ opens → ⊥) → r.rest.now ≡ first.rest.now → r.variable ≡ None → VariableAt text n r
     unfolding spell_variables spell_variable
     variable_ends {r} other left nothing = record {
-      item = ended (omega (arith, ap length left, h.fewer)) nothing;
+      item = ended (rw left h.tail) (omega (arith, ap length left, h.fewer)) nothing;
       further = subst (λ (v : Option ℕ). IfSome v (λ x. length r.rest.now < length text)) (sym nothing) tt;
       means = means;
     }
@@ -322,13 +334,17 @@ module _ (n : ℕ) {text : List ℕ} where
         means [] rest e = record { last = nothing; after = ap lexemes_of left ∙ (next_is h _ _ e).after }
         means (declares x s ∷ xs) rest e = absurd (other (next_is h _ _ e).lexeme)
 
-    pub variable_goes : {named r : Item} {a : List ℕ} → lexeme_in first.lexeme ≡ opens → NamedAt first.rest.now n named → Past named.rest.now a
-        → Past a r.rest.now → r.variable ≡ named.variable → VariableAt text n r
+    pub variable_goes : {named r : Item} {a : List ℕ} → lexeme_in first.lexeme ≡ opens → NamedAt first.rest.now n named
+        → Leaves named.rest.now (rest_of (lexemes_of named.rest.now)) a → Leaves a (rest_of (lexemes_of a)) r.rest.now → r.variable ≡ named.variable → VariableAt text n r
     unfolding spell_variables spell_variable
     variable_goes {named} {r} {a} is it p q same =
         let few : length r.rest.now < length text = omega (arith, h.fewer, it.item.fewer, p.fewer, q.fewer) in
         record {
-          item = record { fewer = omega (arith, few); word = subst (λ (v : Option ℕ). IfSome v (λ x. x ≤ 4294967295)) (sym same) it.item.word };
+          item = record {
+            tail = tail_after h.tail (tail_after it.item.tail (tail_after p.tail q.tail));
+            fewer = omega (arith, few);
+            word = subst (λ (v : Option ℕ). IfSome v (λ x. x ≤ 4294967295)) (sym same) it.item.word;
+          };
           further = further r.variable few;
           means = means;
         }
@@ -344,13 +360,13 @@ module _ (n : ℕ) {text : List ℕ} where
             other e = absurd (cc)
         means (declares x s ∷ xs) rest e =
             let k = it.means _ _ (next_is h _ _ e).after in
-            record { variable = same ∙ k.variable; after = q.means _ _ (p.means _ _ k.after) }
+            record { variable = same ∙ k.variable; after = behind q (behind p k.after) }
 
   -- ---- parts
 
   pub part_over : (bound : Bool) {r : Item} → lexemes_of text ≡ [] → r.rest.now ≡ text → r.variable ≡ None → PartAt text n bound r
   unfolding spell_parts
-  part_over bound {r} over left nothing = record { item = ended (omega (arith, ap length left)) nothing; means = means bound }
+  part_over bound {r} over left nothing = record { item = ended (rw left (tail_self text)) (omega (arith, ap length left)) nothing; means = means bound }
     where
       means : (bound : Bool) (ps : List Part) (rest : List Lexeme) → lexemes_of text ≡ spell_parts bound ps rest → PartOf n bound r ps rest
       means bound [] rest e = absurd (none_next over e)
@@ -360,7 +376,7 @@ module _ (n : ℕ) {text : List ℕ} where
   module _ {first : Lexed} (h : Found text first) where
     pub part_ends : (bound : Bool) {r : Item} → lexeme_in first.lexeme ≡ closes → r.rest.now ≡ first.rest.now → r.variable ≡ None → PartAt text n bound r
     unfolding spell_parts
-    part_ends bound {r} is left nothing = record { item = ended (omega (arith, ap length left, h.fewer)) nothing; means = means bound }
+    part_ends bound {r} is left nothing = record { item = ended (rw left h.tail) (omega (arith, ap length left, h.fewer)) nothing; means = means bound }
       where
         other : closes ≡ opens → ⊥
         other e = absurd (cc)
@@ -378,6 +394,7 @@ module _ (n : ℕ) {text : List ℕ} where
       unfolding spell_parts
       argument_goes {r} left none = record {
         item = record {
+          tail = rw left (tail_self text);
           fewer = omega (arith, ap length left);
           word = subst (λ (v : Option ℕ). IfSome v (λ x. x ≤ 4294967295)) (sym none) (omega arith);
         };
@@ -390,7 +407,14 @@ module _ (n : ℕ) {text : List ℕ} where
 
       pub pair_goes : {r : Item} → NamedAt first.rest.now n r → PartAt text n true r
       unfolding spell_parts
-      pair_goes {r} it = record { item = record { fewer = omega (arith, h.fewer, it.item.fewer); word = it.item.word }; means = means }
+      pair_goes {r} it = record {
+        item = record {
+          tail = tail_after h.tail it.item.tail;
+          fewer = omega (arith, h.fewer, it.item.fewer);
+          word = it.item.word;
+        };
+        means = means;
+      }
         where
           means : (ps : List Part) (rest : List Lexeme) → lexemes_of text ≡ spell_parts true ps rest → PartOf n true r ps rest
           means [] rest e = absurd (other (next_is h _ _ e).lexeme)
@@ -398,10 +422,10 @@ module _ (n : ℕ) {text : List ℕ} where
 
 -- ---- behind a part
 
-pub after_part_lem : {text rest : List ℕ} → Past text rest → PartEnd true text rest
+pub after_part_lem : {text rest : List ℕ} → Leaves text (rest_of (lexemes_of text)) rest → PartEnd true text rest
 unfolding after_part
-after_part_lem p = record { fewer = p.fewer; means = λ ls e. p.means closes ls e }
+after_part_lem p = record { tail = p.tail; fewer = p.fewer; means = λ ls e. behind p e }
 
 pub no_part_end : (text : List ℕ) → PartEnd false text text
 unfolding after_part
-no_part_end text = record { fewer = omega arith; means = λ ls e. e }
+no_part_end text = record { tail = tail_self text; fewer = omega arith; means = λ ls e. e }

@@ -7,7 +7,7 @@ use Rattle.grammar.specs.Grammar.{SortedVariable, declares, Formula, called, tru
 use Rattle.grammar.specs.Grammar.{Formulas, no_formula, and_formula, Bindings, no_binding, and_binding, Lexeme, opens, closes, word}
 use Rattle.grammar.specs.Grammar.{spell, spell_bracketed, spell_variables}
 use Rattle.lexing.specs.Counted.{variable_among}
-use Rattle.lexing.specs.Lexes.{lexemes_of}
+use Rattle.lexing.specs.Lexes.{lexemes_of, Tail}
 use Rattle.lexing.specs.Words.{word_in}
 use Rattle.heads.specs.declared.Head.{Head}
 use Rattle.heads.specs.declared.Headed.{Headed}
@@ -76,18 +76,21 @@ HeadOf r (called w) rest = Starts r (alone (name w)) rest
 HeadOf r (truth v) rest = Starts r (alone (constant v)) rest
 HeadOf r (bracketed φ) rest = HeadInside r φ rest
 
--- The head of a formula; `None` where none starts.
+-- The head of a formula, and behind it the text from some byte on; `None` where none starts.
 pub record HeadAt (text : List ℕ) (r : Option Headed) : Type 0 where
+  pub tail : IfSome r (λ h. Tail text h.rest.now)
   pub fewer : IfSome r (λ h. length h.rest.now < length text)
   pub means : (φ : Formula) (rest : List Lexeme) → lexemes_of text ≡ spell φ rest → HeadOf r φ rest
 
 -- The same behind an opening bracket.
 pub record BracketedAt (text : List ℕ) (r : Option Headed) : Type 0 where
+  pub tail : IfSome r (λ h. Tail text h.rest.now)
   pub fewer : IfSome r (λ h. length h.rest.now < length text)
   pub means : (φ : Bracketed) (rest : List Lexeme) → lexemes_of text ≡ spell_bracketed φ rest → HeadInside r φ rest
 
 -- The head k and a lexeme, the opening bracket of its list.
 pub record ListedAt (text : List ℕ) (k : Opening) (r : Option Headed) : Type 0 where
+  pub tail : IfSome r (λ h. Tail text h.rest.now)
   pub fewer : IfSome r (λ h. length h.rest.now < length text)
   pub means : (l : Lexeme) (ls : List Lexeme) → lexemes_of text ≡ l ∷ ls → Starts r k ls
 
@@ -111,8 +114,9 @@ abbrev pub PartOf : ℕ → Bool → Item → List Part → List Lexeme → Type
 PartOf n bound r [] rest = Ends r rest
 PartOf n bound r (p ∷ ps) rest = GoesOn r (cond bound (variable_among n p.called) 0) (spell p.formula (after_part bound (spell_parts bound ps rest)))
 
--- The first item, or the list's end.
+-- The first item, or the list's end; and behind it the text from some byte on.
 pub record ItemAt (text : List ℕ) (r : Item) : Type 0 where
+  pub tail : Tail text r.rest.now
   pub fewer : length r.rest.now ≤ length text
   pub word : IfSome r.variable (λ x. x ≤ 4294967295)
 
@@ -130,12 +134,8 @@ pub record PartAt (text : List ℕ) (n : ℕ) (bound : Bool) (r : Item) : Type 0
   pub item : ItemAt text r
   pub means : (ps : List Part) (rest : List Lexeme) → lexemes_of text ≡ spell_parts bound ps rest → PartOf n bound r ps rest
 
--- behind the first lexeme
-pub record Past (text rest : List ℕ) : Type 0 where
-  pub fewer : length rest ≤ length text
-  pub means : (l : Lexeme) (ls : List Lexeme) → lexemes_of text ≡ l ∷ ls → lexemes_of rest ≡ ls
-
 -- behind a part, from the text behind its formula
 pub record PartEnd (bound : Bool) (text rest : List ℕ) : Type 0 where
+  pub tail : Tail text rest
   pub fewer : length rest ≤ length text
   pub means : (ls : List Lexeme) → lexemes_of text ≡ after_part bound ls → lexemes_of rest ≡ ls

@@ -25,7 +25,7 @@ pub struct Headed<'a> {
     pub rest: &'a [u8],
 }
 
-// An item of a list by its variable, 0 where it has none, or `None` at the list's end; and the text behind it.
+// An item of a list, or the list's end; and the text behind it. The end is `None`; an item without a variable has 0 in its place, as definitions have it.
 #[derive(Clone, Copy)]
 pub struct Item<'a> {
     pub variable: Option<usize>,

@@ -1,11 +1,11 @@
 // What stands at the start of a text: the head of a formula, an item of a list.
 ghost use Rattle.std.specs.Prelude.{◌≡◌, ◌≤◌};
 ghost use Rattle.bundle.specs.Limits.{limits};
-ghost use Rattle.heads.specs.Places.{head_in, HeadAt, BracketedAt, ListedAt, NamedAt, Past, VariableAt, PartAt, PartEnd};
+ghost use Rattle.heads.specs.Places.{head_in, HeadAt, BracketedAt, ListedAt, NamedAt, VariableAt, PartAt, PartEnd};
 
 use crate::words::variable_for;
 use crate::{Head, Headed, Item};
-use lexing::lexemes::{Lexeme, next_lexeme};
+use lexing::lexemes::{Lexeme, after_lexeme, next_lexeme};
 use lexing::words::Word;
 
 // The head of a formula; `None` where none starts.
@@ -24,7 +24,7 @@ pub fn head_at<'a>(text: &'a [u8]) -> Option<Headed<'a>>
     }
 }
 
-// The same behind an opening bracket.
+// The same behind an opening bracket. The arms make the head that a word stands for: no table of functions, from which one is chosen.
 fn bracketed_at<'a>(text: &'a [u8]) -> Option<Headed<'a>>
     ensures { BracketedAt text.now result }
 {
@@ -51,16 +51,6 @@ fn listed_at<'a>(text: &'a [u8], head: Head<'a>) -> Option<Headed<'a>>
         head,
         rest: opened.rest,
     })
-}
-
-// The text behind its first lexeme, if it has one: as bracketing's `after_lexeme`, with the clause that the laws of heads take.
-fn past<'a>(text: &'a [u8]) -> &'a [u8]
-    ensures { Past text.now result.now }
-{
-    match next_lexeme(text) {
-        Some(first) => first.rest,
-        None => text,
-    }
 }
 
 // The item of the variable that is named at the start of a text.
@@ -106,7 +96,7 @@ pub fn variable_at<'a>(text: &'a [u8], variables: usize) -> Item<'a>
     let named = named_at(first.rest, variables);
     Item {
         variable: named.variable,
-        rest: past(past(named.rest)),
+        rest: after_lexeme(after_lexeme(named.rest)),
     }
 }
 
@@ -140,5 +130,5 @@ pub fn part_at<'a>(text: &'a [u8], variables: usize, bound: bool) -> Item<'a>
 pub fn part_end<'a>(text: &'a [u8], bound: bool) -> &'a [u8]
     ensures { PartEnd bound text.now result.now }
 {
-    if bound { past(text) } else { text }
+    if bound { after_lexeme(text) } else { text }
 }

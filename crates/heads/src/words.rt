@@ -31,7 +31,7 @@ fn connective_symbol(connective: Connective, sort: usize) -> usize
     }
 }
 
-// The symbol, where so many are declared and the first argument has this sort; 0 for none, as records have it.
+// The symbol, where so many are declared and the first argument has this sort; 0 for none, as records and definitions have it: it is placed as it is.
 pub fn symbol_for(symbols: usize, word: Word<'_>, sort: usize) -> usize
     requires { symbols ≤ 4294967263 }
     ensures { (result ≡ symbol_for symbols (word_in word.entry) sort) × (result ≤ 4294967295) }

@@ -11,7 +11,7 @@
 --     Replacing, replacing_on                a list of variables replaced, side by side with a list of terms
 --     moved_inside                           only variables that there are can be moved
 --     inherited, agrees_copied               the row and the sets of the parent
---     images_on, sets_on                     with the entry written over them, they are the context's own
+--     rows_on                                with the entry written over them, they are the context's own
 --     apart_settled, subset_in_scope         a term is settled where its free set and the moved set have nothing in common; in scope where its free set is a
 --                                            subset of that of the mentioned variables
 use mathlib.Core.Path.{◌≡◌, refl, sym, ap, ◌∙◌}
@@ -415,7 +415,7 @@ module _ (r r' : Rows) (k p : ℕ) (lower : p < k) (images : Images r.bundle r.i
     here : (x : ℕ) → mention_in r.bundle r''.images k x ≡ found r.bundle k x
     here x = (rw kept.bundle at (entered.mentions x)) ∙ ap (f x) (copied x ∙ images.same p x lower) ∙ own x
 
-    pub images_on : Images r.bundle r''.images (k + 1)
+    images_on : Images r.bundle r''.images (k + 1)
     images_on = record { long = omega (arith, room.row, all_kept.long_row); same = λ j x h. go j x (ℕ_discrete j k) h }
       where
         go : (j x : ℕ) → Dec (j ≡ k) → j < k + 1 → mention_in r.bundle r''.images j x ≡ found r.bundle j x
@@ -430,7 +430,7 @@ module _ (r r' : Rows) (k p : ℕ) (lower : p < k) (images : Images r.bundle r.i
       (λ x. rw (all_kept.bundle, all_kept.n) at (entered.agrees.mentions x)),
     )
 
-    pub sets_on : Scopes r.bundle r''.scopes r.n (k + 1)
+    sets_on : Scopes r.bundle r''.scopes r.n (k + 1)
     unfolding mentioned
     sets_on = record {
       long = omega (arith, room.words, all_kept.long_set, distrib r.n k);
@@ -454,6 +454,9 @@ module _ (r r' : Rows) (k p : ℕ) (lower : p < k) (images : Images r.bundle r.i
         inside : (j x : ℕ) → Dec (j ≡ k) → j < k + 1 → moved r.bundle j x ≡ true → (1 ≤ x) × (x ≤ length r.bundle.variables)
         inside j x (yes q) h e = moved_inside r.bundle r''.images k x (here x) (rw q at e)
         inside j x (no q) h e = sets.few j x (omega arith) e
+
+    pub rows_on : Images r.bundle r''.images (k + 1) × Scopes r.bundle r''.scopes r.n (k + 1)
+    rows_on = (images_on, sets_on)
 
 -- ---- settled terms, and terms in scope
 

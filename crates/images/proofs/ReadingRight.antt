@@ -6,14 +6,15 @@
 use mathlib.Core.Path.{◌≡◌, refl, sym, ap, ◌∙◌, fun_ext}
 use mathlib.Core.Bool.{Bool, true, false, not, ◌||◌}
 use mathlib.Core.List.{List, append-nil}
-use Prim.Native.Nat.{ℕ, ◌+◌, ◌*◌, ◌-◌, ◌/◌, ◌^◌, ◌≤◌, ◌<◌}
+use Prim.Native.Nat.{ℕ, ◌+◌, ◌*◌, ◌-◌, ◌/◌, ◌≤◌, ◌<◌}
 use native.Mathlib.Omega.{arith}
 use native.Mathlib.Nat.{mul-le-mul_left}
 use native.Mathlib.Decide.{ℕ_discrete, dec_le}
-use lib.ListN.{length, get_or}
+use lib.ListN.{length}
 use borrow.Author.Tests.{le-leb, lt-leb}
 use Rattle.bundle.specs.Bundle.{Bundle, no_term, no_context, term_of, context_of, step_of}
 use Rattle.bundle.specs.File.{tab}
+use Rattle.bundle.specs.Lists.{numbers}
 use Rattle.bundle.proofs.Tab.{at_none}
 use Rattle.logic.specs.declared.Mention.{Mention}
 use Rattle.logic.specs.declared.Image.TheVariants.{Own}
@@ -24,13 +25,13 @@ use Rattle.logic.specs.Contexts.{image, found, as_image, moved_by, moved, settle
 use Rattle.logic.specs.Rules.{step_fault_by, step_fault, pairs_by, walked_pairs}
 use Rattle.logic.specs.Readings.{Reading, reading_of}
 use Rattle.logic.proofs.Tables.{table_below}
-use Rattle.logic.proofs.Tests.{up_to_all}
+use Rattle.logic.proofs.Tests.{numbers_in, up_to_all}
 use Rattle.logic.proofs.Found.{image_found, found_none}
 use Rattle.free_variables.specs.TermSets.{TermSets, Words, free_in, settled_in, in_scope_in, moved_at, mentioned_at}
 use Rattle.free_variables.specs.FreeSets.{FreeSets}
 use Rattle.images.specs.ContextRows.{Scopes}
 use Rattle.images.specs.LentReading.{Known, step_in, mentions_in, images_in, all_settled_in, all_in_scope_in, reading_in, Right}
-use Rattle.free_variables.proofs.FreeWords.{free_zero, free_past, free_some, settled_zero, settled_past, settled_some, scope_zero, scope_past, scope_some}
+use Rattle.free_variables.proofs.FreeWords.{numbers_past}
 use Rattle.images.proofs.ContextRows.{scopes_few, apart_settled, subset_in_scope}
 
 -- ---- numbers that are no record's
@@ -82,44 +83,40 @@ step_right b bed short p =
 
 -- ---- the readings
 
+-- a number is that of a term, or of none
+by_term : {A : Type 0} (s : TermSets) (t : ℕ) → (numbers (length s.bundle.terms) t ≡ false → term_of s.bundle t ≡ no_term → A)
+    → (numbers (length s.bundle.terms) t ≡ true → 1 ≤ t → t ≤ length s.bundle.terms → A) → A
+by_term {A} s t none some = go (ℕ_discrete t 0) (dec_le t last)
+  where
+    last : ℕ
+    last = length s.bundle.terms
+
+    go : Dec (t ≡ 0) → Dec (t ≤ last) → A
+    go (yes q) d = none (rw q) (rw q)
+    go (no q) (yes l) = some (numbers_in last t (omega arith) l) (omega arith) l
+    go (no q) (no l) = none (numbers_past last t (omega arith)) (at_none no_term s.bundle.terms t (omega arith))
+
 module _ (s : TermSets) (sets : FreeSets s) where
   pub free_right : (t v : ℕ) → free_in s t v ≡ free_at s.bundle t v
-  free_right t v = go (ℕ_discrete t 0) (dec_le t (length s.bundle.terms))
-    where
-      none : term_of s.bundle t ≡ no_term → free_at s.bundle t v ≡ false
-      none e = ap (λ (free : ℕ → Bool). free v) (nothing_free_lem s.bundle t e)
-
-      go : Dec (t ≡ 0) → Dec (t ≤ length s.bundle.terms) → free_in s t v ≡ free_at s.bundle t v
-      go (yes q) d = free_zero s t v q ∙ sym (none (rw q))
-      go (no q) (yes l) = free_some s t v q l ∙ sets.same t v (omega arith) (omega arith)
-      go (no q) (no l) = free_past s t v (omega arith) ∙ sym (none (at_none no_term s.bundle.terms t (omega arith)))
+  unfolding free_in
+  free_right t v = by_term s t
+      (λ out none. rw (out, nothing_free_lem s.bundle t none))
+      (λ inside one few. rw inside (sets.same t v one few))
 
   module _ (words : Words s.words) (m : List ℕ) where
     pub settled_right : (k t : ℕ) → Scopes s.bundle m s.n (k + 1) → settled_in s m (moved_at s.n k) t ≡ settled s.bundle k t
-    settled_right k t scopes = go (ℕ_discrete t 0) (dec_le t (length s.bundle.terms))
-      where
-        go : Dec (t ≡ 0) → Dec (t ≤ length s.bundle.terms) → settled_in s m (moved_at s.n k) t ≡ settled s.bundle k t
-        go (yes q) d = settled_zero s m (moved_at s.n k) t q ∙ sym (settled_none s.bundle k t (rw q))
-        go (no q) (yes l) =
-            settled_some s m (moved_at s.n k) t q l
-            ∙ apart_settled s.bundle s.words m (s.n * (t - 1)) s.n k t (λ v. sets.same t v (omega arith) (omega arith)) scopes
-            (λ j. words (s.n * (t - 1) + j))
-        go (no q) (no l) =
-            settled_past s m (moved_at s.n k) t (omega arith)
-            ∙ sym (settled_none s.bundle k t (at_none no_term s.bundle.terms t (omega arith)))
+    unfolding settled_in
+    settled_right k t scopes = by_term s t
+        (λ out none. rw (out, settled_none s.bundle k t none))
+        (λ inside one few. rw inside
+        (apart_settled s.bundle s.words m (s.n * (t - 1)) s.n k t (λ v. sets.same t v one few) scopes (λ j. words (s.n * (t - 1) + j))))
 
     scope_right : (k t : ℕ) → Scopes s.bundle m s.n (k + 1) → in_scope_in s m (mentioned_at s.n k) t ≡ in_scope s.bundle k t
-    scope_right k t scopes = go (ℕ_discrete t 0) (dec_le t (length s.bundle.terms))
-      where
-        go : Dec (t ≡ 0) → Dec (t ≤ length s.bundle.terms) → in_scope_in s m (mentioned_at s.n k) t ≡ in_scope s.bundle k t
-        go (yes q) d = scope_zero s m (mentioned_at s.n k) t q ∙ sym (scope_none s.bundle k t (rw q))
-        go (no q) (yes l) =
-            scope_some s m (mentioned_at s.n k) t q l
-            ∙ subset_in_scope s.bundle s.words m (s.n * (t - 1)) s.n k t (λ v. sets.same t v (omega arith) (omega arith)) scopes
-            (λ j. words (s.n * (t - 1) + j))
-        go (no q) (no l) =
-            scope_past s m (mentioned_at s.n k) t (omega arith)
-            ∙ sym (scope_none s.bundle k t (at_none no_term s.bundle.terms t (omega arith)))
+    unfolding in_scope_in
+    scope_right k t scopes = by_term s t
+        (λ out none. rw (out, scope_none s.bundle k t none))
+        (λ inside one few. rw inside
+        (subset_in_scope s.bundle s.words m (s.n * (t - 1)) s.n k t (λ v. sets.same t v one few) scopes (λ j. words (s.n * (t - 1) + j))))
 
 module _ (known : Known) (right : Right known) (words : Words known.sets.words) where
   abbrev b : Bundle

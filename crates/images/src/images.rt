@@ -8,18 +8,17 @@ use logic::kinds::Kind;
 use logic::{Image, Mention};
 
 // What a place of the table of images holds for a variable that is fixed. A term's number stands for the term, 0 for a variable that no entry
-// mentions.
+// mentions: numbers, since the table is lent words. `mention_of` gives them names.
 pub const FIXED: usize = 65535;
 
-// What the entries of a context say of variable x.
-pub fn mention_of(bundle: &Bundle, images: &[u16], context: usize, x: usize) -> Mention
-    requires { length bundle.now.variables * (context + 1) ≤ length images.now }
-    ensures { result ≡ mention_at (length bundle.now.variables) images.now context x }
+// What the entries of a context say of variable x, of so many.
+pub fn mention_of(variables: usize, images: &[u16], context: usize, x: usize) -> Mention
+    requires { variables * (context + 1) ≤ length images.now }
+    ensures { result ≡ mention_at variables images.now context x }
 {
     if x == 0 {
         return Mention::Absent;
     }
-    let variables = bundle.variables();
     if x > variables {
         return Mention::Absent;
     }
@@ -33,12 +32,12 @@ pub fn mention_of(bundle: &Bundle, images: &[u16], context: usize, x: usize) -> 
     Mention::Replaced(t)
 }
 
-// The image of variable x in a context.
-pub fn image_of(bundle: &Bundle, images: &[u16], context: usize, x: usize) -> Image
-    requires { length bundle.now.variables * (context + 1) ≤ length images.now }
-    ensures { result ≡ image_at (length bundle.now.variables) images.now context x }
+// The image of variable x in a context, of so many variables.
+pub fn image_of(variables: usize, images: &[u16], context: usize, x: usize) -> Image
+    requires { variables * (context + 1) ≤ length images.now }
+    ensures { result ≡ image_at variables images.now context x }
 {
-    let mention = mention_of(bundle, images, context, x);
+    let mention = mention_of(variables, images, context, x);
     match mention {
         Mention::Fixed => Image::Own,
         Mention::Replaced(t) => Image::Gives(t),

@@ -75,7 +75,7 @@ impl<'a> Known<'a> {
         requires { context ≤ length self.now.sets.bundle.contexts }
         ensures { result ≡ image_at (length self.now.sets.bundle.variables) self.now.images context x }
     {
-        image_of(self.sets.bundle(), self.images, context, x)
+        image_of(self.sets.bundle().variables(), self.images, context, x)
     }
 
     // Whether term t is settled in a context: no variable that the context moves is free in it.

@@ -1,20 +1,23 @@
 -- Laws of the next lexeme.
 --     word_small                                      the numbers of words
---     over, found_one, found                          the answers of `lexemes::next_lexeme`: the text's end, a byte that is a lexeme
+--     over, word_same, no_word, found_one, found      the answers of `lexemes::next_lexeme`: the text's end, a byte that is a lexeme
+--     leaves_all, leaves_next                         those of `lexemes::after_lexeme`
 use Prim.Native.Nat.{ℕ, suc, ◌-◌, ◌≤◌, ◌<◌}
 use native.Mathlib.Omega.{arith}
 use mathlib.Core.Path.{◌≡◌, refl, sym, ap, ◌∙◌}
-use mathlib.Core.Bool.{cond}
+use mathlib.Core.Bool.{Bool, true, false, cond}
 use mathlib.Core.List.{List, [], ◌∷◌, ◌++◌}
 use lib.ListN.{length, get_or, take, drop, length-drop}
 use lib.Dec.{eqb}
+use Rattle.std.proofs.lemmas.List.{take-append-drop, length-take-le}
 use Rattle.grammar.specs.Bytes.{Class, space, lineEnd, semicolon, opening, closing, digit, symbol, other, Word, constant, negation, connective}
-use Rattle.grammar.specs.Bytes.{quantifier, letting, sort, name, class_of}
-use Rattle.grammar.specs.Grammar.{Lexeme, opens, closes, stray, between, bracket, ends, outside, onwards, last, lexemes_from}
+use Rattle.grammar.specs.Bytes.{quantifier, letting, sort, name, class_of, word_of}
+use Rattle.grammar.specs.Grammar.{Lexeme, opens, closes, word, stray, between, bracket, ends, outside, onwards, last, lexemes_from}
 use Rattle.lexing.specs.Codes.{word_code, class_code}
 use Rattle.lexing.specs.Words.{lexeme_in}
-use Rattle.lexing.specs.Lexes.{lexemes_of, Skipped, Found}
+use Rattle.lexing.specs.Lexes.{lexemes_of, Skipped, Found, rest_of, Leaves}
 use Rattle.lexing.specs.declared.lexemes.Lexed.{Lexed}
+use Rattle.lexing.proofs.Tails.{tail_self, tail_at, tail_after}
 use Rattle.lexing.proofs.SkipLaws.{step, rest_all}
 
 pub word_small : (w : Word) → (3 ≤ word_code w) × (word_code w < 10)
@@ -36,9 +39,20 @@ over text (c ∷ rest) h e = absurd (some (length rest) e)
     some : (n : ℕ) → suc n ≡ 0 → ⊥
     some n e = omega arith
 
+pub word_same : {v w : Word} → word v ≡ word w → v ≡ w
+word_same e = cc
+
 -- a byte that is a lexeme, by the number of its class
 abbrev pub one_lexeme : ℕ → Lexeme
 one_lexeme k = cond (eqb k 3) opens (cond (eqb k 4) closes stray)
+
+pub no_word : (k : ℕ) (w : Word) → one_lexeme k ≡ word w → ⊥
+no_word k w e = go (eqb k 3) (eqb k 4) e
+  where
+    go : (p q : Bool) → cond p opens (cond q closes stray) ≡ word w → ⊥
+    go true q e = absurd (cc)
+    go false true e = absurd (cc)
+    go false false e = absurd (cc)
 
 module _ (text rest : List ℕ) (h : Skipped text rest) where
   pub found_one : 0 < length rest → (k : ℕ) → k ≡ class_code (class_of (get_or rest 0 0)) → (k ≡ 6 → ⊥)
@@ -57,10 +71,28 @@ module _ (text rest : List ℕ) (h : Skipped text rest) where
       go symbol a n = absurd (n refl)
       go other a n = refl
 
-  -- a lexeme that ends before byte e, where the others follow
-  pub found : (l : Lexed) (e : ℕ) → 0 < e → 0 < length rest → l.rest.now ≡ take (length rest - e) (drop e rest)
-      → lexemes_of text ≡ lexeme_in l.lexeme ∷ lexemes_of (drop e rest) → Found text l
-  found l e some left is next =
+  -- a lexeme that ends before byte e, where the others follow: a word is what stands up to there
+  pub found : (l : Lexed) (e : ℕ) → 0 < e → e ≤ length rest → l.rest.now ≡ take (length rest - e) (drop e rest)
+      → lexemes_of text ≡ lexeme_in l.lexeme ∷ lexemes_of (drop e rest)
+      → ((w : Word) → lexeme_in l.lexeme ≡ word w → w ≡ word_of (take e rest)) → Found text l
+  found l e some le is next spells =
       let same : l.rest.now ≡ drop e rest = is ∙ rest_all rest e in
       let few : length l.rest.now ≡ length rest - e = ap length same ∙ length-drop e rest in
-      record { next = next ∙ ap (λ ls. lexeme_in l.lexeme ∷ lexemes_of ls) (sym same); fewer = omega (arith, h.fewer, few) }
+      let whole : take e rest ++ l.rest.now ≡ rest = ap (λ r. take e rest ++ r) same ∙ take-append-drop e rest in
+      record {
+        next = next ∙ ap (λ ls. lexeme_in l.lexeme ∷ lexemes_of ls) (sym same);
+        tail = tail_after h.tail (rw same (tail_at rest e le));
+        run = λ w q. (take e rest, omega (arith, length-take-le e rest le), spells w q, rw whole h.tail);
+        fewer = omega (arith, h.fewer, few);
+      }
+
+-- ---- behind the first lexeme
+
+module _ (text : List ℕ) where
+  pub leaves_all : lexemes_of text ≡ [] → Leaves text (rest_of (lexemes_of text)) text
+  unfolding rest_of
+  leaves_all e = record { lexemes = e ∙ sym (ap rest_of e); tail = tail_self text; fewer = omega arith; moves = λ ne. absurd (ne e) }
+
+  pub leaves_next : (l : Lexed) → Found text l → Leaves text (rest_of (lexemes_of text)) l.rest.now
+  unfolding rest_of
+  leaves_next l f = record { lexemes = sym (ap rest_of f.next); tail = f.tail; fewer = omega (arith, f.fewer); moves = λ ne. f.fewer }

@@ -19,6 +19,7 @@ use Rattle.grammar.specs.Grammar.{word, Mode, between, comment, within, bracket,
 use Rattle.lexing.specs.Codes.{class_code}
 use Rattle.lexing.specs.Lexes.{lexemes_of, part, Skipped, RunEnds, skips}
 use Rattle.lexing.proofs.ClassLaws.{class_small, is_class}
+use Rattle.lexing.proofs.Tails.{tail_at}
 
 -- ---- one byte
 
@@ -150,6 +151,7 @@ module _ (text : List ℕ) (m j : ℕ) (h : Skipping text m j) where
     skip_here e =
         let f = starts_here m (class_of (get_or text j 0)) h.mode (sym mode_is ∙ e) in
         record {
+          tail = tail_at text j h.inside;
           fewer = rest_fewer text j;
           same = rw f.0 at h.same;
           starts = λ x. omega (arith, f.1, ap (λ c. class_code (class_of c)) (rest_first text j));
@@ -158,6 +160,7 @@ module _ (text : List ℕ) (m j : ℕ) (h : Skipping text m j) where
   pub skip_end : length text ≤ j → Skipped text []
   unfolding last lexemes_from
   skip_end l = record {
+    tail = rw (drop_of_length-le text l) at (tail_at text j h.inside);
     fewer = omega arith;
     same = h.same ∙ past text j l (skipping m) ∙ nothing (eqb m 1);
     starts = λ x. absurd (omega arith);

@@ -3,7 +3,7 @@
 --     Common    how many bytes two runs have in common
 --     Counted   names of declared symbols and variables, by how many there are
 --     Words     words and lexemes as the code names them
---     Lexes     THE NEXT LEXEME, and what is skipped before it
+--     Lexes     THE NEXT LEXEME, what is skipped before it, and what is left behind it
 pub mod Codes
 pub mod Common
 pub mod Counted

@@ -2,7 +2,7 @@
 ghost use Rattle.std.specs.Prelude.{MatchOption, ◌≡◌, ◌<◌, [], length, get_or};
 ghost use Rattle.grammar.specs.Bytes.{class_of};
 ghost use Rattle.lexing.specs.Codes.{class_code};
-ghost use Rattle.lexing.specs.Lexes.{skips, Skipped, RunEnds, lexemes_of, Found};
+ghost use Rattle.lexing.specs.Lexes.{skips, Skipped, RunEnds, lexemes_of, Found, rest_of, Leaves};
 
 use crate::runs::class_code;
 use crate::words::{Word, word_of};
@@ -23,7 +23,7 @@ pub struct Lexed<'a> {
     pub rest: &'a [u8],
 }
 
-// What a byte of a class does, between lexemes and (8 on) in a comment.
+// What a byte of a class does, between lexemes and (8 on) in a comment. A number: 0 and 1 are rows of the table, by which it is read again.
 fn skip_mode(at: usize) -> u8
     requires { at < 16 }
     ensures { result ≡ get_or skips at 0 }
@@ -91,4 +91,14 @@ pub fn next_lexeme<'a>(text: &'a [u8]) -> Option<Lexed<'a>>
         lexeme,
         rest: &start[1..],
     })
+}
+
+// The text behind its first lexeme, if it has one.
+pub fn after_lexeme<'a>(text: &'a [u8]) -> &'a [u8]
+    ensures { Leaves text.now (rest_of (lexemes_of text.now)) result.now }
+{
+    match next_lexeme(text) {
+        Some(first) => first.rest,
+        None => text,
+    }
 }

@@ -42,7 +42,7 @@ fn low_code(x: u8) -> usize
     symbol_if((x == 33) | ((x > 35) & (x < 39)) | ((x > 41) & (x != 44)))
 }
 
-// The class of a byte, as the grammar has it: by ranges, those of letters first.
+// The class of a byte, as the grammar has it: by ranges, those of letters first. A number, since tables are read by it.
 pub fn class_code(x: u8) -> usize
     ensures { result ≡ class_code (class_of x) }
 {

@@ -25,7 +25,7 @@ pub enum SortWord {
 }
 
 impl SortWord {
-    // The number of the sort.
+    // The number of the sort: as a number records have it, and all that is compared with them.
     pub fn number(self) -> usize
         ensures { result ≡ sort_number (sort_in self) }
     {

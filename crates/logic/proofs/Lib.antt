@@ -4,6 +4,8 @@
 --     Tests            tests put together and taken apart
 --     UpTo             a test of every lower number, for a loop that counts down
 --     CheckNumbers     a check has a number
+--     Entries          the kind of a context as code tests it, and its number
+--     RuleNumbers      the numbers of rules
 --     Headers          the tests of the header and of the area, and what they say
 --     TermKinds        kinds of terms and their numbers
 --     KindTests        the kind of a term's record as code tests it, and the record by its fields
@@ -34,7 +36,6 @@
 --     ReplacementSound THE THEOREM: a term seen through a context has the value of its capture-avoiding replacement
 --     Sound            THE THEOREMS: where every step holds, both sides of a step in context 0 have equal values in every world
 --     CounterExample   document 01's counter-example: with BIND's printed condition alone a step leads from false to true
---     Entries          the kind of a context as code tests it
 --     EntryFacts       what a context that passes check 10 is, by its kind
 --     Walked           the image of a variable on the walk towards the empty context
 --     Symbols          the symbol table: declared symbols have records, and stay where more are declared
@@ -54,6 +55,8 @@ pub mod Firsts
 pub mod Tests
 pub mod UpTo
 pub mod CheckNumbers
+pub mod Entries
+pub mod RuleNumbers
 pub mod Headers
 pub mod TermKinds
 pub mod KindTests
@@ -84,7 +87,6 @@ pub mod Values
 pub mod ReplacementSound
 pub mod Sound
 pub mod CounterExample
-pub mod Entries
 pub mod EntryFacts
 pub mod Walked
 pub mod Symbols

@@ -22,6 +22,12 @@ use Rattle.logic.specs.Checks.{starts_list, lists_agree}
 pub data Entry : Type 0 where
   fixing replacing noEntry : Entry
 
+-- its number; no kind has 0
+abbrev pub entry_number : Entry → ℕ
+entry_number fixing = 1
+entry_number replacing = 2
+entry_number noEntry = 0
+
 unfoldable pub entry_of : ℕ → Entry
 entry_of k = cond (eqb k 1) fixing (cond (eqb k 2) replacing noEntry)
 

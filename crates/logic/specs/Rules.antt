@@ -20,6 +20,15 @@ use Rattle.logic.specs.ReflWalk.{pair_walk_by, refl_walk_by, pair_limit}
 pub data Rule : Type 0 where
   REFL CONG TRANS BIND LET noRule : Rule
 
+-- a rule's number; no rule has 0
+abbrev pub rule_number : Rule → ℕ
+rule_number REFL = 1
+rule_number CONG = 2
+rule_number TRANS = 3
+rule_number BIND = 4
+rule_number LET = 5
+rule_number noRule = 0
+
 unfoldable pub rule_of : ℕ → Rule
 rule_of k = cond (eqb k 1) REFL (cond (eqb k 2) CONG (cond (eqb k 3) TRANS (cond (eqb k 4) BIND (cond (eqb k 5) LET noRule))))
 

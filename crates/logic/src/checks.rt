@@ -83,7 +83,7 @@ impl Check {
     }
 }
 
-// The check that fails first, and the record; 0 where it is of no record.
+// The check that fails first, and the record; 0 where it is of no record, as C gets it.
 #[derive(Clone, Copy, Debug, PartialEq, Eq)]
 pub struct Failure {
     pub check: Check,

@@ -1,7 +1,7 @@
 // The kinds of terms and the entries of contexts by name, with the numbers that records have for them.
 ghost use Rattle.std.specs.Prelude.{◌≡◌};
 ghost use Rattle.logic.specs.Terms.{number_of, kind_of, binds, is_binder, binder};
-ghost use Rattle.logic.specs.Contexts.{entry_of};
+ghost use Rattle.logic.specs.Contexts.{entry_number, entry_of};
 ghost use Rattle.logic.specs.Named.{binder_in, kind_in, kind_named, entry_in, entry_named};
 
 // ---- Terms
@@ -37,7 +37,8 @@ impl Kind {
     // How many numbers stand for kinds, from 1 on.
     pub const COUNT: usize = 5;
 
-    // The kind that a number stands for.
+    // The kind that a number stands for. No `TryFrom`: nobody would read its error. So in `Entry` and `Rule`.
+    #[tactic(auto, unfolding(crate::specs::Terms::kind_of))]
     pub fn of(number: usize) -> Option<Kind>
         ensures { kind_of number ≡ kind_named result }
     {
@@ -77,6 +78,7 @@ impl Kind {
 }
 
 // The same of a number; one that is no kind's binds nothing.
+#[tactic(auto, unfolding(crate::specs::Terms::is_binder))]
 pub fn is_binder(kind: usize) -> bool
     ensures { result ≡ is_binder kind }
 {
@@ -100,6 +102,7 @@ impl Entry {
     pub const COUNT: usize = 2;
 
     // The entry that a number stands for.
+    #[tactic(auto, unfolding(crate::specs::Contexts::entry_of))]
     pub fn of(number: usize) -> Option<Entry>
         ensures { entry_of number ≡ entry_named result }
     {
@@ -110,9 +113,9 @@ impl Entry {
         }
     }
 
-    // Its number.
+    // Its number. Written out here, in `Binder` and in `Rule`: names and numbers are each type's own.
     pub fn number(self) -> usize
-        ensures { entry_of result ≡ entry_in self }
+        ensures { result ≡ entry_number (entry_in self) }
     {
         match self {
             Entry::Fixes => 1,

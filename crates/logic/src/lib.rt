@@ -38,7 +38,7 @@ pub enum Mention {
     Absent,
 }
 
-// The image of a variable in a context: itself, or a term.
+// The image of a variable in a context: itself, or a term. No `Option`: it says what the image is, and each variable has one.
 #[derive(Clone, Copy)]
 pub enum Image {
     Own,

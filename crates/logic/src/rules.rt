@@ -1,6 +1,6 @@
 // The rules by name, with the numbers that steps have for them.
 ghost use Rattle.std.specs.Prelude.{◌≡◌};
-ghost use Rattle.logic.specs.Rules.{rule_of};
+ghost use Rattle.logic.specs.Rules.{rule_number, rule_of};
 ghost use Rattle.logic.specs.Named.{rule_in, rule_named};
 
 #[derive(Clone, Copy, Debug, PartialEq, Eq)]
@@ -17,6 +17,7 @@ impl Rule {
     pub const COUNT: usize = 5;
 
     // The rule that a number stands for.
+    #[tactic(auto, unfolding(crate::specs::Rules::rule_of))]
     pub fn of(number: usize) -> Option<Rule>
         ensures { rule_of number ≡ rule_named result }
     {
@@ -32,7 +33,7 @@ impl Rule {
 
     // Its number.
     pub fn number(self) -> usize
-        ensures { rule_of result ≡ rule_in self }
+        ensures { result ≡ rule_number (rule_in self) }
     {
         match self {
             Rule::Refl => 1,

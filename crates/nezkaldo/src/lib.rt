@@ -20,7 +20,8 @@ fn pack(number: usize, place: usize) -> u64
 }
 
 // Checks a file: the number of pairs of the last REFL walked, less than 2^32, where it is accepted, else number · 2^32 + record of the first check that
-// fails. The lent area then holds the free sets of the file's terms and zeros after them, or zeros.
+// fails. The lent area then holds the free sets of the file's terms and zeros after them, or zeros. Not by `reply_number`: what is said of an accepted file
+// is more than a number, and its definitions are its own.
 pub fn nezkaldo_check(file: &[u8], free: &mut [u64]) -> u64
     ensures value { result ≡ packed (judge file.now (length free.old)) }
     ensures free_after { free.new ≡ area_after file.now (length free.old) }

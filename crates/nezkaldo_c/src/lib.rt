@@ -1,5 +1,5 @@
 // The library for other languages: `./build nezkaldo` makes target/staticlib/libnezkaldo.a of this crate; include/nezkaldo.h declares it for C. Each call
-// is the one of that name in crate nezkaldo, with its clauses.
+// is the one of that name in crate nezkaldo, with its clauses: they stand here again, since what C calls is exported here and promises what stands here.
 #![tactic(auto)]
 
 ghost use Rattle.std.specs.Prelude.{◌≡◌, length};

@@ -10,7 +10,7 @@ use mathlib.Core.Bool.{Bool, true, false, cond, not, ◌&&◌, ◌||◌, false�
 use mathlib.Core.List.{List, [], ◌∷◌}
 use lib.ListN.{length}
 use lib.Dec.{eqb, leb}
-use borrow.Author.Tests.{leb-true, le-leb, lt-leb}
+use borrow.Author.Tests.{leb-true}
 use Rattle.bundle.specs.Bundle.{Bundle, symbol_of}
 use Rattle.bundle.specs.Links.{items, starts_at}
 use Rattle.bundle.specs.Lists.{same_list}
@@ -18,18 +18,18 @@ use Rattle.bundle.proofs.Fields.{own_sized}
 use Rattle.bundle.proofs.BundleWalks.{same_nil}
 use Rattle.bundle.proofs.Walks.{walk_start, walk_start_le}
 use Rattle.logic.specs.declared.Signature.TheVariants.{Declared}
-use Rattle.logic.specs.Symbols.{symbol_kind, kind_of_symbol, signature, signature_of, argument_sorts}
+use Rattle.logic.specs.Symbols.{signature_of, argument_sorts}
 use Rattle.logic.proofs.Tests.{and_left, and_right}
 use Rattle.grammar.specs.Bytes.{name}
 use Rattle.lexing.specs.Counted.{number_within, variable_among, symbol_among}
-use Rattle.lexing.specs.Lexes.{lexemes_of}
+use Rattle.lexing.specs.Lexes.{lexemes_of, Leaves}
 use Rattle.lexing.specs.Words.{word_in}
 use Rattle.lexing.specs.declared.words.Word.{Word}
 use Rattle.reading.specs.Called.{number_after, variable_called, symbol_called}
 use Rattle.reading.specs.Local.{accepts, alone_fine}
+use Rattle.reading.proofs.KnownNames.{declared_signature}
 use Rattle.bracketing.specs.Brackets.{after_formula, starts_part, parts_from}
 use Rattle.bracketing.specs.Nodes.{sort_from, takes, word_fine}
-use Rattle.bracketing.specs.Texts.{Leaves}
 use Rattle.bracketing.proofs.SortLaws.{variable_is, symbol_is, no_name}
 use Rattle.node_tests.proofs.PartLaws.{part_none, part_some}
 
@@ -100,22 +100,7 @@ module _ (b : Bundle) (w : List ℕ) {n : ℕ} (count : n ≡ length b.symbols) 
         go false q e = absurd (omega (arith, some, is, e))
 
     signed : signature_of b x ≡ Declared (x - 32)
-    unfolding signature_of kind_of_symbol symbol_kind signature
-    signed =
-        let (lo, hi) = symbol_range in
-        simp (
-          lt-leb x 0 (omega arith),
-          lt-leb x 1 (omega arith),
-          lt-leb x 2 (omega arith),
-          lt-leb x 3 (omega arith),
-          lt-leb x 4 (omega arith),
-          lt-leb x 5 (omega arith),
-          lt-leb x 6 (omega arith),
-          lt-leb x 7 (omega arith),
-          lt-leb x 8 (omega arith),
-          lt-leb x 32 (omega arith),
-          le-leb x (32 + length b.symbols) (omega (arith, hi, count)),
-        )
+    signed = let (lo, hi) = symbol_range in declared_signature b x lo (omega (arith, hi, count))
 
     -- a declared symbol takes the sorts of its list
     listed : (list : ℕ) → list ≡ (symbol_of b (x - 32)).sorts → (ss : List ℕ) → accepts b x ss ≡ same_list (items b list) ss

@@ -1,5 +1,7 @@
 -- Connectives, quantifiers and lets: what code finds, and the tests.
 --     same_either                                             a test for equality, either way round
+--     joins_items, joins_truths                               two sorts that are joined
+--     joins_equal, joins_other                                = and another connective
 --     said_none, said_some                                    the sort that a word says
 --     bound_fits, bound_differs, bound_missing                a variable with a formula
 --     Passing, pass_end, pass_fails, pass_on                  a test of all parts, as a loop goes over them
@@ -21,16 +23,18 @@ use Rattle.bundle.specs.Lists.{each, has, different}
 use Rattle.bundle.proofs.LinkNotes.{zeros}
 use Rattle.sets.specs.Sets.{with_bit, holds, member, inserted, cleared}
 use Rattle.sets.proofs.Members.{holds_small, member_inserted, member_cleared, member_same, filled_in, changed_length}
+use Rattle.logic.specs.Symbols.{truth_sort}
 use Rattle.grammar.specs.Bytes as bytes
 use Rattle.grammar.specs.Grammar.{Lexeme, opens, closes, word, stray}
-use Rattle.lexing.specs.Lexes.{lexemes_of}
-use Rattle.lexing.specs.Words.{sort_in as sort_word}
+use Rattle.lexing.specs.Lexes.{lexemes_of, rest_of, Leaves}
+use Rattle.lexing.specs.declared.words.Connective.{Connective}
+use Rattle.lexing.specs.Words.{connective_in, sort_in as sort_word}
 use Rattle.lexing.specs.declared.words.SortWord.{SortWord}
 use Rattle.reading.specs.Typing.{sort_number}
-use Rattle.bracketing.specs.Brackets.{rest_of, after_formula, starts_part, parts_from}
-use Rattle.bracketing.specs.Nodes.{sort_said, sort_in, sort_from, variable_in, every, bound_from, distinct}
-use Rattle.bracketing.specs.Texts.{Leaves, Says}
-use Rattle.node_tests.specs.Tests.{fresh_from}
+use Rattle.bracketing.specs.Brackets.{after_formula, starts_part, parts_from}
+use Rattle.bracketing.specs.Nodes.{joins, sort_said, sort_in, sort_from, variable_in, every, bound_from, distinct}
+use Rattle.bracketing.specs.Texts.{Says}
+use Rattle.node_tests.specs.Tests.{joins_by, fresh_from}
 use Rattle.node_tests.proofs.PartLaws.{part_none, part_some}
 
 pub same_either : (x y : ℕ) → eqb x y ≡ eqb y x
@@ -39,6 +43,31 @@ same_either x y = go (ℕ_discrete x y)
     go : Dec (x ≡ y) → eqb x y ≡ eqb y x
     go (yes e) = rw e
     go (no ne) = ne_eqb x y ne ∙ sym (ne_eqb y x (λ e. ne (sym e)))
+
+-- ---- connectives
+
+pub joins_items : (p : Bool) (s t : ℕ) → (p && not (eqb s 0)) ≡ true → (eqb 1 s && eqb 1 t) ≡ joins_by p s t
+unfolding joins_by
+joins_items p s t e = rw e
+
+pub joins_truths : (p : Bool) (s t : ℕ) → (p && not (eqb s 0)) ≡ false → (eqb 0 s && eqb 0 t) ≡ joins_by p s t
+unfolding joins_by
+joins_truths p s t e = rw e
+
+pub joins_equal : (s t : ℕ) → joins_by true s t ≡ joins bytes.equality s t
+unfolding joins joins_by
+joins_equal s t = go (eqb s truth_sort)
+  where
+    go : (p : Bool) → cond (true && not p) (eqb 1 s && eqb 1 t) (eqb 0 s && eqb 0 t) ≡ (eqb (cond p 0 1) s && eqb (cond p 0 1) t)
+    go true = refl
+    go false = refl
+
+pub joins_other : (c : Connective) → (c ≡ Connective.Equal → ⊥) → (s t : ℕ) → joins_by false s t ≡ joins (connective_in c) s t
+unfolding joins joins_by
+joins_other Connective.And ne s t = refl
+joins_other Connective.Or ne s t = refl
+joins_other Connective.Implies ne s t = refl
+joins_other Connective.Equal ne s t = absurd (ne refl)
 
 -- ---- pairs
 

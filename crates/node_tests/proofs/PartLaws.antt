@@ -7,9 +7,8 @@ use mathlib.Core.Bool.{Bool, true, false, not, true≢false, false≢true}
 use mathlib.Core.List.{List, [], ◌∷◌}
 use lib.ListN.{length}
 use Rattle.grammar.specs.Grammar.{Lexeme, opens, closes, word, stray}
-use Rattle.lexing.specs.Lexes.{lexemes_of}
+use Rattle.lexing.specs.Lexes.{lexemes_of, Leaves}
 use Rattle.bracketing.specs.Brackets.{is_closing, after_formula, starts_part, parts, parts_from}
-use Rattle.bracketing.specs.Texts.{Leaves}
 use Rattle.bracketing.proofs.BracketLaws.{parts_on}
 
 module _ {A : Type 0} (f : List Lexeme → A) where

@@ -4,49 +4,47 @@ ghost use Rattle.bundle.specs.Limits.{limits, set_words};
 ghost use Rattle.logic.specs.Symbols.{truth_sort};
 ghost use Rattle.lexing.specs.Counted.{Numbered};
 ghost use Rattle.lexing.specs.Words.{connective_in};
-ghost use Rattle.lexing.specs.Lexes.{lexemes_of};
-ghost use Rattle.bracketing.specs.Brackets.{rest_of, after_formula, parts_from};
-ghost use Rattle.bracketing.specs.Nodes.{joined_sort, joins, as_declared, every, bound_from, distinct, sort_from};
-ghost use Rattle.node_tests.specs.Tests.{fresh_from};
+ghost use Rattle.lexing.specs.Lexes.{lexemes_of, rest_of};
+ghost use Rattle.bracketing.specs.Brackets.{after_formula, parts_from};
+ghost use Rattle.bracketing.specs.Nodes.{joins, as_declared, every, bound_from, distinct, sort_from};
+ghost use Rattle.node_tests.specs.Tests.{joins_by, fresh_from};
 
-use bracketing::brackets::{after_formula, after_lexeme, after_name, part_at};
+use bracketing::brackets::{after_formula, after_name, part_at};
 use bracketing::sorts::{said_at, sort_at, variable_at};
 use bundle::Bundle;
+use lexing::lexemes::after_lexeme;
 use lexing::words::Connective;
 use sets::{insert, member};
 
 // ---- Connectives
 
-// The sort that a connective joins, where its first formula has sort s: = joins truths where that is one, and else items.
-#[tactic(auto, unfolding(bracketing::specs::Nodes::joined_sort))]
-fn joined_sort(connective: Connective, s: usize) -> usize
-    ensures { result ≡ joined_sort (connective_in connective) s }
+// Whether the sorts of two formulas are joined, by = or by another connective: = joins items where the first is one, and else truths.
+pub fn joined_fine(bundle: &Bundle, equal: bool, text: &[u8]) -> bool
+    ensures { result ≡ joins_by equal (sort_from bundle.now (lexemes_of text.now)) (sort_from bundle.now (after_formula (lexemes_of text.now))) }
 {
-    match connective {
-        Connective::And | Connective::Or | Connective::Implies => 0,
-        Connective::Equal => if s == 0 { 0 } else { 1 },
+    let s = sort_at(bundle, text);
+    let t = sort_at(bundle, after_formula(text));
+    if equal & (s != 0) {
+        return (1 == s) & (1 == t);
     }
+    (0 == s) & (0 == t)
 }
 
 // Whether a connective joins the sorts of the two formulas that follow it.
-#[tactic(auto, unfolding(bracketing::specs::Nodes::joins))]
 pub fn connective_fine(bundle: &Bundle, connective: Connective, text: &[u8]) -> bool
     ensures { result ≡ joins (connective_in connective) (sort_from bundle.now (lexemes_of text.now))
         (sort_from bundle.now (after_formula (lexemes_of text.now))) }
 {
-    let s = sort_at(bundle, text);
-    let t = sort_at(bundle, after_formula(text));
-    let sort = joined_sort(connective, s);
-    (sort == s) & (sort == t)
+    joined_fine(bundle, matches!(connective, Connective::Equal), text)
 }
 
 // ---- Quantifiers
 
-// Whether the variable of the pair at the front has the sort that is said there.
+// Whether the variable of the pair at the front has the sort that is said there; 0 where there is none of them, as the definition has it.
 fn as_declared(bundle: &Bundle, text: &[u8]) -> bool
     ensures { result ≡ as_declared bundle.now (lexemes_of text.now) }
 {
-    let sort = match variable_at(bundle, text) {
+    let sort = match variable_at(bundle.variables(), text) {
         Some(x) => bundle.variable_sort(x),
         None => 0,
     };
@@ -89,7 +87,7 @@ fn bound_at(bundle: &Bundle, text: &[u8]) -> Option<usize>
     ensures bound { Numbered (bound_from bundle.now (lexemes_of text.now)) result }
     ensures small { IfSome result (λ x. x ≤ limits.variables) }
 {
-    let x = variable_at(bundle, text)?;
+    let x = variable_at(bundle.variables(), text)?;
     let sort = sort_at(bundle, after_name(text));
     if bundle.variable_sort(x) == sort {
         Some(x)

@@ -2,8 +2,9 @@
 --     opened_variable, opened_binder, opened_rest     what is put onto the agenda
 --     closes_not                                      what is no application
 --     open_variable, open_binder, open_none, open_some     the same, of the words that are read; an application with no arguments
+--     opened_crossed                                  it crosses no variables
 use mathlib.Core.Path.{◌≡◌, refl, sym, ap, ◌∙◌}
-use mathlib.Core.Bool.{true, false, false≢true}
+use mathlib.Core.Bool.{Bool, true, false, cond, false≢true}
 use mathlib.Core.List.{List, ◌∷◌}
 use Prim.Native.Nat.{ℕ}
 use native.Mathlib.Omega.{arith}
@@ -14,7 +15,7 @@ use Rattle.bundle.specs.Links.{starts_at}
 use Rattle.logic.specs.Terms.{Kind, kind_of, binds, is_binder, variable, application, binder, letting, other}
 use Rattle.logic.proofs.KindTests.{binder_no_list}
 use Rattle.logic.proofs.TermKinds.{kind_number}
-use Rattle.pair_walk.specs.Agenda.{Frame, pending, opened_as, closes, opened}
+use Rattle.pair_walk.specs.Agenda.{Frame, pending, crossed_by, opened_as, closes, opened}
 
 not_other {ℓ} : {A : Type ℓ} → ◌≡◌ {A = ℕ} 0 1 → A
 not_other e = absurd (omega arith)
@@ -52,6 +53,22 @@ module _ (b : Bundle) (k : ℕ) (l r : ℕ) (fs : List Frame) where
       go (binder q) d h = absurd (false≢true (sym h))
       go letting d h = refl
       go other d h = refl
+
+opened_as_crossed : (b : Bundle) (k : Kind) (l r : ℕ) (fs : List Frame) → crossed_by (opened_as b k l r fs) ≡ crossed_by fs
+unfolding opened_as crossed_by
+opened_as_crossed b variable l r fs = refl
+opened_as_crossed b application l r fs = refl
+opened_as_crossed b (binder q) l r fs = refl
+opened_as_crossed b letting l r fs = refl
+opened_as_crossed b other l r fs = refl
+
+pub opened_crossed : (b : Bundle) (l r : ℕ) (fs : List Frame) → crossed_by (opened b l r fs) ≡ crossed_by fs
+unfolding opened
+opened_crossed b l r fs = go (closes (term_of b l).kind (starts_at (length b.links) (term_of b l).b) (starts_at (length b.links) (term_of b r).b))
+  where
+    go : (p : Bool) → crossed_by (cond p fs (opened_as b (kind_of (term_of b l).kind) l r fs)) ≡ crossed_by fs
+    go true = refl
+    go false = opened_as_crossed b (kind_of (term_of b l).kind) l r fs
 
 pub closes_not : (k i j : ℕ) → (k ≡ 2 → ⊥) → closes k i j ≡ false
 closes_not k i j ne = rw (ne_eqb k 2 ne)

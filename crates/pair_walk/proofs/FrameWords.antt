@@ -151,13 +151,14 @@ pub other_fits : (ps : Crossed) (y : ℕ) {t depth : ℕ} → t ≡ stamp (right
 other_fits ps y e d = omega (arith, e, d, stamp_le (rights ps) y, rights_length ps)
 
 -- a pair of variables more, and its frame
-pub kept_more : (b b' : Binders) (w w' : List ℕ) (most h depth x y o q : ℕ) → Kept b w most h depth → h < most → length w' ≡ length w
+pub kept_more : (b b' : Binders) (w w' : List ℕ) (most h depth x y o q : ℕ) → Kept b w most h depth → b'.sets ≡ b.sets → h < most → length w' ≡ length w
     → frames w' (suc h) ≡ frame_of 0 x y o q ∷ frames w h → HaveCrossed b' ((x, y) ∷ crossed_by (frames w h)) → Kept b' w' most (suc h) (suc depth)
 unfolding frame_of crossed_by
-kept_more b b' w w' most h depth x y o q kept room len e placed = record {
+kept_more b b' w w' most h depth x y o q kept same room len e placed = record {
   long = omega (arith, kept.long, len);
   high = omega arith;
   few = kept.few;
+  bits = rw same kept.bits;
   crossing = record { placed = rw e placed; deep = rw e (ap suc kept.crossing.deep) };
 }
 
@@ -168,6 +169,7 @@ kept_same b w w' most h h' depth kept room len e = record {
   long = omega (arith, kept.long, len);
   high = room;
   few = kept.few;
+  bits = kept.bits;
   crossing = record { placed = rw e kept.crossing.placed; deep = rw e kept.crossing.deep };
 }
 

@@ -7,6 +7,7 @@ use Prim.Native.Nat.{ℕ, ◌+◌, ◌-◌, ◌≤◌}
 use native.Mathlib.Omega.{arith}
 use Rattle.bundle.specs.Bundle.{Bundle}
 use Rattle.logic.specs.declared.Image.{Image}
+use Rattle.logic.specs.declared.Limited.{Limited}
 use Rattle.logic.specs.declared.Limited.TheVariants.{Same, Different}
 use Rattle.logic.specs.ReflWalk.{Crossed, PairWalk, pair_walk_by, ended, within_by, limit}
 use Rattle.logic.proofs.ReflWalk.{limit_fits, limit_same, limit_different, pair_walk_limited}
@@ -35,23 +36,26 @@ limit_more_different n m k w e =
     let left : n + k - w.pairs ≡ m + k = omega (arith, f.1, f.2) in
     limit_fits (n + k) w (omega (arith, f.1)) ∙ ap (λ (p : Bool). ended p (n + k - w.pairs)) f.0 ∙ ap Different left
 
-module _ (free : ℕ → ℕ → Bool) (image : ℕ → Image) (b : Bundle) (l : ℕ) (ps : Crossed) (r n m : ℕ) where
+module _ (free : ℕ → ℕ → Bool) (image : ℕ → Image) (b : Bundle) (l : ℕ) (ps : Crossed) (r n m : ℕ) {a : Limited} (e : a ≡ within_by free image b l ps r n) where
   abbrev walked : PairWalk
   walked = pair_walk_by free image b l ps r
 
   limited : (k : ℕ) → within_by free image b l ps r k ≡ limit k walked
   limited k = pair_walk_limited free image b l ps r k
 
-  module _ (e : Same m ≡ within_by free image b l ps r n) where
+  here : limit n walked ≡ a
+  here = sym (e ∙ limited n)
+
+  module _ (is : a ≡ Same m) where
     pub same_few : m ≤ n
-    same_few = omega (arith, (same_left n m walked (sym (limited n) ∙ sym e)).2)
+    same_few = omega (arith, (same_left n m walked (here ∙ is)).2)
 
     pub more_same : (k : ℕ) → Same (m + k) ≡ within_by free image b l ps r (n + k)
-    more_same k = sym (limited (n + k) ∙ limit_more_same n m k walked (sym (limited n) ∙ sym e))
+    more_same k = sym (limited (n + k) ∙ limit_more_same n m k walked (here ∙ is))
 
-  module _ (e : Different m ≡ within_by free image b l ps r n) where
+  module _ (is : a ≡ Different m) where
     pub different_few : m ≤ n
-    different_few = omega (arith, (different_left n m walked (sym (limited n) ∙ sym e)).2)
+    different_few = omega (arith, (different_left n m walked (here ∙ is)).2)
 
     pub more_different : (k : ℕ) → Different (m + k) ≡ within_by free image b l ps r (n + k)
-    more_different k = sym (limited (n + k) ∙ limit_more_different n m k walked (sym (limited n) ∙ sym e))
+    more_different k = sym (limited (n + k) ∙ limit_more_different n m k walked (here ∙ is))

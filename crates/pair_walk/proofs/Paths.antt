@@ -97,14 +97,15 @@ module _ {b : Binders} {w : List ℕ} {most h depth : ℕ} (kept : Kept b w most
         let few : depth ≤ 4096 = omega (arith, kept.crossing.deep, crossed_few (frames w h), frames_length w h, kept.few, kept.high) in
         (omega (arith, few, deep, place_fits ps x known.left_place refl), omega (arith, few, deep, other_fits ps y known.right_place refl))
 
-    pub kept_uncrossed : (b' : Binders) → HaveCrossed b' (crossed_by fs) → Kept b' w most (h - 1) (depth - 1)
+    pub kept_uncrossed : (b' : Binders) → b'.sets ≡ b.sets → HaveCrossed b' (crossed_by fs) → Kept b' w most (h - 1) (depth - 1)
     unfolding crossed_by
-    kept_uncrossed b' placed =
+    kept_uncrossed b' same placed =
         let below : frames w (h - 1) ≡ fs = rest_is w h ∙ ap rest top in
         let deep : depth ≡ suc (length (crossed_by fs)) = rw top at kept.crossing.deep in
         record {
           long = kept.long;
           high = omega (arith, kept.high);
           few = kept.few;
+          bits = rw same kept.bits;
           crossing = record { placed = rw below placed; deep = rw below (omega (arith, deep)) };
         }

@@ -185,11 +185,12 @@ pub record Crossing (binders : Binders) (agenda : List ℕ) (h depth : ℕ) : Ty
   pub placed : HaveCrossed binders (crossed_by (frames agenda h))
   pub deep : depth ≡ length (crossed_by (frames agenda h))
 
--- and the agenda has room for `most` frames
+-- and the agenda has room for `most` frames, and the sets for each variable
 pub record Kept (binders : Binders) (agenda : List ℕ) (most h depth : ℕ) : Type 0 where
   pub long : 5 * most ≤ length agenda
   pub high : h ≤ most
   pub few : most ≤ pair_limit
+  pub bits : length binders.sets.bundle.variables ≤ 64 * binders.sets.n
   pub crossing : Crossing binders agenda h depth
 
 -- what is said of a path: the sets of its file's terms, the frames that there is room for, and the frames
@@ -225,7 +226,3 @@ TurnHeld free image whole left path (Err a) = whole ≡ a
 TurnHeld free image whole left path (Ok p) =
     (whole ≡ go_on (within_by free image path.sets.bundle p.l (crossed_by path.frames) p.r (suc p.left)) (finish free image path.sets.bundle path.frames))
     × Sound path.sets.bundle path.most p.left path.frames × (length path.frames + p.left < path.most) × (p.left < left)
-
--- the pairs that a walk is tried with first: any number up to the limit would do
-abbrev pub few_pairs : ℕ
-few_pairs = 64

@@ -38,7 +38,7 @@ fn walk<'s, 'a>(
     let mut l = left;
     let mut r = right;
     let mut spare = most - 1;
-    // A turn visits a pair, and finds the next.
+    // A `loop`, since no sequence says which pair is the next: a turn visits a pair and finds it.
     loop {
         if !path.meets(images, context, l, r) {
             return Limited::Different(spare);
@@ -93,7 +93,8 @@ fn walk_within<const PAIRS: usize, const AGENDA: usize>(
     )
 }
 
-// THE WALK from the terms `left` and `right`, where no binder is crossed yet: how it ends, and how many of the pairs that it may visit are left.
+// THE WALK from the terms `left` and `right`, where no binder is crossed yet: how it ends, and how many of the pairs that it may visit are left. The
+// match turns outcomes into outcomes, with more pairs left: there is nothing to choose in it that a table would name.
 pub fn pair_walk(
     sets: &TermSets,
     images: &[u16],

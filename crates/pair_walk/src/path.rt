@@ -7,15 +7,14 @@ ghost use Rattle.logic.specs.ReflWalk.{lefts, rights, pair_limit};
 ghost use Rattle.images.specs.ContextRows.{image_at};
 ghost use Rattle.crossings.specs.Places.{stamp, HaveCrossed};
 ghost use Rattle.crossings.specs.Pairs.{meets_by};
-ghost use Rattle.pair_walk.specs.Agenda.{Frame, pending, leave, crossed_by, opened, IsPending, rest, advanced, IsTop, LeaveHeld, Path, with_frames};
+ghost use Rattle.pair_walk.specs.Agenda.{Frame, leave, crossed_by, opened, IsPending, rest, advanced, IsTop, LeaveHeld, Path, with_frames};
 
-use super::frames::{advance, push};
+use super::frames::{advance, open, push};
 use bundle::Bundle;
 use crossings::Binders;
-use logic::kinds::{Kind, is_binder};
 use std::marker::Model;
 
-// The words of the frame on top.
+// The words of the frame on top, as they stand in the agenda: l is 0 where variables are left. No enum, which each turn would make and take apart.
 #[derive(Clone, Copy)]
 pub struct Top {
     pub l: usize,
@@ -47,7 +46,8 @@ impl<'s, 'a> Model for Path<'s, 'a> {
 
 impl<'s, 'a> Path<'s, 'a> {
     pub fn of(binders: Binders<'s, 'a>, agenda: &'a mut [u16], most: usize) -> Path<'s, 'a>
-        requires { HaveCrossed binders [] × (5 * most ≤ length agenda.old) × (most ≤ pair_limit) }
+        requires { HaveCrossed binders [] × (5 * most ≤ length agenda.old) × (most ≤ pair_limit)
+            × (length binders.sets.bundle.variables ≤ 64 * binders.sets.n) }
         ensures { result ≡ record { sets = binders.entry.sets; most = most; frames = [] } }
     {
         Path {
@@ -91,15 +91,6 @@ impl<'s, 'a> Path<'s, 'a> {
         })
     }
 
-    // Puts the frame of a pair on top.
-    fn push(&mut self, l: usize, r: usize, i: usize, j: usize)
-        requires { (length self.old.frames < self.old.most) × (1 ≤ l) × (l ≤ 65535) × (r ≤ 65535) × (i ≤ 65535) × (j ≤ 65535) }
-        ensures { self.new ≡ with_frames self.old (pending l r i j ∷ self.old.frames) }
-    {
-        push(self.agenda, self.height, l, r, i, j, 0);
-        self.height += 1;
-    }
-
     // Takes the frame of a pair off.
     pub fn pop(&mut self)
         requires { IsPending self.old.frames }
@@ -141,29 +132,13 @@ impl<'s, 'a> Path<'s, 'a> {
         self.depth -= 1;
     }
 
-    // What is left to walk of a pair that has met is put on top. As in `pair_meets`, comparisons and no match.
+    // What is left to walk of a pair that has met is put on top.
     pub fn open(&mut self, l: usize, r: usize)
         requires { (length self.old.frames < self.old.most)
             × (((term_of self.old.sets.bundle l).kind ≡ 1 → ⊥)
             → Number (length self.old.sets.bundle.terms) l × Number (length self.old.sets.bundle.terms) r) }
         ensures { self.new ≡ with_frames self.old (opened self.old.sets.bundle l r self.old.frames) }
     {
-        let bundle = self.bundle();
-        let kind = bundle.term_field(l, 0);
-        if kind == Kind::Variable.number() {
-            return;
-        }
-        prove!(bundle.terms() <= Bundle::TERMS);
-        if is_binder(kind) {
-            self.push(l, r, 0, 0);
-            return;
-        }
-        let i = bundle.first_link(bundle.term_field(l, 2));
-        let j = bundle.first_link(bundle.term_field(r, 2));
-        if (kind == Kind::Application.number()) & (i == 0) & (j == 0) {
-            return;
-        }
-        prove!(bundle.links() <= Bundle::LINKS);
-        self.push(l, r, i, j);
+        self.height = open(self.binders.bundle(), self.agenda, self.height, l, r);
     }
 }

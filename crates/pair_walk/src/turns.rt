@@ -125,7 +125,7 @@ fn into_body(path: &mut Path<'_, '_>, l: usize, r: usize, left: usize) -> Result
     turn_to(l, bundle.term_field(l, 2), bundle.term_field(r, 2), left)
 }
 
-// The same of lets.
+// The same of lets, which bind a list of variables, and have their bodies in another field.
 fn into_let(path: &mut Path<'_, '_>, l: usize, r: usize, left: usize) -> Result<Pair, Limited>
     requires { let b = path.old.sets.bundle in
         (length path.old.frames + length (items b (term_of b l).a) ≤ path.old.most)

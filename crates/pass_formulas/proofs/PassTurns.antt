@@ -10,7 +10,7 @@ use native.Mathlib.Omega.{arith}
 use mathlib.Core.Path.{◌≡◌, refl, sym, ap, ap₂, ◌∙◌, subst}
 use mathlib.Core.Bool.{Bool, true, false, cond, not, ◌&&◌}
 use mathlib.Core.List.{List, [], ◌∷◌, ◌++◌, map, map-append, append_assoc, append-nil}
-use lib.ListN.{length, get_or, take, drop, length-append}
+use lib.ListN.{length, get_or, take, drop, length-drop}
 use lib.Seq.{take-append_seam, drop-append_seam}
 use lib.Dec.{eqb}
 use borrow.Author.Tests.{eqb-true}
@@ -24,28 +24,33 @@ use Rattle.logic.specs.declared.kinds.Binder.{Binder as BinderName}
 use Rattle.logic.proofs.Exactly.{not_true_exactly}
 use Rattle.logic.proofs.Tests.{list_same}
 use Rattle.scratch.specs.Stack.{half_of, halves_of}
-use Rattle.expansion.specs.Placed.{PlacedTerm, place_application, place_binder, place_let}
+use Rattle.expansion.specs.Placed.{PlacedTerm}
 use Rattle.grammar.specs.Bytes.{Word, quantifier, letting, sort, name}
 use Rattle.grammar.specs.Grammar.{Formula, Lexeme, opens, closes, word, between, last, lexemes, spell, spelling}
 use Rattle.grammar.specs.Names.{all_known}
 use Rattle.reading.specs.Called.{variable_called}
-use Rattle.reading.specs.Local.{accepts}
 use Rattle.reading.specs.Records.{file, file_all}
 use Rattle.lexing.specs.Counted.{variable_among}
-use Rattle.lexing.specs.Lexes.{lexemes_of}
+use Rattle.lexing.specs.Lexes.{lexemes_of, Tail}
 use Rattle.lexing.specs.Words.{sort_in}
 use Rattle.lexing.proofs.SkipLaws.{past}
+use Rattle.lexing.proofs.Tails.{tail_after}
 use Rattle.formulas.proofs.PartTerms.{variable_called_lem}
 use Rattle.pass_tokens.specs.declared.Meaning.{Meaning}
 use Rattle.pass_tokens.specs.declared.Meaning.TheVariants as means
 use Rattle.pass_tokens.specs.Tokens.{Blanks, equal_on, Means, WordTo, Heads, HeadTo, BoundTo}
 use Rattle.pass_tokens.proofs.BlankLaws.{opens_next, closes_next}
 use Rattle.pass_terms.specs.Passing.{DeclaredTo, OnTop, PairPut, ApplicationPut, AlonePut, BinderPut, TruthClosed, Named, LetPut}
-use Rattle.pass_readings.specs.Readings.{ReadAs, PartsAs, UnderAs, PartsSoFar}
+use Rattle.pass_readings.specs.Readings.{PartsAs, PartsSoFar}
 use Rattle.pass_readings.proofs.ReadingLaws.{variable_read, symbol_read, parts_start, part_on, pair_on, PartsEnded, parts_end, under_none, under_more}
 use Rattle.pass_readings.proofs.ReadingLaws.{application_read, quantifier_read, let_read}
 use Rattle.pass_formulas.specs.PassGives.{SymbolIs, Gives, GivesUnder, GivesBound, TextRead}
 use Rattle.pass_formulas.proofs.ListLaws.{different_more, last_same}
+
+-- ---- what is left of a text
+
+tail_fewer : {text rest : List ℕ} → Tail text rest → length rest ≤ length text
+tail_fewer {text} (k, l, e) = omega (arith, ap (length {A = ℕ}) e, length-drop k text)
 
 -- ---- numbers
 
@@ -55,13 +60,6 @@ equal_on_truth n = go (eqb n 7)
     go : (p : Bool) → cond (p && false) 8 n ≡ n
     go true = refl
     go false = refl
-
-pub equal_on_small : (n s : ℕ) → n ≤ largest_word → equal_on n s ≤ largest_word
-equal_on_small n s l = go (eqb n 7 && eqb s 1)
-  where
-    go : (p : Bool) → cond p 8 n ≤ largest_word
-    go true = omega arith
-    go false = l
 
 -- ---- the stack
 
@@ -96,13 +94,14 @@ module _ (D : Bundle) where
 
   module _ {b : Bundle} {st rest : List ℕ} {b' : Bundle} {st' : List ℕ} where
     -- from an earlier byte, where the same stands
-    pub gives_from : {text t : List ℕ} {ls ls' : List Lexeme} → length t ≤ length text → ls ≡ ls' → Gives D t b st ls rest b' st'
+    pub gives_from : {text t : List ℕ} {ls ls' : List Lexeme} → Tail text t → ls ≡ ls' → Gives D t b st ls rest b' st'
         → Gives D text b st ls' rest b' st'
-    gives_from le e g = record {
-      fewer = omega (arith, le, g.fewer);
+    gives_from here e g = record {
+      tail = tail_after here g.tail;
+      fewer = omega (arith, tail_fewer here, g.fewer);
       term = g.term;
       sort = g.sort;
-      read = subst (λ (l : List Lexeme). ReadAs D l (lexemes_of rest) g.term g.sort) e g.read;
+      read = rw (← e) g.read;
       put = g.put;
     }
 
@@ -110,54 +109,55 @@ module _ (D : Bundle) where
         → Gives D text b st (lexemes_of text) rest b' st'
     bracket_gives {text} e is g =
         let o = opens_next text e in
-        gives_from (omega (arith, o.fewer, ap (length {A = ℕ}) is)) (ap (λ (t : List ℕ). opens ∷ lexemes_of t) is ∙ sym o.next) g
+        gives_from (1, o.some, is) (ap (λ (t : List ℕ). opens ∷ lexemes_of t) is ∙ sym o.next) g
 
-    pub quantifier_gives : {text t : List ℕ} {q : Binder} {ls : List Lexeme} → length t ≤ length text
+    pub quantifier_gives : {text t : List ℕ} {q : Binder} {ls : List Lexeme} → Tail text t
         → lexemes_of text ≡ word (quantifier q) ∷ opens ∷ lexemes_of t → lexemes_of t ≡ opens ∷ ls → GivesUnder D t b st q rest b' st'
         → Gives D text b st (opens ∷ lexemes_of text) rest b' st'
-    quantifier_gives {q = q} le e starts g = record {
-      fewer = omega (arith, le, g.fewer);
+    quantifier_gives {q = q} here e starts g = record {
+      tail = tail_after here g.tail;
+      fewer = omega (arith, tail_fewer here, g.fewer);
       term = g.term;
       sort = truth_sort;
-      read = subst (λ (l : List Lexeme). ReadAs D (opens ∷ l) (lexemes_of rest) g.term truth_sort) (sym e) (quantifier_read D q starts g.read);
+      read = rw e (quantifier_read D q starts g.read);
       put = g.put;
     }
 
   -- what a head means, where it is m
   pub heads_as : {text rest : List ℕ} {k m : Meaning} → HeadTo (length D.symbols) text rest k → k ≡ m → Heads (length D.symbols) text rest m
-  heads_as {text} {rest} h e = subst (λ (m : Meaning). Heads (length D.symbols) text rest m) e h.heads
+  heads_as h e = rw e at h.heads
 
   module _ {text rest : List ℕ} {b : Bundle} {st : List ℕ} {b' : Bundle} {st' : List ℕ} where
-    alone_as : (m : Meaning) → length rest < length text → Means (length D.symbols) (length D.variables) text rest m → AlonePut D b st b' st' m
+    alone_as : (m : Meaning) → Tail text rest → length rest < length text → Means (length D.symbols) (length D.variables) text rest m → AlonePut D b st b' st' m
         → Gives D text b st (lexemes_of text) rest b' st'
     unfolding file
-    alone_as (means.Variable x) fewer m p =
+    alone_as (means.Variable x) tail fewer m p =
         let (w, stands, is, some) = m.1 in
         record {
+          tail = tail;
           fewer = fewer;
           term = var x;
           sort = sort_of_variable D x;
-          read = subst (λ (l : List Lexeme). ReadAs D l (lexemes_of rest) (var x) (sort_of_variable D x)) (sym stands)
-              (variable_read D w (called_is w is) some);
+          read = rw stands (variable_read D w (called_is w is) some);
           put = p;
         }
-    alone_as (means.Symbol f) fewer m p =
+    alone_as (means.Symbol f) tail fewer m p =
         let (w, stands, is, some) = m.1 in
         record {
+          tail = tail;
           fewer = fewer;
           term = app f none;
           sort = result_sort D (signature_of D f);
-          read = subst (λ (l : List Lexeme). ReadAs D l (lexemes_of rest) (app f none) (result_sort D (signature_of D f))) (sym stands)
-              (symbol_read D w (is 0 (omega arith) ∙ equal_on_truth f) some p.0);
+          read = rw stands (symbol_read D w (is 0 (omega arith) ∙ equal_on_truth f) some p.0);
           put = p.1;
         }
-    alone_as (means.Binder q) fewer m p = absurd p
-    alone_as means.Let fewer m p = absurd p
-    alone_as (means.Sort s) fewer m p = absurd p
+    alone_as (means.Binder q) tail fewer m p = absurd p
+    alone_as means.Let tail fewer m p = absurd p
+    alone_as (means.Sort s) tail fewer m p = absurd p
 
     pub alone_gives : {m : Meaning} → WordTo (length D.symbols) (length D.variables) text rest m → AlonePut D b st b' st' m
         → Gives D text b st (lexemes_of text) rest b' st'
-    alone_gives {m} at p = alone_as m at.fewer at.means p
+    alone_gives {m} at p = alone_as m at.tail at.fewer at.means p
 
   -- ---- a quantifier
 
@@ -167,16 +167,16 @@ module _ (D : Bundle) where
       → GivesUnder D text b st q rest b' st'
   last_under {text} {t₁} {t₂} {t₃} {t₄} {rest} {b} {st} {b'} {st'} q skipped is behind after g z =
       let o = closes_next t₁ is in
+      let here : Tail text t₃ = tail_after skipped.tail (tail_after (1, o.some, behind) after.tail) in
       let sort : g.sort ≡ truth_sort = sym (top_sort g.put z.top) ∙ z.truth in
       let stands : lexemes_of text ≡ closes ∷ lexemes_of t₃ =
       skipped.same ∙ o.next ∙ ap (λ (t : List ℕ). closes ∷ lexemes_of t) (sym behind) ∙ ap (λ (l : List Lexeme). closes ∷ l) after.same in
       record {
-        fewer = omega (arith, skipped.fewer, o.fewer, ap (length {A = ℕ}) behind, after.fewer, g.fewer, z.closed.fewer);
+        tail = tail_after here (tail_after g.tail z.closed.tail);
+        fewer = omega (arith, tail_fewer here, g.fewer, z.closed.fewer);
         term = g.term;
-        read = subst (λ (l : List Lexeme). UnderAs D q l (lexemes_of rest) g.term) (sym stands) (under_none D q
-            (subst (λ (s : ℕ). ReadAs D (lexemes_of t₃) (closes ∷ lexemes_of rest) g.term s) sort
-            (subst (λ (l : List Lexeme). ReadAs D (lexemes_of t₃) l g.term g.sort) z.closed.closed g.read)));
-        put = subst (λ (s : ℕ). PairPut (file g.term b) s st b' st') sort g.put;
+        read = rw stands (under_none D q (rw (sort, z.closed.closed) at g.read));
+        put = rw sort at g.put;
       }
 
   pub next_under : {text t₁ t₂ rest : List ℕ} {b : Bundle} {st : List ℕ} {b₁ : Bundle} {st₁ : List ℕ} {b' : Bundle} {st' : List ℕ} {x : ℕ} (q : BinderName)
@@ -187,14 +187,13 @@ module _ (D : Bundle) where
       let d = declares.listed in
       let listed : List Lexeme = opens ∷ word (name d.called) ∷ word (sort (sort_in declares.said)) ∷ closes ∷ lexemes_of t₂ in
       let stands : lexemes_of text ≡ listed = skipped.same ∙ d.listed in
-      let P : Bundle → ℕ → List ℕ → Type 0 = λ c n s. PairPut (place_binder c (binder_in q) x n) truth_sort s b' st' in
       record {
+        tail = tail_after skipped.tail (tail_after d.tail g.tail);
         fewer = omega (arith, skipped.fewer, d.fewer, g.fewer);
         term = bind (binder_in q) x g.term;
-        read = subst (λ (l : List Lexeme). UnderAs D (binder_in q) l (lexemes_of rest) (bind (binder_in q) x g.term)) (sym stands)
+        read = rw stands
             (under_more D (binder_in q) d.called (sort_in declares.said) (called_is d.called d.variable) d.some declares.sort g.read);
-        put = subst (λ (c : Bundle). P c (file g.term b).term st) g.put.bundle
-            (subst (λ (n : ℕ). P b₁ n st) (top_term g.put p.top) (subst (λ (s : List ℕ). P b₁ (half_of true p.body) s) (top_is g.put p.top).0 p.put));
+        put = rw (← g.put.bundle, ← top_term g.put p.top, ← (top_is g.put p.top).0) p.put;
       }
 
   -- ---- the arguments of a symbol
@@ -202,6 +201,7 @@ module _ (D : Bundle) where
   -- from the text t₀ on, with the bundle b₀ and the stack st₀; the text t is left
   pub record Applying (b₀ : Bundle) (st₀ t₀ : List ℕ) (h : ℕ) (b : Bundle) (st t : List ℕ) : Type 0 where
     pub height : h ≡ length st₀
+    pub tail : Tail t₀ t
     pub fewer : length t ≤ length t₀
     pub pairs : List ℕ
     pub stacked : st ≡ st₀ ++ pairs
@@ -211,11 +211,12 @@ module _ (D : Bundle) where
   pub applying_first : (b : Bundle) {st text t : List ℕ} {h : ℕ} → h ≡ length st → Blanks text t → Applying b st text h b st t
   applying_first b {st} {text} {t} height skipped = record {
     height = height;
+    tail = skipped.tail;
     fewer = skipped.fewer;
     pairs = [];
     stacked = sym (append-nil st);
     variables = [];
-    so_far = subst (λ (ls : List Lexeme). PartsSoFar D false (lexemes_of text) ls b b [] [] []) skipped.same (parts_start D false (lexemes_of text) b);
+    so_far = rw (← skipped.same) (parts_start D false (lexemes_of text) b);
   }
 
   module _ {b₀ : Bundle} {st₀ t₀ : List ℕ} {h : ℕ} {b : Bundle} {st t : List ℕ} where
@@ -223,20 +224,16 @@ module _ (D : Bundle) where
         → Applying b₀ st₀ t₀ h b₁ st₁ t₂
     applying_on {b₁} {st₁} {t₁} {t₂} v g skipped =
         let ps : List ℕ = v.pairs ++ (g.put.laid.pair ∷ []) in
-        let P : List Lexeme → Bundle → List ℕ → List ℕ → Type 0 =
-        λ ls c Ts Ss. PartsSoFar D false (lexemes_of t₀) ls b₀ c Ts Ss (v.variables ++ (0 ∷ [])) in
         record {
           height = v.height;
+          tail = tail_after v.tail (tail_after g.tail skipped.tail);
           fewer = omega (arith, v.fewer, g.fewer, skipped.fewer);
           pairs = ps;
           stacked = g.put.laid.stacked ∙ ap (λ (s : List ℕ). s ++ (g.put.laid.pair ∷ [])) v.stacked ∙ append_assoc st₀ v.pairs (g.put.laid.pair ∷ []);
           variables = v.variables ++ (0 ∷ []);
           so_far =
-              subst (λ (ls : List Lexeme). P ls b₁ (halves_of true ps) (halves_of false ps)) skipped.same
-              (subst (λ (c : Bundle). P (lexemes_of t₁) c (halves_of true ps) (halves_of false ps)) (sym g.put.bundle)
-              (subst (λ (xs : List ℕ). P (lexemes_of t₁) (file g.term b).bundle xs (halves_of false ps)) (sym (halves_more true v.pairs g.put.laid.pair g.put.laid.upper))
-              (subst (λ (xs : List ℕ). P (lexemes_of t₁) (file g.term b).bundle (halves_of true v.pairs ++ ((file g.term b).term ∷ [])) xs)
-              (sym (halves_more false v.pairs g.put.laid.pair g.put.laid.lower)) (part_on D v.so_far g.read))));
+              rw (← skipped.same, g.put.bundle, halves_more true v.pairs g.put.laid.pair g.put.laid.upper, halves_more false v.pairs g.put.laid.pair g.put.laid.lower)
+              (part_on D v.so_far g.read);
         }
 
     -- the first pair, where there is one, is that of the first argument
@@ -253,18 +250,16 @@ module _ (D : Bundle) where
         (z.next ∙ ap (λ (x : List ℕ). closes ∷ lexemes_of x) (sym behind)) v.so_far) in
         let sorts : halves_of false v.pairs ≡ first ∷ halves_of false (drop 1 v.pairs) =
         sorts_of v.pairs (λ e. some (ap (length {A = ℕ}) (pairs ∙ above_are) ∙ e)) (one ∙ ap (λ (ps : List ℕ). half_of false (get_or ps 0 0)) (pairs ∙ above_are)) in
-        let P : Bundle → List ℕ → List ℕ → Type 0 = λ c xs s. PairPut (place_application c g xs) (result_sort D (signature_of D g)) s b' st' in
         record {
+          tail = tail_after v.tail (1, z.some, behind);
           fewer = omega (arith, v.fewer, z.fewer, ap (length {A = ℕ}) behind);
           term = app g all.all;
           sort = result_sort D (signature_of D g);
           read = application_read D m
               (subst (λ (xs : List ℕ). PartsAs D false (lexemes_of t₀) (lexemes_of t₁) all.all xs v.variables) sorts all.read)
               (is first small ∙ sym isg)
-              (subst (λ (xs : List ℕ). accepts D g xs ≡ true) (ap (halves_of false) above_are ∙ sorts) p.takes);
-          put = subst (λ (c : Bundle). P c (file_all all.all b₀).terms st₀) (sym all.bundle)
-              (subst (λ (xs : List ℕ). P b xs st₀) (ap (halves_of true) above_are ∙ sym all.terms)
-              (subst (λ (s : List ℕ). P b (halves_of true (drop h st)) s) (below_is st₀ v.pairs v.height v.stacked) p.put));
+              (rw (above_are, sorts) at p.takes);
+          put = rw (all.bundle, all.terms, ← above_are, ← below_is st₀ v.pairs v.height v.stacked) p.put;
         }
       where
         sorts_of : (ps : List ℕ) → (length ps ≡ 0 → ⊥) → first ≡ half_of false (get_or ps 0 0) → halves_of false ps ≡ first ∷ halves_of false (drop 1 ps)
@@ -279,6 +274,7 @@ module _ (D : Bundle) where
   bound_gives {text} {t₁} {t₂} {rest} {b} {st} {h} {b'} {st₁} {st'} {pairs} {x} d above new g n =
       let is : variable_called D d.called ≡ x = called_is d.called d.variable in
       record {
+        tail = tail_after d.tail (tail_after g.tail n.closed.tail);
         fewer = omega (arith, d.fewer, g.fewer, n.closed.fewer);
         called = d.called;
         follows = lexemes_of t₁;
@@ -287,7 +283,7 @@ module _ (D : Bundle) where
         new = ap₂ (λ (y : ℕ) (ps : List ℕ). has y (halves_of false ps)) is (sym above) ∙ (not_true_exactly (has x (halves_of false pairs))).0 new;
         term = g.term;
         sort = g.sort;
-        read = subst (λ (l : List Lexeme). ReadAs D (lexemes_of t₁) l g.term g.sort) n.closed.closed g.read;
+        read = rw n.closed.closed at g.read;
         sorted = ap (sort_of_variable D) is ∙ n.sort ∙ top_sort g.put n.top;
         put = record {
           bundle = g.put.bundle;
@@ -304,6 +300,7 @@ module _ (D : Bundle) where
 
   pub record Letting (b₀ : Bundle) (st₀ t₀ : List ℕ) (h : ℕ) (b : Bundle) (st t : List ℕ) : Type 0 where
     pub height : h ≡ length st₀
+    pub tail : Tail t₀ t
     pub fewer : length t ≤ length t₀
     pub pairs : List ℕ
     pub stacked : st ≡ st₀ ++ pairs
@@ -316,32 +313,30 @@ module _ (D : Bundle) where
   unfolding different
   letting_first b {st} {text} {t} height skipped = record {
     height = height;
+    tail = skipped.tail;
     fewer = skipped.fewer;
     pairs = [];
     stacked = sym (append-nil st);
     distinct = refl;
     sorts = [];
     sorted = refl;
-    so_far = subst (λ (ls : List Lexeme). PartsSoFar D true (lexemes_of text) ls b b [] [] []) skipped.same (parts_start D true (lexemes_of text) b);
+    so_far = rw (← skipped.same) (parts_start D true (lexemes_of text) b);
   }
 
   module _ {b₀ : Bundle} {st₀ t₀ : List ℕ} {h : ℕ} {b : Bundle} {st t : List ℕ} where
-    pub letting_above : Letting b₀ st₀ t₀ h b st t → h ≤ length st
-    letting_above v = omega (arith, v.height, ap (length {A = ℕ}) v.stacked, length-append st₀ v.pairs)
-
     pub letting_on : {b₁ : Bundle} {st₁ t₁ t₂ : List ℕ} → Letting b₀ st₀ t₀ h b st t → GivesBound D t b st h t₁ b₁ st₁ → Blanks t₁ t₂
         → Letting b₀ st₀ t₀ h b₁ st₁ t₂
     letting_on {b₁} {st₁} {t₁} {t₂} v g skipped =
         let x : ℕ = variable_called D g.called in
         let ps : List ℕ = v.pairs ++ (g.put.laid.pair ∷ []) in
         let here : PartsSoFar D true (lexemes_of t₀) (opens ∷ word (name g.called) ∷ g.follows) b₀ b (halves_of true v.pairs) v.sorts (halves_of false v.pairs) =
-        subst (λ (ls : List Lexeme). PartsSoFar D true (lexemes_of t₀) ls b₀ b (halves_of true v.pairs) v.sorts (halves_of false v.pairs)) g.starts v.so_far in
+        rw g.starts at v.so_far in
         let names : halves_of false ps ≡ halves_of false v.pairs ++ (x ∷ []) = halves_more false v.pairs g.put.laid.pair g.put.laid.lower in
         let new : has x (halves_of false v.pairs) ≡ false =
         ap (λ (xs : List ℕ). has x (halves_of false xs)) (sym (above_is st₀ v.pairs v.height v.stacked)) ∙ g.new in
-        let P : List Lexeme → Bundle → List ℕ → List ℕ → Type 0 = λ ls c Ts Vs. PartsSoFar D true (lexemes_of t₀) ls b₀ c Ts (v.sorts ++ (g.sort ∷ [])) Vs in
         record {
           height = v.height;
+          tail = tail_after v.tail (tail_after g.tail skipped.tail);
           fewer = omega (arith, v.fewer, g.fewer, skipped.fewer);
           pairs = ps;
           stacked = g.put.laid.stacked ∙ ap (λ (s : List ℕ). s ++ (g.put.laid.pair ∷ [])) v.stacked ∙ append_assoc st₀ v.pairs (g.put.laid.pair ∷ []);
@@ -350,11 +345,7 @@ module _ (D : Bundle) where
           sorted = ap (map (sort_of_variable D)) names ∙ map-append (sort_of_variable D) (halves_of false v.pairs) (x ∷ [])
               ∙ ap₂ (λ (xs : List ℕ) (y : ℕ). xs ++ (y ∷ [])) v.sorted g.sorted;
           so_far =
-              subst (λ (ls : List Lexeme). P ls b₁ (halves_of true ps) (halves_of false ps)) skipped.same
-              (subst (λ (c : Bundle). P (lexemes_of t₁) c (halves_of true ps) (halves_of false ps)) (sym g.put.bundle)
-              (subst (λ (xs : List ℕ). P (lexemes_of t₁) (file g.term b).bundle xs (halves_of false ps)) (sym (halves_more true v.pairs g.put.laid.pair g.put.laid.upper))
-              (subst (λ (xs : List ℕ). P (lexemes_of t₁) (file g.term b).bundle (halves_of true v.pairs ++ ((file g.term b).term ∷ [])) xs) (sym names)
-              (pair_on D g.called g.known here g.read))));
+              rw (← skipped.same, g.put.bundle, halves_more true v.pairs g.put.laid.pair g.put.laid.upper, names) (pair_on D g.called g.known here g.read);
         }
 
     pub let_gives : {t₁ t₂ t₃ rest : List ℕ} {b₁ : Bundle} {st₁ : List ℕ} {b' : Bundle} {st' : List ℕ} → Letting b₀ st₀ t₀ h b st t → get_or t 0 0 ≡ 41
@@ -363,6 +354,7 @@ module _ (D : Bundle) where
     unfolding file
     let_gives {t₁} {t₂} {t₃} {rest} {b₁} {st₁} {b'} {st'} v over behind skipped g p ls starts =
         let z = closes_next t over in
+        let here : Tail t₀ t₂ = tail_after v.tail (tail_after (1, z.some, behind) skipped.tail) in
         let names : List ℕ = halves_of false v.pairs in
         let all : PartsEnded D true (lexemes_of t₀) (lexemes_of t₂) b₀ b (halves_of true v.pairs) v.sorts names
         = parts_end D (subst (λ (l : List Lexeme). PartsSoFar D true (lexemes_of t₀) l b₀ b (halves_of true v.pairs) v.sorts names)
@@ -371,26 +363,18 @@ module _ (D : Bundle) where
         let above_are : drop h p.top.below ≡ v.pairs = ap (drop h) under ∙ above_is st₀ v.pairs v.height v.stacked in
         let below_are : take h p.top.below ≡ st₀ = ap (take h) under ∙ below_is st₀ v.pairs v.height v.stacked in
         let c : Bundle = (file_all all.all b₀).bundle in
-        let P : Bundle → List ℕ → List ℕ → ℕ → ℕ → List ℕ → Type 0 = λ d vs ts n s below. PairPut (place_let d vs ts n) s below b' st' in
         let same : b₁ ≡ (file g.term c).bundle = g.put.bundle ∙ ap (λ (d : Bundle). (file g.term d).bundle) (sym all.bundle) in
         let body : half_of true p.body ≡ (file g.term c).term =
         top_term g.put p.top ∙ ap (λ (d : Bundle). (file g.term d).term) (sym all.bundle) in
-        let vs : List ℕ = halves_of false (drop h p.top.below) in
-        let ts : List ℕ = halves_of true (drop h p.top.below) in
         record {
-          fewer = omega (arith, v.fewer, z.fewer, ap (length {A = ℕ}) behind, skipped.fewer, g.fewer, p.closed.fewer);
+          tail = tail_after here (tail_after g.tail p.closed.tail);
+          fewer = omega (arith, tail_fewer here, g.fewer, p.closed.fewer);
           term = let_in names all.all g.term;
           sort = g.sort;
           read = let_read D starts all.read
-              (subst (λ (l : List Lexeme). ReadAs D (lexemes_of t₂) l g.term g.sort) p.closed.closed g.read) v.distinct
+              (rw p.closed.closed at g.read) v.distinct
               (list_same (map (sort_of_variable D) names) v.sorts v.sorted);
-          put =
-              subst (λ (d : Bundle). P d names (file_all all.all b₀).terms (file g.term c).term g.sort st₀) same
-              (subst (λ (xs : List ℕ). P b₁ xs (file_all all.all b₀).terms (file g.term c).term g.sort st₀) (ap (halves_of false) above_are)
-              (subst (λ (xs : List ℕ). P b₁ vs xs (file g.term c).term g.sort st₀) (ap (halves_of true) above_are ∙ sym all.terms)
-              (subst (λ (m : ℕ). P b₁ vs ts m g.sort st₀) body
-              (subst (λ (s : ℕ). P b₁ vs ts (half_of true p.body) s st₀) (top_sort g.put p.top)
-              (subst (λ (s : List ℕ). P b₁ vs ts (half_of true p.body) (half_of false p.body) s) below_are p.put)))));
+          put = rw (← same, all.terms, ← body, ← top_sort g.put p.top, ← below_are) (rw above_are at p.put);
         }
 
   -- ---- a whole text

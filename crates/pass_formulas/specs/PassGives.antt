@@ -1,4 +1,5 @@
--- What the functions that read a formula in one pass give where they are not given up: `rest` is what is left of the text. D has the declarations.
+-- What the functions that read a formula in one pass give where they are not given up: `rest` is what is left of the text, from some byte on. D has the
+-- declarations.
 use Rattle.std.specs.Prelude.{ℕ, ◌≤◌, ◌<◌, ◌≡◌, true, false, List, [], ◌∷◌, length, drop}
 use Rattle.bundle.specs.Words.{largest_word}
 use Rattle.bundle.specs.Bundle.{Bundle, sort_of_variable}
@@ -12,7 +13,7 @@ use Rattle.grammar.specs.Names.{names}
 use Rattle.reading.specs.Called.{variable_called}
 use Rattle.reading.specs.Local.{head_sort, plain, fine}
 use Rattle.reading.specs.Records.{file}
-use Rattle.lexing.specs.Lexes.{lexemes_of}
+use Rattle.lexing.specs.Lexes.{lexemes_of, Tail}
 use Rattle.heads.specs.HeadSymbols.{symbol_for}
 use Rattle.pass_tokens.specs.Tokens.{equal_on}
 use Rattle.pass_terms.specs.Passing.{PairPut}
@@ -27,6 +28,7 @@ SymbolIs D w n = (s : ℕ) → s ≤ 1 → symbol_for (length D.symbols) w s ≡
 
 -- the formula that the lexemes ls spell
 pub record Gives (D : Bundle) (text : List ℕ) (b : Bundle) (st : List ℕ) (ls : List Lexeme) (rest : List ℕ) (b' : Bundle) (st' : List ℕ) : Type 0 where
+  pub tail : Tail text rest
   pub fewer : length rest < length text
   pub term : Term
   pub sort : ℕ
@@ -35,6 +37,7 @@ pub record Gives (D : Bundle) (text : List ℕ) (b : Bundle) (st : List ℕ) (ls
 
 -- the variables of a quantifier, its body and its closing bracket
 pub record GivesUnder (D : Bundle) (text : List ℕ) (b : Bundle) (st : List ℕ) (q : Binder) (rest : List ℕ) (b' : Bundle) (st' : List ℕ) : Type 0 where
+  pub tail : Tail text rest
   pub fewer : length rest < length text
   pub term : Term
   pub read : UnderAs D q (lexemes_of text) (lexemes_of rest) term
@@ -42,6 +45,7 @@ pub record GivesUnder (D : Bundle) (text : List ℕ) (b : Bundle) (st : List ℕ
 
 -- a pair of a let: a variable that is not in the pairs from height h on, and a formula of its sort
 pub record GivesBound (D : Bundle) (text : List ℕ) (b : Bundle) (st : List ℕ) (h : ℕ) (rest : List ℕ) (b' : Bundle) (st' : List ℕ) : Type 0 where
+  pub tail : Tail text rest
   pub fewer : length rest < length text
   pub called : List ℕ
   pub follows : List Lexeme

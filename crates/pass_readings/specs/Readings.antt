@@ -6,7 +6,7 @@ use Rattle.logic.specs.Terms.{Binder, Term, Terms}
 use Rattle.grammar.specs.Grammar.{Lexeme}
 use Rattle.reading.specs.Typing.{sorts_declared, nested}
 use Rattle.reading.specs.Local.{head_sort, plain, fine}
-use Rattle.reading.specs.Records.{file, file_all}
+use Rattle.reading.specs.Records.{file_all}
 use Rattle.heads.specs.Places.{Part}
 use Rattle.formulas.specs.ReadGives.{terms_of, variable_of}
 use Rattle.pass_readings.specs.Spelled.{Spelled, SpelledParts, SpelledUnder}

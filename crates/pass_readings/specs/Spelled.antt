@@ -1,8 +1,7 @@
 -- What lexemes spell, up to a rest: a formula, parts, variables with a body. Its names are known, whatever known names follow.
-use Rattle.std.specs.Prelude.{ℕ, ◌<◌, ◌≡◌, Bool, true, false, List, [], ◌∷◌, length}
+use Rattle.std.specs.Prelude.{◌≡◌, Bool, true, false, List, [], ◌∷◌}
 use Rattle.bundle.specs.Bundle.{Bundle}
-use Rattle.grammar.specs.Bytes.{Word}
-use Rattle.grammar.specs.Grammar.{SortedVariable, Formula, Lexeme, opens, closes, word, spell, spell_variables}
+use Rattle.grammar.specs.Grammar.{SortedVariable, Formula, Lexeme, closes, spell, spell_variables}
 use Rattle.grammar.specs.Names.{Name, variableOnly, names, variable_names, all_known}
 use Rattle.reading.specs.Called.{known_in}
 use Rattle.heads.specs.Places.{Part, spell_parts}

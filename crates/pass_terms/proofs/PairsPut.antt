@@ -1,12 +1,11 @@
 -- From a placement, and its pair on the stack, to what is promised of both.
 --     laid_put                                         the pair of a placement
---     application_put, alone_put, binder_put, let_put  what each function puts
+--     application_put, binder_put, let_put  what each function puts
 use Prim.Native.Nat.{ℕ}
-use mathlib.Core.Path.{◌≡◌, refl, ap, ◌∙◌}
+use mathlib.Core.Path.{◌≡◌, refl, ◌∙◌}
 use mathlib.Core.Bool.{true, false}
 use mathlib.Core.List.{List, [], ◌∷◌, ◌++◌}
-use lib.ListN.{length, take, drop}
-use lib.Seq.{take-length, drop-length}
+use lib.ListN.{take, drop}
 use Rattle.std.specs.Prelude.{Some}
 use Rattle.bundle.specs.Bundle.{Bundle}
 use Rattle.logic.specs.Named.{binder_in}
@@ -31,14 +30,6 @@ module _ {b b' : Bundle} {st st' : List ℕ} where
         → PlaceOutcome (place_application b f (halves_of true pairs)) b' (Some n) → s ≡ result_sort D (signature_of D f) → Laid cut n s st'
         → ApplicationPut D b st f h b' st'
     application_put taken above below o same l = record { takes = taken; put = rw (← above, ← below) (laid_put o same l) }
-
-    -- with no argument
-    pub alone_put : h ≡ length st → ApplicationPut D b st f h b' st'
-        → (accepts D f [] ≡ true) × PairPut (place_application b f []) (result_sort D (signature_of D f)) st b' st'
-    alone_put e p =
-        let none : drop h st ≡ [] = ap (λ (n : ℕ). drop n st) e ∙ drop-length st in
-        let whole : take h st ≡ st = ap (λ (n : ℕ). take n st) e ∙ take-length st in
-        (rw none at p.takes, rw (none, whole) at p.put)
 
   pub binder_put : (below : List ℕ) (body : ℕ) {q : Binder} {x half n : ℕ} → st ≡ below ++ (body ∷ []) → half ≡ half_of true body
       → PlaceOutcome (place_binder b (binder_in q) x half) b' (Some n) → Laid below n truth_sort st' → BinderPut b st q x b' st'

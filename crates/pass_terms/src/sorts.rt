@@ -1,6 +1,5 @@
 // The sorts that a symbol takes, and the variables of a let.
 ghost use Rattle.std.specs.Prelude.{◌≡◌, false, not, replicate};
-ghost use Rattle.bundle.specs.Links.{items};
 ghost use Rattle.bundle.specs.Lists.{same_list, has};
 ghost use Rattle.logic.specs.Symbols.{argument_sorts};
 ghost use Rattle.scratch.specs.Stack.{halves_of};
@@ -8,6 +7,7 @@ ghost use Rattle.pass_tokens.specs.Tokens.{equal_on};
 
 use bundle::Bundle;
 use logic::Signature;
+use scratch::lists::same_halves;
 use scratch::pairs::half;
 
 // 8 for equality where its first argument is an item.
@@ -36,22 +36,6 @@ fn all_of_sort(pairs: &[u64], count: usize, sort: usize) -> bool
     true
 }
 
-// Whether pairs have the sorts of a list below, one each.
-fn sorts_of(bundle: &Bundle, list: usize, pairs: &[u64]) -> bool
-    ensures { result ≡ same_list (items bundle.now list) (halves_of false pairs.now) }
-{
-    let mut sorts = bundle.items(list);
-    for pair in pairs {
-        let Some(sort) = sorts.next() else {
-            return false;
-        };
-        if sort != half(*pair, false) {
-            return false;
-        }
-    }
-    sorts.next().is_none()
-}
-
 // Whether a symbol of this signature takes the sorts of pairs.
 pub fn takes(bundle: &Bundle, s: Signature, pairs: &[u64]) -> bool
     ensures { result ≡ same_list (argument_sorts bundle.now s) (halves_of false pairs.now) }
@@ -62,7 +46,7 @@ pub fn takes(bundle: &Bundle, s: Signature, pairs: &[u64]) -> bool
             sort,
             result: _,
         } => all_of_sort(pairs, count, sort),
-        Signature::Declared(i) => sorts_of(bundle, bundle.symbol_field(i, 1), pairs),
+        Signature::Declared(i) => same_halves(bundle, bundle.symbol_field(i, 1), pairs, false),
         Signature::Unknown => pairs.is_empty(),
     }
 }

@@ -6,6 +6,7 @@ use bundle::Bundle;
 use std::marker::Model;
 
 // Pairs, the lowest first: a term in the upper half, its sort in the lower or, of a let, the variable that it is bound to. As many as there may be links.
+// Each is packed in one number, as the functions of placing take pairs from any stack.
 #[derive(Drop)]
 pub struct Stack {
     pairs: [u64; Bundle::LINKS],

@@ -1,9 +1,9 @@
 -- Laws of white space, comments and brackets, byte by byte.
---     line_start, line_on, line_feed, line_return, line_past   a comment up to its line's end, as `blanks::line_end` goes over it
---     Skipping, blanks_start, on_space, on_other, comment_on    white space and comments, as `skip_blanks` goes over them
---     skipped                                                   what is left behind them
---     opens_next, closes_next                                   brackets
-use Prim.Native.Nat.{ℕ, suc, ◌+◌, ◌≤◌, ◌<◌}
+--     line_on, line_feed, line_return, line_past     a comment up to its line's end, as `blanks::line_end` goes over it
+--     Skipping, on_space, on_other, comment_on       white space and comments, as `skip_blanks` goes over them
+--     tail_from, skipped                             what is left behind them
+--     opens_next, closes_next                        brackets
+use Prim.Native.Nat.{ℕ, suc, ◌+◌, ◌-◌, ◌≤◌, ◌<◌}
 use native.Mathlib.Omega.{arith}
 use native.Mathlib.Numerals.{add-one}
 use mathlib.Core.Path.{◌≡◌, refl, sym, ap, ◌∙◌}
@@ -11,11 +11,12 @@ use mathlib.Core.Bool.{Bool, true, false, cond, not, ◌&&◌, ◌||◌, false�
 use mathlib.Core.Logic.{◌⊎◌, inl, inr}
 use mathlib.Core.List.{List, [], ◌∷◌, ◌++◌}
 use lib.ListN.{length, get_or, drop, length-drop}
+use lib.Seq.{drop-drop}
 use lib.Dec.{eqb, leb}
 use borrow.Author.Tests.{eqb-true, ne_eqb}
 use Rattle.grammar.specs.Bytes.{Class, space, lineEnd, semicolon, opening, closing, digit, symbol, other, is_symbol, class_of}
 use Rattle.grammar.specs.Grammar.{Lexeme, opens, closes, Mode, between, comment, bracket, ends, outside, onwards, last, lexemes_from}
-use Rattle.lexing.specs.Lexes.{lexemes_of, lexemes_at}
+use Rattle.lexing.specs.Lexes.{lexemes_of, lexemes_at, Tail}
 use Rattle.lexing.proofs.SkipLaws.{step, past}
 use Rattle.pass_tokens.specs.Tokens.{LineEnd, Blanks}
 
@@ -46,9 +47,6 @@ pub record Commenting (text : List ℕ) (i j : ℕ) : Type 0 where
   pub after : i ≤ j
   pub inside : j ≤ length text
   pub same : lexemes_from comment (drop i text) ≡ lexemes_from comment (drop j text)
-
-pub line_start : (text : List ℕ) (i : ℕ) → i ≤ length text → Commenting text i i
-line_start text i l = record { after = omega arith; inside = l; same = refl }
 
 module _ (text : List ℕ) (i j : ℕ) (h : Commenting text i j) where
   module _ (l : j < length text) where
@@ -89,11 +87,18 @@ pub record Skipping (text : List ℕ) (i j : ℕ) : Type 0 where
   pub inside : j ≤ length text
   pub same : lexemes_at text i ≡ lexemes_at text j
 
-pub skipped : {text : List ℕ} {i j : ℕ} → Skipping text i j → Blanks (drop i text) (drop j text)
-skipped {text} {i} {j} h = record { fewer = omega (arith, length-drop i text, length-drop j text, h.after); same = h.same }
+-- byte j stands behind what is left from byte i on
+pub tail_from : (text : List ℕ) (i j : ℕ) → i ≤ j → j ≤ length text → Tail (drop i text) (drop j text)
+tail_from text i j l k =
+    let q : i + (j - i) ≡ j = omega arith in
+    (j - i, omega (arith, length-drop i text), ap (λ (n : ℕ). drop n text) (sym q) ∙ sym (drop-drop (j - i) i text))
 
-pub blanks_start : (text : List ℕ) (i : ℕ) → i ≤ length text → Skipping text i i
-blanks_start text i l = record { after = omega arith; inside = l; same = refl }
+pub skipped : {text : List ℕ} {i j : ℕ} → Skipping text i j → Blanks (drop i text) (drop j text)
+skipped {text} {i} {j} h = record {
+  tail = tail_from text i j h.after h.inside;
+  fewer = omega (arith, length-drop i text, length-drop j text, h.after);
+  same = h.same;
+}
 
 module _ (text : List ℕ) (i j : ℕ) (h : Skipping text i j) (l : j < length text) where
   space_on : (k : Class) → (k ≡ space) ⊎ (k ≡ lineEnd) → class_of (get_or text j 0) ≡ k → Skipping text i (j + 1)

@@ -1,6 +1,5 @@
 -- Laws of digits, one by one, as `words::numeral` reads them.
---     digits_start, digits_on     digits so far
---     digits_end                  its answer
+--     Digiting, digits_on     digits so far
 use Prim.Native.Nat.{ℕ, suc, ◌+◌, ◌-◌, ◌*◌, ◌≤◌, ◌<◌}
 use native.Mathlib.Omega.{arith}
 use native.Mathlib.Numerals.{add-one}
@@ -15,7 +14,6 @@ use Rattle.logic.proofs.Tests.{and_left, and_right, and_both}
 use Rattle.reading.specs.Called.{decimal, is_digit, is_numeral}
 use Rattle.lexing.specs.Lexes.{part}
 use Rattle.lexing.proofs.SkipLaws.{part_more}
-use Rattle.pass_tokens.specs.Tokens.{DigitsTo}
 
 -- ---- a digit more
 
@@ -55,9 +53,6 @@ pub record Digiting (text : List ℕ) (from high n j : ℕ) : Type 0 where
   pub value : (n ≡ 0 → ⊥) → (from < j) × (is_numeral (part text from j) ≡ true) × (decimal 0 (part text from j) ≡ n)
 
 module _ (text : List ℕ) (from high : ℕ) where
-  pub digits_start : from ≤ length text → Digiting text from high 0 from
-  digits_start l = record { after = omega arith; inside = l; most = omega arith; none = λ x. refl; value = λ x. absurd (x refl) }
-
   module _ (n j : ℕ) (h : Digiting text from high n j) where
     pub digits_on : j < length text → (c : ℕ) → c ≡ get_or text j 0 → 48 ≤ c → c ≤ 57 → 10 * n + (c - 48) ≤ high → (10 * n + (c - 48) ≡ 0 → ⊥)
         → Digiting text from high (10 * n + (c - 48)) (j + 1)
@@ -89,8 +84,3 @@ module _ (text : List ℕ) (from high : ℕ) where
               rw grown (numeral_more (part text from j) c v.1 digit),
               rw grown (decimal_more 0 (part text from j) c ∙ ap (λ k. 10 * k + (c - 48)) v.2),
             )
-
-    pub digits_end : (n ≡ 0 → ⊥) → DigitsTo text from high (record { value = n; end = j })
-    digits_end some =
-        let v = h.value some in
-        record { after = v.0; inside = h.inside; some = some; most = h.most; numeral = v.1; value = v.2 }

@@ -11,10 +11,11 @@ use lib.ListN.{get_or, drop}
 use Rattle.logic.specs.declared.kinds.Binder.{Binder as BinderName}
 use Rattle.logic.specs.Named.{binder_in}
 use Rattle.grammar.specs.Bytes.{quantifier, letting, sort, name}
-use Rattle.grammar.specs.Grammar.{Lexeme, opens, closes, word}
+use Rattle.grammar.specs.Grammar.{Lexeme, opens, word}
 use Rattle.lexing.specs.Lexes.{lexemes_of}
 use Rattle.lexing.specs.Words.{sort_in}
 use Rattle.lexing.specs.declared.words.SortWord.{SortWord}
+use Rattle.lexing.proofs.Tails.{tail_after}
 use Rattle.pass_tokens.specs.declared.Meaning.{Meaning}
 use Rattle.pass_tokens.specs.declared.Meaning.TheVariants.{Variable, Binder, Let, Sort}
 use Rattle.pass_tokens.specs.Tokens.{Blanks, Opened, Closed, WordTo, Heads, HeadTo, SortedTo, BoundTo}
@@ -36,13 +37,18 @@ module _ (symbols variables : ℕ) {t₀ t t₁ t₂ t₃ : List ℕ} {m : Meani
       rw e (lexemes_of (drop 1 t₃), b.same ∙ said ∙ ap (λ (ls : List Lexeme). word letting ∷ ls) rest, (opens_next t₃ next).next)
 
   pub head_list : ((q : BinderName) × (m ≡ Binder q)) ⊎ (m ≡ Let) → HeadTo symbols t₀ t₃ m
-  head_list e = record { fewer = omega (arith, b.fewer, h.fewer, k.fewer, o.fewer); heads = opened e }
+  head_list e = record {
+    tail = tail_after b.tail (tail_after h.tail (tail_after k.tail o.tail));
+    fewer = omega (arith, b.fewer, h.fewer, k.fewer, o.fewer);
+    heads = opened e;
+  }
 
 module _ (symbols variables : ℕ) {t₀ t₁ t₂ t₃ : List ℕ} {m : Meaning} where
   pub bound : Opened t₀ t₁ → WordTo symbols variables t₁ t₂ m → (n : ℕ) → m ≡ Variable n → Blanks t₂ t₃ → BoundTo variables t₀ t₃ n
   bound o h n e k =
       let v = rw e at h.means in
       record {
+        tail = tail_after o.tail (tail_after h.tail k.tail);
         fewer = omega (arith, o.fewer, h.fewer, k.fewer);
         small = v.0;
         some = v.1.3;
@@ -56,6 +62,7 @@ module _ (symbols variables : ℕ) {t₀ t₁ t₂ t₃ : List ℕ} {m : Meaning
   sorted x h s e z =
       let said = rw e at h.means in
       record {
+        tail = tail_after x.tail (tail_after h.tail z.tail);
         fewer = omega (arith, x.fewer, h.fewer, z.fewer);
         small = x.small;
         some = x.some;

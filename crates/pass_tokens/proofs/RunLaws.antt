@@ -3,17 +3,16 @@
 --     stops_past, stops_byte, ..      where a run ends
 --     run_stands                      a run that stands in a text, and ends there
 --     part_cons                       a part of a text, by its first byte
---     match_start, match_on, matched  a part of a text that is a word, as `words::word_stands` compares them
+--     Matching                        a part of a text that is a word, as `words::word_stands` compares them
 use Prim.Native.Nat.{ℕ, suc, ◌+◌, ◌-◌, ◌≤◌, ◌<◌}
 use native.Mathlib.Omega.{arith}
 use mathlib.Core.Path.{◌≡◌, refl, sym, ap, ◌∙◌}
 use mathlib.Core.Bool.{Bool, true, false, cond, not, ◌&&◌, ◌||◌, false≢true}
 use mathlib.Core.Logic.{◌⊎◌, inl, inr}
 use mathlib.Core.List.{List, [], ◌∷◌, ◌++◌, append-nil, append_assoc}
-use lib.ListN.{length, get_or, take, drop, length-drop, take-append-drop}
-use lib.Seq.{drop-cons, drop-drop, get_or-take, get_or-drop, length-take-le, ext_get_or}
+use lib.ListN.{length, get_or, drop, take-append-drop}
+use lib.Seq.{drop-cons, drop-drop}
 use lib.Dec.{eqb, ltb}
-use borrow.Author.Count.{below_more}
 use borrow.Author.Tests.{eqb-true, eqb-false, lt-ltb, le-ltb, ltb-true, ltb-false, not-true}
 use Rattle.bundle.specs.Lists.{each}
 use Rattle.logic.specs.Tests.{up_to}
@@ -25,7 +24,7 @@ use Rattle.lexing.specs.Codes.{class_code}
 use Rattle.lexing.specs.Lexes.{part, lexemes_at}
 use Rattle.lexing.proofs.ClassLaws.{class_small, is_class}
 use Rattle.lexing.proofs.SkipLaws.{step, past, grows, stops}
-use Rattle.pass_tokens.specs.Tokens.{goes_on, RunStops, WordStands}
+use Rattle.pass_tokens.specs.Tokens.{goes_on, RunStops}
 
 -- ---- which bytes go on a run
 
@@ -152,34 +151,8 @@ part_cons text s e l i =
     let q : e - s ≡ suc (e - suc s) = omega arith in
     rw (q, drop-cons text s 0 i)
 
-part_matches : (text : List ℕ) (s : ℕ) (w : List ℕ) → s + length w ≤ length text → ((k : ℕ) → k < length w → get_or text (s + k) 0 ≡ get_or w k 0)
-    → part text s (s + length w) ≡ w
-part_matches text s w l h =
-    let q : s + length w - s ≡ length w = omega arith in
-    let n : length (take (length w) (drop s text)) ≡ length w = length-take-le (length w) (drop s text) (omega (arith, length-drop s text)) in
-    rw q (ext_get_or 0 (take (length w) (drop s text)) w n (λ k m.
-    let o : k < length w = omega arith in get_or-take (length w) (drop s text) k 0 o ∙ get_or-drop s text k 0 ∙ h k o))
-
 -- the first k bytes of a word stand at s
 pub record Matching (text : List ℕ) (s : ℕ) (w : List ℕ) (k : ℕ) : Type 0 where
   pub fits : s + length w ≤ length text
   pub inside : k ≤ length w
   pub same : (m : ℕ) → m < k → get_or text (s + m) 0 ≡ get_or w m 0
-
-module _ (text : List ℕ) (s : ℕ) (w : List ℕ) where
-  pub match_start : s + length w ≤ length text → 0 < length w → get_or text s 0 ≡ get_or w 0 0 → Matching text s w 1
-  match_start l some e = record { fits = l; inside = some; same = first }
-    where
-      first : (m : ℕ) → m < 1 → get_or text (s + m) 0 ≡ get_or w m 0
-      first m o =
-          let z : m ≡ 0 = omega arith in
-          let q : s + m ≡ s = omega arith in
-          ap (λ j. get_or text j 0) q ∙ e ∙ ap (λ j. get_or w j 0) (sym z)
-
-  module _ (k : ℕ) (h : Matching text s w k) where
-    pub match_on : k < length w → get_or text (s + k) 0 ≡ get_or w k 0 → Matching text s w (k + 1)
-    match_on l e = record { fits = h.fits; inside = omega arith; same = below_more (λ m. get_or text (s + m) 0 ≡ get_or w m 0) k h.same e }
-
-    pub matched : length w ≤ k → RunStops text (s + length w) → WordStands text s w
-    matched l stop =
-        record { inside = h.fits; spelled = part_matches text s w h.fits (λ m o. h.same m (omega (arith, h.inside))); stops = stop }

@@ -1,13 +1,14 @@
--- The answers of `words::reserved_at` and `words::word_at`.
---     word_true, word_false, ..          one of the twelve words
+-- The answers of `words::reserved_at`, `words::word_at` and `Text::word`.
+--     word_true, word_false, ..          one of the twelve words; twelve_words: all of these
 --     word_variable, word_name           a variable; a declared symbol
+--     word_next                          the word at a byte, as that which stands next
 use Prim.Native.Nat.{ℕ, zero, suc, ◌+◌, ◌-◌, ◌≤◌, ◌<◌}
 use native.Mathlib.Omega.{arith}
 use native.Mathlib.Numerals.{add-one}
 use mathlib.Core.Path.{◌≡◌, refl, ap, ◌∙◌}
 use mathlib.Core.Bool.{true, false, not, ◌||◌, false≢true}
 use mathlib.Core.List.{List, [], ◌∷◌}
-use lib.ListN.{length, get_or, drop}
+use lib.ListN.{length, get_or, drop, length-drop}
 use lib.Dec.{eqb, leb}
 use borrow.Author.Tests.{leb-true, le-leb, ne_eqb}
 use Rattle.std.specs.Prelude.{Option}
@@ -31,7 +32,8 @@ use Rattle.pass_tokens.specs.declared.Meaning.{Meaning}
 use Rattle.pass_tokens.specs.declared.Meaning.TheVariants.{Variable, Symbol, Binder, Let, Sort}
 use Rattle.pass_tokens.specs.declared.words.Token.{Token}
 use Rattle.pass_tokens.specs.declared.words.Digits.{Digits}
-use Rattle.pass_tokens.specs.Tokens.{goes_on, equal_on, RunStops, DigitsTo, WordIf, Means, TokenTo, WordAt}
+use Rattle.pass_tokens.specs.Tokens.{goes_on, equal_on, RunStops, DigitsTo, WordIf, Means, TokenTo, WordAt, WordTo}
+use Rattle.pass_tokens.proofs.BlankLaws.{tail_from}
 use Rattle.pass_tokens.proofs.RunLaws.{is_run, run_stands, part_cons}
 
 -- ---- the twelve words
@@ -102,6 +104,9 @@ module _ (symbols variables : ℕ) (text : List ℕ) (s : ℕ) where
   pub word_item : (r : Option Token) → WordIf text s (bytes "Item") (Sort Item) r → WordAt symbols variables text s r
   unfolding bytes each class_code class_of word_of same_list
   word_item = said (bytes "Item") (Sort Item) refl (omega arith) (λ l. l)
+
+-- each of them, where it stands
+pub ruleset twelve_words = (word_true, word_false, word_not, word_and, word_or, word_implies, word_equals, word_forall, word_exists, word_let, word_bool, word_item)
 
 -- ---- a letter and a numeral
 
@@ -194,3 +199,13 @@ module _ (symbols variables : ℕ) (text : List ℕ) (s : ℕ) (n : Digits) (i :
     where
       other : (t : ℕ) → n.value ≡ equal_on n.value t
       other t = let seven : n.value ≡ 7 → ⊥ = λ x. omega arith in rw (ne_eqb n.value 7 seven)
+
+-- ---- the word that stands next
+
+pub word_next : {symbols variables : ℕ} {text : List ℕ} {i : ℕ} {t : Token} → TokenTo symbols variables text i t
+    → WordTo symbols variables (drop i text) (drop t.end text) t.meaning
+word_next {text = text} {i = i} {t = t} h = record {
+  tail = tail_from text i t.end (omega (arith, h.further)) h.inside;
+  fewer = omega (arith, length-drop i text, length-drop t.end text, h.further, h.inside);
+  means = h.means;
+}

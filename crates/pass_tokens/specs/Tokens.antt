@@ -1,4 +1,5 @@
--- What stands at the start of a text, where it is what is due: its lexemes, and the bytes that are left behind it. Nothing is said where it is not.
+-- What stands at the start of a text, where it is what is due: its lexemes, and the bytes that are left behind it, which are the text from some byte on.
+-- Nothing is said where it is not.
 use Rattle.std.specs.Prelude.{IfSome, ℕ, ◌+◌, ◌≤◌, ◌<◌, ◌≡◌, Bool, true, cond, Option, ◌&&◌, ◌||◌, List, ◌∷◌, length, drop, eqb}
 use Rattle.bundle.specs.Words.{largest_word}
 use Rattle.logic.specs.Named.{binder_in}
@@ -8,7 +9,7 @@ use Rattle.reading.specs.Called.{decimal, is_numeral}
 use Rattle.lexing.specs.Codes.{class_code}
 use Rattle.lexing.specs.Counted.{variable_among}
 use Rattle.lexing.specs.Words.{sort_in}
-use Rattle.lexing.specs.Lexes.{part, lexemes_of, lexemes_at}
+use Rattle.lexing.specs.Lexes.{part, lexemes_of, lexemes_at, Tail}
 use Rattle.heads.specs.HeadSymbols.{symbol_for}
 use Rattle.pass_tokens.specs.declared.Meaning.{Meaning}
 use Rattle.pass_tokens.specs.declared.Meaning.TheVariants.{Variable, Symbol, Binder, Let, Sort}
@@ -26,15 +27,18 @@ pub record LineEnd (text : List ℕ) (i r : ℕ) : Type 0 where
 
 -- white space and comments stand before the rest
 pub record Blanks (text rest : List ℕ) : Type 0 where
+  pub tail : Tail text rest
   pub fewer : length rest ≤ length text
   pub same : lexemes_of text ≡ lexemes_of rest
 
 -- an opening bracket is next, a closing one
 pub record Opened (text rest : List ℕ) : Type 0 where
+  pub tail : Tail text rest
   pub fewer : length rest < length text
   pub opened : lexemes_of text ≡ opens ∷ lexemes_of rest
 
 pub record Closed (text rest : List ℕ) : Type 0 where
+  pub tail : Tail text rest
   pub fewer : length rest < length text
   pub closed : lexemes_of text ≡ closes ∷ lexemes_of rest
 
@@ -96,6 +100,7 @@ WordAt symbols variables text i r = IfSome r (TokenTo symbols variables text i)
 
 -- The word that stands next.
 pub record WordTo (symbols variables : ℕ) (text rest : List ℕ) (m : Meaning) : Type 0 where
+  pub tail : Tail text rest
   pub fewer : length rest < length text
   pub means : Means symbols variables text rest m
 
@@ -114,11 +119,13 @@ Heads symbols text rest (Sort s) = ⊥
 
 -- The head of a formula, after its opening bracket.
 pub record HeadTo (symbols : ℕ) (text rest : List ℕ) (m : Meaning) : Type 0 where
+  pub tail : Tail text rest
   pub fewer : length rest < length text
   pub heads : Heads symbols text rest m
 
 -- A variable of a quantifier's list.
 pub record SortedTo (variables : ℕ) (text rest : List ℕ) (x : Sorted) : Type 0 where
+  pub tail : Tail text rest
   pub fewer : length rest < length text
   pub small : x.variable ≤ largest_word
   pub some : x.variable ≡ 0 → ⊥
@@ -128,6 +135,7 @@ pub record SortedTo (variables : ℕ) (text rest : List ℕ) (x : Sorted) : Type
 
 -- The variable x of a let's list, up to its bound formula.
 pub record BoundTo (variables : ℕ) (text rest : List ℕ) (x : ℕ) : Type 0 where
+  pub tail : Tail text rest
   pub fewer : length rest < length text
   pub small : x ≤ largest_word
   pub some : x ≡ 0 → ⊥

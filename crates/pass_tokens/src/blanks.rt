@@ -1,8 +1,15 @@
 // White space and comments skipped; brackets.
-ghost use Rattle.std.specs.Prelude.{IfSome, ◌≤◌, length};
+ghost use Rattle.std.specs.Prelude.{IfSome, ◌≡◌, ◌≤◌, length, get_or};
 ghost use Rattle.pass_tokens.specs.Tokens.{LineEnd, Blanks, Opened, Closed};
 
 use super::Text;
+
+// Byte i; 0 past the text's end: it is compared with brackets, and 0 is none.
+pub fn byte_at(text: &[u8], i: usize) -> u8
+    ensures { result ≡ get_or text.now i 0 }
+{
+    if i < text.len() { text[i] } else { 0 }
+}
 
 // The end of the line of byte i, on which a comment goes on from there. By a place: with a slice from there on the pass took 1.5 % more instructions.
 fn line_end(text: &[u8], i: usize) -> usize

@@ -8,11 +8,12 @@ pub mod words; // words.rt: words and names
 pub mod openings; // openings.rt: heads of formulas
 pub mod places; // places.rt: variables, as they stand in lists
 
+use blanks::byte_at;
 use lexing::words::SortWord;
 use logic::kinds::Binder;
 use std::marker::Model;
 
-// What a word stands for: a variable or a symbol by its number, a binder, let, or a sort.
+// What a word stands for: a variable or a symbol by its number, as records have it (built-in symbols below the declared ones), a binder, let, or a sort.
 #[derive(Clone, Copy)]
 pub enum Meaning {
     Variable(usize),
@@ -61,14 +62,11 @@ impl<'a> Text<'a> {
         self.at >= self.bytes.len()
     }
 
-    // The first byte; 0 where there is none.
+    // The first byte; 0, which no formula has, where there is none: so each byte is compared at once.
     pub fn first(&self) -> u8
         ensures { result ≡ get_or self.now 0 0 }
     {
-        if self.at == self.bytes.len() {
-            return 0;
-        }
-        self.bytes[self.at]
+        byte_at(self.bytes, self.at)
     }
 
     // Goes past a byte.

@@ -22,7 +22,7 @@ pub struct Digits {
     pub end: usize,
 }
 
-// Whether a run goes on with a byte: a symbol character or a digit.
+// Whether a run goes on with a byte: a symbol character or a digit. A yes or no, where lexing's class_code gives the class.
 fn goes_on(x: u8) -> bool
     ensures { result ≡ goes_on x }
 {
@@ -113,7 +113,8 @@ fn word_if(text: &[u8], start: usize, spelled: &[u8], meaning: Meaning) -> Optio
     })
 }
 
-// One of the twelve words, at byte `start`: at most two of them start with its first byte.
+// One of the twelve words, at byte `start`: at most two of them start with its first byte. Not by lexing's word_of, which takes a run whose end is known.
+#[tactic(auto, using(crate::proofs::WordLaws::twelve_words), unfolding(grammar::specs::Bytes::bytes))]
 fn reserved_at(text: &[u8], symbols: usize, variables: usize, start: usize) -> Option<Token>
     requires { start < length text.now }
     ensures { WordAt symbols variables text.now start result }

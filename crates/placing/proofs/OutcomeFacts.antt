@@ -2,7 +2,6 @@
 --     Done, outcome_done, outcome_full     a call that was done; one that was full
 --     full_on                              a call that was full: so is all that needs more
 --     VisitDone, visit_done                a visit that was done
---     BinderDone, binder_done              a quantifier's opener that was done
 --     ListDone, list_done, list_full       a visit to a list
 --     on                                   a longer bundle, by what it is equal to
 --     longer_over                          what is too much for a bundle is too much for a longer one
@@ -20,7 +19,6 @@ use Rattle.logic.specs.Longer.{Longer}
 use Rattle.logic.proofs.Longer.{sizes}
 use Rattle.scratch.specs.Stack.{halves}
 use Rattle.placing.specs.declared.Visited.{Visited}
-use Rattle.placing.specs.declared.Opened.{Opened}
 use Rattle.expansion.specs.Visit.{Visits}
 use Rattle.placing.specs.Outcomes.{TooMuch, Outcome, ListOutcome}
 
@@ -62,7 +60,7 @@ module _ {A : Type 0} {b' b : Bundle} {a : A} {r : Option A} where
   pub full_on : Outcome b' a b r → r ≡ None → {b2' b2 : Bundle} {B : Type 0} {c : B} → Longer b' b2' → Outcome b2' c b2 None
   full_on o e longer = Outcome.full (longer_over longer (outcome_full o e)) refl
 
--- ---- of a visit, of a quantifier's opener
+-- ---- of a visit
 
 pub record VisitDone (b' : Bundle) (t s : ℕ) (b : Bundle) (x : Visited) : Type 0 where
   pub within : Within (own_counts b')
@@ -79,23 +77,6 @@ visit_done o e =
       bundle = d.bundle;
       result = ap (λ (v : Visited). v.result) d.value;
       step = ap (λ (v : Visited). v.step) d.value;
-    }
-
-pub record BinderDone (b' : Bundle) (Γ y : ℕ) (b : Bundle) (x : Opened) : Type 0 where
-  pub within : Within (own_counts b')
-  pub bundle : b ≡ b'
-  pub context : x.context ≡ Γ
-  pub variable : x.variable ≡ y
-
-pub binder_done : {b' b : Bundle} {Γ y : ℕ} {r : Option Opened} {x : Opened} → Outcome b' (record { context = Γ; variable = y }) b r → r ≡ Some x
-    → BinderDone b' Γ y b x
-binder_done o e =
-    let d = outcome_done o e in
-    record {
-      within = d.within;
-      bundle = d.bundle;
-      context = ap (λ (v : Opened). v.context) d.value;
-      variable = ap (λ (v : Opened). v.variable) d.value;
     }
 
 -- ---- of a visit to a list

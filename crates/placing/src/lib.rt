@@ -2,15 +2,15 @@
 // limits. `None` as soon as a section would pass its limit.
 #![tactic(auto)]
 
-ghost use Rattle.std.specs.Prelude.{◌≡◌, true, false, [], ◌∷◌, suc, ◌≤◌, ◌<◌, length};
+ghost use Rattle.std.specs.Prelude.{◌≡◌, true, false, ℕ, [], ◌∷◌, suc, ◌≤◌, ◌<◌, length};
 ghost use Rattle.bundle.specs.Words.{largest_word};
 ghost use Rattle.bundle.specs.RecordWords.{as_term, as_context, as_step, TermFits, ContextFits, StepFits};
 ghost use Rattle.logic.specs.Terms.{number_of};
 ghost use Rattle.logic.specs.Named.{binder_in, kind_in};
 ghost use Rattle.logic.specs.Longer.{with_terms, with_contexts, with_steps, add_list, list_start};
 ghost use Rattle.scratch.specs.Stack.{halves_of};
-ghost use Rattle.filing.specs.Filing.{Digested};
-ghost use Rattle.expansion.specs.Placed.{place_variable, place_application, place_binder, place_let};
+ghost use Rattle.filing.specs.Filing.{Digested, found};
+ghost use Rattle.expansion.specs.Placed.{placed, place_variable, place_application, place_binder, place_let};
 ghost use Rattle.expansion.specs.Visit.{fresh};
 ghost use Rattle.placing.specs.Outcomes.{VisitOutcome, OpenOutcome, PlaceOutcome, AddOutcome};
 
@@ -20,6 +20,7 @@ use bundle::records::{ContextWords, StepWords, TermWords};
 use filing::Filed;
 use filing::digests::{mixed_halves, pairs_digest, root_digest};
 use logic::kinds::{Binder, Kind};
+use scratch::appends::Appends;
 
 // What a visit to a term gives: the result's term, and the step that carries the term to it.
 #[derive(Clone, Copy)]
@@ -36,28 +37,29 @@ pub struct Opened {
 }
 
 // ---- One list or one record appended, where its section has room: its first link, or its number. Words are `usize` (see crate `scratch`, appends.rt).
+// All but a term go to a scratch, filed or not. Alike, each with its own section, limit and outcome: one for all would take these and the append.
 
 // The upper halves of pairs, or the lower, as a list.
-pub fn add_halves(filed: &mut Filed<'_>, pairs: &[u64], upper: bool) -> Option<usize>
-    ensures { AddOutcome filed.old (halves_of upper pairs.now) filed.new result }
+pub fn add_halves<S: Appends>(scratch: &mut S, pairs: &[u64], upper: bool) -> Option<usize>
+    ensures { AddOutcome (S.bundle scratch.old) (halves_of upper pairs.now) (S.bundle scratch.new) result }
 {
-    let counts = filed.scratch().counts();
+    let counts = scratch.counts();
     if pairs.len() > Bundle::LINKS - counts.links {
         return None;
     }
-    Some(filed.push_halves(pairs, upper))
+    Some(scratch.push_halves(pairs, upper))
 }
 
 // One value, as a list.
-pub fn add_value(filed: &mut Filed<'_>, value: usize) -> Option<usize>
+pub fn add_value<S: Appends>(scratch: &mut S, value: usize) -> Option<usize>
     requires { value ≤ largest_word }
-    ensures { AddOutcome filed.old (value ∷ []) filed.new result }
+    ensures { AddOutcome (S.bundle scratch.old) (value ∷ []) (S.bundle scratch.new) result }
 {
-    let counts = filed.scratch().counts();
+    let counts = scratch.counts();
     if counts.links >= Bundle::LINKS {
         return None;
     }
-    Some(filed.push_one(value))
+    Some(scratch.push_one(value))
 }
 
 // A term, filed by its digest, which is d.
@@ -66,7 +68,7 @@ pub fn add_term(filed: &mut Filed<'_>, term: TermWords, d: Digest) -> Option<usi
     ensures { PlaceOutcome
         (record { bundle = with_terms filed.old (as_term term ∷ []); term = suc (length filed.old.terms) }) filed.new result }
 {
-    let counts = filed.scratch().counts();
+    let counts = filed.counts();
     if counts.terms >= Bundle::TERMS {
         return None;
     }
@@ -106,31 +108,36 @@ fn add_listed_term(
     )
 }
 
-pub fn add_context(filed: &mut Filed<'_>, context: ContextWords) -> Option<usize>
+pub fn add_context<S: Appends>(scratch: &mut S, context: ContextWords) -> Option<usize>
     requires { ContextFits context }
     ensures { OpenOutcome
-        (record { bundle = with_contexts filed.old (as_context context ∷ []); context = suc (length filed.old.contexts) })
-        filed.new result }
+        (record {
+          bundle = with_contexts (S.bundle scratch.old) (as_context context ∷ []);
+          context = suc (length (S.bundle scratch.old).contexts);
+        }) (S.bundle scratch.new) result }
 {
-    let counts = filed.scratch().counts();
+    let counts = scratch.counts();
     if counts.contexts >= Bundle::CONTEXTS {
         return None;
     }
-    filed.append_context(context);
+    scratch.append_context(context);
     Some(counts.contexts + 1)
 }
 
-pub fn add_step(filed: &mut Filed<'_>, step: StepWords) -> Option<Visited>
+pub fn add_step<S: Appends>(scratch: &mut S, step: StepWords) -> Option<Visited>
     requires { StepFits step }
     ensures { VisitOutcome
-        (record { bundle = with_steps filed.old (as_step step ∷ []); result = step.right; step = suc (length filed.old.steps) })
-        filed.new result }
+        (record {
+          bundle = with_steps (S.bundle scratch.old) (as_step step ∷ []);
+          result = step.right;
+          step = suc (length (S.bundle scratch.old).steps);
+        }) (S.bundle scratch.new) result }
 {
-    let counts = filed.scratch().counts();
+    let counts = scratch.counts();
     if counts.steps >= Bundle::STEPS {
         return None;
     }
-    filed.append_step(step);
+    scratch.append_step(step);
     Some(Visited {
         result: step.right,
         step: counts.steps + 1,
@@ -145,6 +152,22 @@ fn keep(filed: &Filed<'_>, t: usize) -> Option<usize>
 {
     prove!(filed.scratch().counts().terms <= Bundle::TERMS);
     Some(t)
+}
+
+// Of a term with no list, by what was found of it; d is its digest.
+fn place_plain(
+    filed: &mut Filed<'_>,
+    known: Option<usize>,
+    term: TermWords,
+    d: Digest,
+) -> Option<usize>
+    requires { TermFits term × Digested filed.old (as_term term) d }
+    ensures { (n : ℕ) → known ≡ found n → PlaceOutcome (placed filed.old (add_list filed.old []) (as_term term) n) filed.new result }
+{
+    match known {
+        Some(n) => keep(filed, n),
+        None => add_term(filed, term, d),
+    }
 }
 
 // Of a symbol at the upper halves of pairs.
@@ -167,11 +190,10 @@ pub fn place_variable(filed: &mut Filed<'_>, y: usize) -> Option<usize>
 {
     let kind = Kind::Variable.number();
     let d = root_digest(kind, y);
-    if let Some(t) = filed.find_variable(d, y) {
-        return keep(filed, t);
-    }
-    add_term(
+    let known = filed.find_variable(d, y);
+    place_plain(
         filed,
+        known,
         TermWords {
             kind,
             first: y,
@@ -203,11 +225,10 @@ pub fn place_binder(filed: &mut Filed<'_>, q: Binder, y: usize, body: usize) -> 
 {
     let kind = q.number();
     let d = root_digest(kind, y);
-    if let Some(t) = filed.find_binder(d, kind, y, body) {
-        return keep(filed, t);
-    }
-    add_term(
+    let known = filed.find_binder(d, kind, y, body);
+    place_plain(
         filed,
+        known,
         TermWords {
             kind,
             first: y,

@@ -63,7 +63,8 @@ fn read_link(bundle: &Bundle, i: usize, links: usize) -> Read
     }
 }
 
-// The end of a walk that has read so many links, where one list has ended at least: what is left of the lists starts at the links i, j and k.
+// The end of a walk that has read so many links, where one list has ended at least: what is left of the lists starts at the links i, j and k. No value is
+// missing where `body` is false.
 fn end_walk(bundle: &Bundle, body: bool, i: usize, j: usize, k: usize, read: usize) -> Walk
     requires { (i ≤ length bundle.now.links) × (j ≤ length bundle.now.links) × (k ≤ length bundle.now.links) × (read ≤ 3 * limits.links)
         × (((eqb i 0 || eqb j 0) || eqb k 0) ≡ true) }
@@ -109,7 +110,7 @@ impl<'a> Taken<'a> {
         self.bundle
     }
 
-    // Field k of step p.
+    // Field k of step p; 0 of a step that is not there, as the definitions have it.
     pub fn field(&self, p: usize, k: usize) -> usize
         requires { k < 5 }
         ensures { result ≡ step_field (step_in self.now.bundle self.now.bed p) k }

@@ -23,7 +23,7 @@ use Rattle.expansion.specs.Expansion.{Outcome, long_enough}
 use Rattle.expansion.specs.Demands.{LongEnough}
 use Rattle.expansion.proofs.Files.{file_length}
 use Rattle.grammar.specs.Grammar.{Unread, breaks, stops}
-use Rattle.grammar.specs.Names.{Located, met, Every, StandsIn}
+use Rattle.grammar.specs.Names.{Located, Every, StandsIn}
 use Rattle.grammar.proofs.NamesPlaced.{names_stand}
 use Rattle.reading.specs.Reader.{Answer, job, refused, job_of}
 use Rattle.reading.specs.Answers.{filed_for, Answered, unread, unknown, missorted, full, read}

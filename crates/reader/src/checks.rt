@@ -34,10 +34,7 @@ pub fn declarations_fault(
     let bundle = opened(file, enough, 3)?;
     declarations::sections_fault(&bundle)?;
     if !is_declarations(&bundle) {
-        return Err(Failure {
-            check: Check::Job,
-            record: 0,
-        });
+        return Err(Check::Job.into());
     }
     Ok(bundle)
 }

@@ -17,10 +17,7 @@ pub fn text_fault(bundle: &Bundle, text: &[u8], area: &mut [u8]) -> Result<(), F
     let variables = bundle.variables();
     scanning::scan::scan(text, symbols, variables, area)?;
     if !node_tests::nodes::text_fine(bundle, text) {
-        return Err(Failure {
-            check: Check::Sorted,
-            record: 0,
-        });
+        return Err(Check::Sorted.into());
     }
     Ok(())
 }

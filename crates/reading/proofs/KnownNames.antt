@@ -1,4 +1,5 @@
 -- Names of declared symbols and variables: the tests and the propositions.
+--     declared_signature, past_signature    a declared symbol has a signature, a number past the last has none
 --     called_exactly      THE LAW: what is called so has the number that the name spells
 --     known_exactly       THE LAW: a name passes the test exactly where it is a declared one of the kind due
 --     variable_number     what a variable's name names is a variable
@@ -16,12 +17,39 @@ use Rattle.bundle.specs.Bundle.{Bundle}
 use Rattle.bundle.specs.Lists.{numbers, each}
 use Rattle.logic.specs.declared.Signature.TheVariants.{Declared, Unknown}
 use Rattle.logic.specs.Lists.{All, Number}
-use Rattle.logic.specs.Symbols.{symbol_kind, kind_of_symbol, signature, signature_of}
+use Rattle.logic.specs.Symbols.{declared, undeclared, symbol_kind, kind_of_symbol, signature, signature_of}
 use Rattle.logic.proofs.Tests.{and_left, and_right, and_both, or_cases, or_left, or_right, not_of, numbers_of_lem, numbers_in}
 use Rattle.logic.proofs.Exactly.{each_exactly}
 use Rattle.grammar.specs.Names.{Place, either, symbolOnly, variableOnly}
 use Rattle.reading.specs.Called.{decimal, is_digit, is_numeral, number_after, variable_called, symbol_called, known_as, known_in, Digit, Numeral, Spells}
 use Rattle.reading.specs.Called.{VariableName, SymbolName, DeclaredAs, KnownExactly, CalledExactly}
+
+-- ---- signatures by number
+
+-- past the symbols that are built in
+high_signature : (b : Bundle) (f : ℕ) → 33 ≤ f → signature_of b f ≡ signature (cond (leb f (32 + length b.symbols)) (declared (f - 32)) undeclared)
+unfolding signature_of kind_of_symbol symbol_kind
+high_signature b f lo =
+    simp (
+      lt-leb f 0 (omega arith),
+      lt-leb f 1 (omega arith),
+      lt-leb f 2 (omega arith),
+      lt-leb f 3 (omega arith),
+      lt-leb f 4 (omega arith),
+      lt-leb f 5 (omega arith),
+      lt-leb f 6 (omega arith),
+      lt-leb f 7 (omega arith),
+      lt-leb f 8 (omega arith),
+      lt-leb f 32 (omega arith),
+    )
+
+pub declared_signature : (b : Bundle) (f : ℕ) → 33 ≤ f → f ≤ 32 + length b.symbols → signature_of b f ≡ Declared (f - 32)
+unfolding signature
+declared_signature b f lo hi = high_signature b f lo ∙ rw (le-leb f (32 + length b.symbols) hi)
+
+pub past_signature : (b : Bundle) (f : ℕ) → 32 + length b.symbols < f → signature_of b f ≡ Unknown
+unfolding signature
+past_signature b f h = high_signature b f (omega arith) ∙ rw (lt-leb f (32 + length b.symbols) h)
 
 -- ---- numbers after a letter
 
@@ -135,28 +163,10 @@ module _ (b : Bundle) (w : List ℕ) where
   pub variable_number : ltb 0 (variable_called b w) ≡ true → Number (length b.variables) (variable_called b w)
   variable_number e = (variable_name (variable_called b w) refl (ltb-true 0 (variable_called b w) e)).1
 
-  -- a declared symbol has a signature
-  signed : (f : ℕ) → 33 ≤ f → f ≤ 32 + length b.symbols → signature_of b f ≡ Declared (f - 32)
-  unfolding signature_of kind_of_symbol symbol_kind signature
-  signed f lo hi =
-      simp (
-        lt-leb f 0 (omega arith),
-        lt-leb f 1 (omega arith),
-        lt-leb f 2 (omega arith),
-        lt-leb f 3 (omega arith),
-        lt-leb f 4 (omega arith),
-        lt-leb f 5 (omega arith),
-        lt-leb f 6 (omega arith),
-        lt-leb f 7 (omega arith),
-        lt-leb f 8 (omega arith),
-        lt-leb f 32 (omega arith),
-        le-leb f (32 + length b.symbols) hi,
-      )
-
   pub symbol_signature : ltb 0 (symbol_called b w) ≡ true → signature_of b (symbol_called b w) ≡ Unknown → ⊥
   symbol_signature e u =
       let (name, lo, hi) = symbol_name (symbol_called b w) refl (ltb-true 0 (symbol_called b w) e) in
-      let clash : Declared (symbol_called b w - 32) ≡ Unknown = sym (signed (symbol_called b w) lo hi) ∙ u in
+      let clash : Declared (symbol_called b w - 32) ≡ Unknown = sym (declared_signature b (symbol_called b w) lo hi) ∙ u in
       let z : ◌≡◌ {A = ℕ} 0 1 = cc in
       omega arith
 

@@ -1,19 +1,18 @@
 -- All numbers of the records of a well_sorted term are words of 32 bits, where the counts are within the limits.
 --     known_small      a symbol that there is
 --     term_small       THE LAW
-use Prim.Native.Nat.{ℕ, ◌+◌, ◌≤◌, ◌<◌}
+use Prim.Native.Nat.{ℕ, ◌+◌, ◌≤◌}
 use native.Mathlib.Omega.{arith}
 use native.Mathlib.Decide.{dec_le}
 use mathlib.Core.Path.{◌≡◌}
 use mathlib.Core.List.{List, [], ◌∷◌}
 use lib.ListN.{length}
-use borrow.Author.Tests.{lt-leb}
 use Rattle.bundle.specs.File.{own_counts}
 use Rattle.bundle.specs.Bundle.{Bundle}
 use Rattle.bundle.specs.Limits.{Within}
 use Rattle.logic.specs.declared.Signature.TheVariants.{Unknown}
 use Rattle.logic.specs.Lists.{All, Number}
-use Rattle.logic.specs.Symbols.{symbol_kind, kind_of_symbol, signature, signature_of}
+use Rattle.logic.specs.Symbols.{signature_of}
 use Rattle.logic.specs.Terms.{Binder, Term, Terms, var, app, bind, let_in, none, more}
 use Rattle.logic.specs.WellFormed.{TablesFormed}
 use Rattle.logic.specs.Longer.{Longer, add_list}
@@ -25,33 +24,17 @@ use Rattle.expansion.proofs.AppendedChecked.{Checked}
 use Rattle.expansion.proofs.SmallNumbers.{Word, SmallBundle}
 use Rattle.expansion.proofs.SmallWords.{SmallPlaced, binder_word, seek_le, list_small, start_small, placed_small}
 use Rattle.reading.specs.Records.{PlacedTerms, file, file_all}
+use Rattle.reading.proofs.KnownNames.{past_signature}
 use Rattle.reading.proofs.TermSorts.{TermSorted, TermsSorted}
 use Rattle.reading.proofs.Records.{FiledAs, AllFiled, filed, all_filed}
 
 -- a symbol that there is is built in or declared
 pub known_small : (b : Bundle) (f : ℕ) → (signature_of b f ≡ Unknown → ⊥) → f ≤ 32 + length b.symbols
-unfolding signature_of kind_of_symbol symbol_kind signature
 known_small b f known = go (dec_le f (32 + length b.symbols))
   where
-    past : 32 + length b.symbols < f → signature_of b f ≡ Unknown
-    past h =
-        simp (
-          lt-leb f 0 (omega arith),
-          lt-leb f 1 (omega arith),
-          lt-leb f 2 (omega arith),
-          lt-leb f 3 (omega arith),
-          lt-leb f 4 (omega arith),
-          lt-leb f 5 (omega arith),
-          lt-leb f 6 (omega arith),
-          lt-leb f 7 (omega arith),
-          lt-leb f 8 (omega arith),
-          lt-leb f 32 (omega arith),
-          lt-leb f (32 + length b.symbols) h,
-        )
-
     go : Dec (f ≤ 32 + length b.symbols) → f ≤ 32 + length b.symbols
     go (yes l) = l
-    go (no l) = absurd (known (past (omega arith)))
+    go (no l) = absurd (known (past_signature b f (omega arith)))
 
 pub record SmallTerms (p : PlacedTerms) : Type 0 where
   pub bundle : SmallBundle p.bundle

@@ -2,7 +2,7 @@
 --     cong_bad, cong_good     where the rest of CONG's tests fails, and where it passes
 --     let_bad, let_good       so of LET's
 use mathlib.Core.Path.{◌≡◌, ap, sym, ◌∙◌}
-use mathlib.Core.Bool.{true, false, cond, ◌&&◌}
+use mathlib.Core.Bool.{false, cond, ◌&&◌}
 use Prim.Native.Nat.{ℕ}
 use Rattle.bundle.specs.Bundle.{Bundle, Step}
 use Rattle.bundle.specs.Links.{items}

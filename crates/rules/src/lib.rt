@@ -4,7 +4,7 @@
 pub mod rules; // rules.rt: REFL, CONG, TRANS, BIND, LET
 
 // What a step's walk takes beside its premises: the context in which they carry the terms of one list to those of another, and whether one more is left
-// over for a let's body.
+// over for a let's body. `body` says no more than that: the three numbers are there in either case.
 #[derive(Clone, Copy)]
 pub struct Lists {
     pub body: bool,

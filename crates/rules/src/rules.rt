@@ -177,7 +177,7 @@ fn word_hits(
         if z > bundle.variables() {
             return false;
         }
-        let image = image_of(bundle, images, context, z);
+        let image = image_of(bundle.variables(), images, context, z);
         if free_in_image(sets, image, z, y) {
             return true;
         }

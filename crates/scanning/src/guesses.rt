@@ -1,7 +1,6 @@
 // The second scan: from the text's start, with brackets counted, it finds again the spots held at the levels from `low` up to before `top`.
 ghost use Rattle.std.specs.Prelude.{◌≡◌, ◌+◌, ◌-◌, ◌*◌, ◌≤◌, ◌<◌, length, get_or};
 ghost use Rattle.spots.specs.Spots.{table, cell};
-ghost use Rattle.spots.specs.Runs.{part};
 ghost use Rattle.spots.specs.Guesses.{guess_column, if_between, guess_inside, guess_stored, GuessTurned, LevelsFound};
 
 use crate::runs::{lexeme_from, run_end};
@@ -42,29 +41,20 @@ fn guess_column(run: &[u8]) -> usize
 }
 
 // The spot after a run.
-fn guess_word(
-    text: &[u8],
-    spot: u8,
-    depth: usize,
-    low: usize,
-    top: usize,
-    start: usize,
-    end: usize,
-) -> u8
-    requires { (start ≤ end) × (end ≤ length text.now) }
-    ensures { result ≡ if_between low top depth (cell spot (guess_column (part text.now start end))) spot }
+fn guess_word(run: &[u8], spot: u8, depth: usize, low: usize, top: usize) -> u8
+    ensures { result ≡ if_between low top depth (cell spot (guess_column run.now)) spot }
 {
     if depth < low {
         return spot;
     }
     if depth < top {
-        let column = guess_column(&text[start..end]);
+        let column = guess_column(run);
         return guess_cell(spot, column);
     }
     spot
 }
 
-// The spot inside an opening bracket; its own is held.
+// The spot inside an opening bracket, 20, which is none of them, where it is not known; its own is held.
 fn guess_inside(area: &mut [u8], spot: u8, depth: usize, low: usize, top: usize) -> u8
     requires { (top ≤ low + length area.old) × (depth ≤ 18446744073709551614) }
     ensures spot { result ≡ guess_inside low top depth spot }
@@ -108,7 +98,7 @@ fn guess_turn(text: &[u8], area: &mut [u8], g: Guess, i: usize, low: usize, top:
     let class = class_code(text[i]);
     if class == 6 {
         let end = run_end(text, i + 1);
-        let after = guess_word(text, spot, depth, low, top, i, end);
+        let after = guess_word(&text[i..end], spot, depth, low, top);
         let next = lexeme_from(text, end);
         return Guess {
             next,

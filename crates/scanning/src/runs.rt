@@ -1,6 +1,5 @@
-// Blanks and runs of symbol characters.
+// Blanks and runs of symbol characters, by places in the text: the byte's number is what a refusal tells.
 ghost use Rattle.std.specs.Prelude.{◌≡◌, ◌≤◌, length};
-ghost use Rattle.lexing.specs.Common.{common};
 ghost use Rattle.spots.specs.Runs.{lexeme_from, run_end, sort_start};
 
 use lexing::runs::{class_code, in_common};
@@ -21,7 +20,7 @@ pub fn lexeme_from(text: &[u8], from: usize) -> usize
     text.len()
 }
 
-// The byte behind the run from a byte on.
+// The byte behind the run from a byte on. As lexing's, which takes what is left of a text, and no place.
 pub fn run_end(text: &[u8], from: usize) -> usize
     requires { from ≤ length text.now }
     ensures { result ≡ run_end text.now from }

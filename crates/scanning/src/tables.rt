@@ -2,7 +2,7 @@
 ghost use Rattle.std.specs.Prelude.{◌≡◌, ◌<◌, get_or};
 ghost use Rattle.spots.specs.Spots.{table};
 
-// A cell of the table, fourteen a spot.
+// A cell of the table, fourteen a spot: a number, since the table is bytes. Its column says what it means; 98 is the spot held, 99 is refused.
 pub fn cell(at: usize) -> u8
     requires { at < 294 }
     ensures { result ≡ get_or table at 0 }

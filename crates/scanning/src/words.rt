@@ -1,5 +1,5 @@
 // One word.
-ghost use Rattle.std.specs.Prelude.{◌≡◌, ◌+◌, ◌≤◌, ◌<◌, length};
+ghost use Rattle.std.specs.Prelude.{◌≡◌, ◌≤◌, ◌<◌, length};
 ghost use Rattle.spots.specs.Runs.{part};
 ghost use Rattle.spots.specs.Judgement.{declared_by, viable_bytes, word_met};
 
@@ -10,18 +10,18 @@ use lexing::words::{Word, word_of};
 use logic::checks::{Check, Failure};
 
 // How many bytes of a run could still become a word that is due at a spot.
-fn viable_bytes(text: &[u8], spot: usize, start: usize, end: usize) -> usize
-    requires { (spot < 20) × (start ≤ end) × (end ≤ length text.now) }
-    ensures { (result ≡ viable_bytes spot (part text.now start end)) × (start + result ≤ end) }
+fn viable_bytes(run: &[u8], spot: usize) -> usize
+    requires { spot < 20 }
+    ensures { (result ≡ viable_bytes spot run.now) × (result ≤ length run.now) }
 {
     let growth = usize::from(cell(spot * 14 + 11));
     if growth == 0 {
         return 0;
     }
     if growth == 1 {
-        return end - start;
+        return run.len();
     }
-    sort_start(&text[start..end])
+    sort_start(run)
 }
 
 // A run at a spot: the spot after it, or 20 or 19 with the byte.
@@ -41,7 +41,7 @@ pub fn word(
     let word = word_of(run);
     let next = usize::from(cell(row + word.code()));
     if next >= 20 {
-        let viable = viable_bytes(text, spot, start, end);
+        let viable = viable_bytes(run, spot);
         return Err(Failure {
             check: Check::Text,
             record: start + viable,

@@ -3,7 +3,8 @@
 --     written_none, written_more     no store, and one store more
 --     written_1, written_2, written_4, written_5   stores one after another
 --     rows_kept, rows_more           a section whose words are as they were, and one with a record more: one law over start, size and kind
---     variable_appended, ..          what the stores of each append leave
+--     variable_appended, ..          what words written so leave
+--     variable_stored, ..            what the stores of each append leave
 use mathlib.Core.Path.{◌≡◌, refl, sym, subst, ◌∙◌}
 use mathlib.Core.List.{List, [], ◌∷◌, ◌++◌}
 use Prim.Native.Nat.{ℕ, ◌+◌, ◌*◌, ◌≤◌, ◌<◌}
@@ -18,6 +19,7 @@ use Rattle.bundle.specs.File.{tab, record_by, symbol_from, link_from, term_from,
 use Rattle.bundle.proofs.Fields.{symbol_same, variable_same, term_same, link_same, context_same, step_same, section_same, section_more}
 use Rattle.logic.specs.Longer.{with_variables, with_terms, with_links, with_contexts, with_steps}
 use Rattle.scratch.specs.Scratch.{word_in, bundle_in, Roomy}
+use Rattle.scratch.proofs.ScratchFields.{sized_as}
 
 -- v is w with the words vs from place p on
 pub record Written (w v : List ℕ) (p : ℕ) (vs : List ℕ) : Type 0 where
@@ -49,19 +51,27 @@ module _ {w v : List ℕ} {p : ℕ} {vs : List ℕ} (o : Written w v p vs) (q x 
           rw (e, f) (get_or-set_same v q x 0 g ∙ sym (get_or-append_seam vs x [] 0))
 
 -- one word, and two, four and five stored one after another
-pub written_1 : (w : List ℕ) (p a : ℕ) → p + 1 ≤ length w → Written w (set w p a) p (a ∷ [])
+written_1 : (w : List ℕ) (p a : ℕ) → p + 1 ≤ length w → Written w (set w p a) p (a ∷ [])
 written_1 w p a h = written_more (written_none w p) p a (omega arith) (omega arith)
 
 module _ (w : List ℕ) (p a b : ℕ) where
-  pub written_2 : p + 2 ≤ length w → Written w (set (set w p a) (p + 1) b) p (a ∷ b ∷ [])
+  abbrev pub stored_2 : List ℕ
+  stored_2 = set (set w p a) (p + 1) b
+
+  written_2 : p + 2 ≤ length w → Written w stored_2 p (a ∷ b ∷ [])
   written_2 h = written_more (written_1 w p a (omega arith)) (p + 1) b (omega arith) (omega arith)
 
   module _ (d e : ℕ) where
-    pub written_4 : p + 4 ≤ length w → Written w (set (set (set (set w p a) (p + 1) b) (p + 2) d) (p + 3) e) p (a ∷ b ∷ d ∷ e ∷ [])
+    abbrev pub stored_4 : List ℕ
+    stored_4 = set (set stored_2 (p + 2) d) (p + 3) e
+
+    written_4 : p + 4 ≤ length w → Written w stored_4 p (a ∷ b ∷ d ∷ e ∷ [])
     written_4 h = written_more (written_more (written_2 (omega arith)) (p + 2) d (omega arith) (omega arith)) (p + 3) e (omega arith) (omega arith)
 
-    pub written_5 : (f : ℕ) → p + 5 ≤ length w
-        → Written w (set (set (set (set (set w p a) (p + 1) b) (p + 2) d) (p + 3) e) (p + 4) f) p (a ∷ b ∷ d ∷ e ∷ f ∷ [])
+    abbrev pub stored_5 : ℕ → List ℕ
+    stored_5 f = set stored_4 (p + 4) f
+
+    written_5 : (f : ℕ) → p + 5 ≤ length w → Written w (stored_5 f) p (a ∷ b ∷ d ∷ e ∷ f ∷ [])
     written_5 f h = written_more (written_4 (omega arith)) (p + 4) f (omega arith) (omega arith)
 
 -- v has the words of w from place lo to before place hi
@@ -135,7 +145,7 @@ module _ {w v : List ℕ} {c : Counts} (g : Roomy w c) where
   roomy_more : {r : Counts} → Within r → length v ≡ length w → Roomy v r
   roomy_more h l = record { within = h; long = omega (arith, g.long) }
 
-  pub variable_appended : {x : ℕ} → c.variables < limits.variables → Written w v (variables_at limits + c.variables) (x ∷ [])
+  variable_appended : {x : ℕ} → c.variables < limits.variables → Written w v (variables_at limits + c.variables) (x ∷ [])
       → Grows v (counted c (c.variables + 1) c.terms c.links c.contexts c.steps) (with_variables (bundle_in w c) (x ∷ []))
   unfolding bundle_by
   variable_appended {x} l u =
@@ -159,7 +169,7 @@ module _ {w v : List ℕ} {c : Counts} (g : Roomy w c) where
             (o.below 8 (omega arith)),
       )
 
-  pub term_appended : {kind a b d : ℕ} → c.terms < limits.terms → Written w v (terms_at limits + 4 * c.terms) (kind ∷ a ∷ b ∷ d ∷ [])
+  term_appended : {kind a b d : ℕ} → c.terms < limits.terms → Written w v (terms_at limits + 4 * c.terms) (kind ∷ a ∷ b ∷ d ∷ [])
       → Grows v (counted c c.variables (c.terms + 1) c.links c.contexts c.steps) (with_terms (bundle_in w c) ((record { kind = kind; a = a; b = b; c = d }) ∷ []))
   unfolding bundle_by
   term_appended {kind} {a} {b} {d} l o = (
@@ -182,7 +192,7 @@ module _ {w v : List ℕ} {c : Counts} (g : Roomy w c) where
         (o.below 8 (omega arith)),
   )
 
-  pub link_appended : {value next : ℕ} → c.links < limits.links → Written w v (links_at limits + 2 * c.links) (value ∷ next ∷ [])
+  link_appended : {value next : ℕ} → c.links < limits.links → Written w v (links_at limits + 2 * c.links) (value ∷ next ∷ [])
       → Grows v (counted c c.variables c.terms (c.links + 1) c.contexts c.steps) (with_links (bundle_in w c) ((record { value = value; next = next }) ∷ []))
   unfolding bundle_by
   link_appended {value} {next} l o = (
@@ -205,7 +215,7 @@ module _ {w v : List ℕ} {c : Counts} (g : Roomy w c) where
         (o.below 8 (omega arith)),
   )
 
-  pub context_appended : {kind a b parent : ℕ} → c.contexts < limits.contexts → Written w v (contexts_at limits + 4 * c.contexts) (kind ∷ a ∷ b ∷ parent ∷ [])
+  context_appended : {kind a b parent : ℕ} → c.contexts < limits.contexts → Written w v (contexts_at limits + 4 * c.contexts) (kind ∷ a ∷ b ∷ parent ∷ [])
       → Grows v (counted c c.variables c.terms c.links (c.contexts + 1) c.steps) (with_contexts (bundle_in w c) ((record { kind = kind; a = a; b = b; parent = parent }) ∷ []))
   unfolding bundle_by
   context_appended {kind} {a} {b} {parent} l o = (
@@ -228,7 +238,7 @@ module _ {w v : List ℕ} {c : Counts} (g : Roomy w c) where
         (o.below 8 (omega arith)),
   )
 
-  pub step_appended : {rule context left right premises : ℕ} → c.steps < limits.steps → Written w v (steps_at limits + 5 * c.steps) (rule ∷ context ∷ left ∷ right ∷ premises ∷ [])
+  step_appended : {rule context left right premises : ℕ} → c.steps < limits.steps → Written w v (steps_at limits + 5 * c.steps) (rule ∷ context ∷ left ∷ right ∷ premises ∷ [])
       → Grows v (counted c c.variables c.terms c.links c.contexts (c.steps + 1)) (with_steps (bundle_in w c) ((record { rule = rule; context = context; left = left; right = right; premises = premises }) ∷ []))
   unfolding bundle_by
   step_appended {rule} {context} {left} {right} {premises} l o = (
@@ -250,3 +260,31 @@ module _ {w v : List ℕ} {c : Counts} (g : Roomy w c) where
         (o.below 7 (omega arith))
         (o.below 8 (omega arith)),
   )
+
+-- the same of the stores themselves, where the words hold b
+module _ {w : List ℕ} {c : Counts} (g : Roomy w c) {b : Bundle} (e : bundle_in w c ≡ b) where
+  pub variable_stored : (x : ℕ) → length b.variables < limits.variables
+      → Grows (set w (variables_at limits + c.variables) x) (counted c (c.variables + 1) c.terms c.links c.contexts c.steps) (with_variables b (x ∷ []))
+  variable_stored x l =
+      rw (← e) (variable_appended g (omega (arith, (sized_as w c e).variables)) (written_1 w _ _ (omega (arith, g.long, (sized_as w c e).variables))))
+
+  pub term_stored : (kind a d f : ℕ) → length b.terms < limits.terms
+      → Grows (stored_4 w (terms_at limits + 4 * c.terms) kind a d f) (counted c c.variables (c.terms + 1) c.links c.contexts c.steps)
+      (with_terms b (record { kind = kind; a = a; b = d; c = f } ∷ []))
+  term_stored kind a d f l = rw (← e) (term_appended g (omega (arith, (sized_as w c e).terms)) (written_4 w _ _ _ _ _ (omega (arith, g.long, (sized_as w c e).terms))))
+
+  pub link_stored : (value next : ℕ) → length b.links < limits.links
+      → Grows (stored_2 w (links_at limits + 2 * c.links) value next) (counted c c.variables c.terms (c.links + 1) c.contexts c.steps)
+      (with_links b (record { value = value; next = next } ∷ []))
+  link_stored value next l = rw (← e) (link_appended g (omega (arith, (sized_as w c e).links)) (written_2 w _ _ _ (omega (arith, g.long, (sized_as w c e).links))))
+
+  pub context_stored : (kind a d parent : ℕ) → length b.contexts < limits.contexts
+      → Grows (stored_4 w (contexts_at limits + 4 * c.contexts) kind a d parent) (counted c c.variables c.terms c.links (c.contexts + 1) c.steps)
+      (with_contexts b (record { kind = kind; a = a; b = d; parent = parent } ∷ []))
+  context_stored kind a d parent l =
+      rw (← e) (context_appended g (omega (arith, (sized_as w c e).contexts)) (written_4 w _ _ _ _ _ (omega (arith, g.long, (sized_as w c e).contexts))))
+
+  pub step_stored : (rule context left right premises : ℕ) → length b.steps < limits.steps
+      → Grows (stored_5 w (steps_at limits + 5 * c.steps) rule context left right premises) (counted c c.variables c.terms c.links c.contexts (c.steps + 1))
+      (with_steps b (record { rule = rule; context = context; left = left; right = right; premises = premises } ∷ []))
+  step_stored rule context left right premises l = rw (← e) (step_appended g (omega (arith, (sized_as w c e).steps)) (written_5 w _ _ _ _ _ _ (omega (arith, g.long, (sized_as w c e).steps))))

@@ -8,7 +8,7 @@ ghost use Rattle.scratch.specs.Scratch.{bundle_in, Roomy};
 
 pub mod records; // records.rt: the fields of a record
 pub mod lists; // lists.rt: lists of links
-pub mod appends; // appends.rt: one record appended
+pub mod appends; // appends.rt: one record or list appended
 pub mod images; // images.rt: images of variables
 pub mod pairs; // pairs.rt: pairs of words
 
@@ -56,7 +56,7 @@ impl<'a> Scratch<'a> {
         self.counts
     }
 
-    // How many records each section has.
+    // How many records each section has. `Bundle` has the same readers: each keeps counts, under an invariant of its own.
     pub fn variables(&self) -> usize
         ensures { (result ≡ length self.now.variables) × (result ≤ limits.variables) }
     {

@@ -1,10 +1,7 @@
-// Lists of links in the scratch: walks, and lists appended.
-ghost use Rattle.std.specs.Prelude.{◌≡◌, [], ◌∷◌, ◌+◌, ◌≤◌, ◌<◌, length};
-ghost use Rattle.bundle.specs.Words.{largest_word};
-ghost use Rattle.bundle.specs.Limits.{limits};
+// Walks of lists of links in the scratch.
+ghost use Rattle.std.specs.Prelude.{◌≡◌, length};
 ghost use Rattle.bundle.specs.Links.{next_of, starts_at, items};
 ghost use Rattle.bundle.specs.Lists.{same_list};
-ghost use Rattle.logic.specs.Longer.{add_list, list_start};
 ghost use Rattle.scratch.specs.Stack.{halves_of};
 
 use super::Scratch;
@@ -26,7 +23,8 @@ impl<'a> Links for Scratch<'a> {
 }
 
 impl<'a> Scratch<'a> {
-    // The first link of a list: 0, which starts the empty list, for a number that is no link's.
+    // The first link of a list: 0, which starts the empty list, for a number that is no link's. This and the next are alike to those of a file: one for both
+    // would be a method of `Links`, and each call of it an import of the trait.
     pub fn first_link(&self, start: usize) -> usize
         ensures { result ≡ starts_at (length self.now.links) start }
     {
@@ -46,44 +44,20 @@ impl<'a> Scratch<'a> {
     {
         Items::of(self, start)
     }
+}
 
-    // Whether a list has just the upper halves of pairs, or just the lower.
-    pub fn same_halves(&self, list: usize, pairs: &[u64], upper: bool) -> bool
-        ensures { result ≡ same_list (items self.now list) (halves_of upper pairs.now) }
-    {
-        let mut values = self.items(list);
-        for pair in pairs {
-            let Some(value) = values.next() else {
-                return false;
-            };
-            if value != half(*pair, upper) {
-                return false;
-            }
+// Whether a list, of the scratch or of a lent file, has just the upper halves of pairs, or just the lower.
+pub fn same_halves<L: Links>(of: &L, list: usize, pairs: &[u64], upper: bool) -> bool
+    ensures { result ≡ same_list (items (L.bundle of.now) list) (halves_of upper pairs.now) }
+{
+    let mut values = Items::of(of, list);
+    for pair in pairs {
+        let Some(value) = values.next() else {
+            return false;
+        };
+        if value != half(*pair, upper) {
+            return false;
         }
-        values.next().is_none()
     }
-
-    // Appends the upper halves of pairs, or the lower, as a list. Its first link, 0 for the empty list.
-    pub fn push_halves(&mut self, pairs: &[u64], upper: bool) -> usize
-        requires { length self.old.links + length pairs.now ≤ limits.links }
-        ensures { (self.new ≡ add_list self.old (halves_of upper pairs.now)) × (result ≡ list_start self.old (halves_of upper pairs.now)) }
-    {
-        let n = pairs.len();
-        let start = if n == 0 { 0 } else { self.links() + 1 };
-        for at in 0..n {
-            let value = half(pairs[at], upper);
-            let next = if at + 1 < n { self.links() + 2 } else { 0 };
-            self.append_link(value, next);
-        }
-        start
-    }
-
-    // Appends a list of one value. Its link.
-    pub fn push_one(&mut self, value: usize) -> usize
-        requires { (length self.old.links < limits.links) × (value ≤ largest_word) }
-        ensures { (self.new ≡ add_list self.old (value ∷ [])) × (result ≡ list_start self.old (value ∷ [])) }
-    {
-        self.append_link(value, 0);
-        self.links()
-    }
+    values.next().is_none()
 }

@@ -62,7 +62,7 @@ impl<'a> Scratch<'a> {
         field(words, Counts::largest().contexts_at(), 4, count, i, k)
     }
 
-    // The words of term i.
+    // The words of term i. Alike in `bundle`: the same record, read from another memory.
     pub fn term_words(&self, i: usize) -> TermWords
         ensures { (as_term result ≡ term_of self.now i) × TermFits result }
     {

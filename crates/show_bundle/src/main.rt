@@ -4,6 +4,7 @@
 
 use bundle::words::{claim_left, claim_right, counts};
 use bundle::{Bundle, Counts};
+use declarations::header::opened;
 use judgement::Acceptance;
 use logic::checks::{Check, Failure};
 use show_text::out;
@@ -12,7 +13,7 @@ use std::rt::Env;
 // What the checker answers.
 type Answer = Result<Acceptance, Failure>;
 
-// What is shown: what the checker answers, and whether all of it is a graph's text.
+// What is shown: what the checker answers, and whether all of it is a graph's text. A flag, and no `Option`: there is an answer in both.
 #[derive(Clone, Copy)]
 struct Shown {
     answer: Answer,
@@ -112,7 +113,7 @@ impl Shown {
 // The most parts of a formula that --rule prints: the longest text that the program read takes has fewer.
 const PARTS: usize = 524288;
 
-// Whether the checks 1 to 9, of which 9 is that terms are new, find nothing.
+// Whether the checks 1 to 9, of which 9 is that terms are new, find nothing. By their numbers, which are in the order of the checks.
 fn is_formed(answer: Answer) -> bool {
     match answer {
         Ok(_) => true,
@@ -138,26 +139,16 @@ fn no_formula() {
 
 // The formula of the left, where the checks 1 to 9 find nothing and the left is a term.
 fn show_rule(file: &[u8], answer: Answer) {
-    if file.len() < Bundle::LEAST {
+    let Ok(bundle) = opened(file, 0, 0) else {
+        no_formula();
+        return;
+    };
+    let left = bundle.claim_left();
+    if (left == 0) | (bundle.terms() < left) | !is_formed(answer) {
         no_formula();
         return;
     }
-    let b = counts(file);
-    let left = claim_left(file);
-    if !b.within() {
-        no_formula();
-        return;
-    }
-    let bytes = b.bytes();
-    if file.len() != bytes {
-        no_formula();
-        return;
-    }
-    if (left == 0) | (b.terms < left) | !is_formed(answer) {
-        no_formula();
-        return;
-    }
-    print_left(&Bundle::of(file, b), left);
+    print_left(&bundle, left);
 }
 
 // Whether the first argument is this one, of at most 8 bytes.

@@ -32,13 +32,13 @@ pub fn nearest<'a>(
     None
 }
 
-// The variable on the right of a level that matches x, bound there on the left; 0 where a let lists none beside it.
-pub fn partner(bundle: &Bundle, level: Level, x: usize) -> usize {
+// The variable on the right of a level that matches x, bound there on the left; `None` where a let lists none beside it.
+pub fn partner(bundle: &Bundle, level: Level, x: usize) -> Option<usize> {
     let first = bundle.term_field(level.left, 1);
     let second = bundle.term_field(level.right, 1);
     match Kind::of(bundle.term_field(level.left, 0)) {
-        Some(Kind::Let) => beside(bundle, first, second, x).unwrap_or(0),
-        _ => second,
+        Some(Kind::Let) => beside(bundle, first, second, x),
+        _ => Some(second),
     }
 }
 

@@ -14,7 +14,7 @@ pub fn beside(bundle: &Bundle, first: usize, second: usize, x: usize) -> Option<
     None
 }
 
-// The image of variable x in a context.
+// The image of variable x in a context. As the scratch's `image`, over a file.
 pub fn image(bundle: &Bundle, context: usize, x: usize) -> Image {
     let mut c = context;
     // No `for`: each context names its parent.

@@ -20,8 +20,8 @@ pub enum Reason {
     Count,
     // Binders whose variables are not as many, or not of the same sorts.
     Sorts,
-    // Left is bound, and right is not this variable, which matches it.
-    Unmatched(usize),
+    // Left is bound, and right is not this variable, which matches it; `None` where none does.
+    Unmatched(Option<usize>),
     // Right is this variable, which matches left, and a nearer binder hides it.
     Hidden(usize),
     // Right is not the image of left.
@@ -40,10 +40,10 @@ fn bound_reason(
     x: usize,
     r: usize,
 ) -> Option<Reason> {
-    let y = partner(bundle, level, x);
-    if !is_variable(bundle, r, y) {
-        return Some(Reason::Unmatched(y));
-    }
+    let matching = partner(bundle, level, x);
+    let Some(y) = matching.filter(|y| is_variable(bundle, r, *y)) else {
+        return Some(Reason::Unmatched(matching));
+    };
     if nearest(bundle, inner, Side::Right, y).is_some() {
         return Some(Reason::Hidden(y));
     }

@@ -4,7 +4,7 @@
 use bundle::Bundle;
 
 // A pair whose parts are visited: its terms, the links of the parts that come next on both sides, and whether the walk is in the bodies, so that the
-// variables of both are crossed.
+// variables of both are crossed. A flag, and no `Option`: nothing of the pair is missing before.
 #[derive(Clone, Copy)]
 pub struct Level {
     pub left: usize,
@@ -14,7 +14,7 @@ pub struct Level {
     pub in_body: bool,
 }
 
-// Both sides of a pair.
+// Both sides of a pair, by name: neither is a value that may be missing.
 #[derive(Clone, Copy, PartialEq, Eq)]
 pub enum Side {
     Left,

@@ -1,5 +1,4 @@
 -- What no entry of a context mentions.
---     no_number          a number of no entry is neither 1 nor 2
 --     only_above         what an entry does not mention is mentioned above it, or not at all; by kind: `not_fixed`, `not_replaced`, `no_entry`
 use mathlib.Core.Path.{◌≡◌, sym, ◌∙◌, subst}
 use mathlib.Core.Bool.{Bool, false, false≢true}
@@ -11,12 +10,8 @@ use Rattle.bundle.specs.Bundle.{Bundle, context_of}
 use Rattle.bundle.specs.Links.{items}
 use Rattle.bundle.specs.Lists.{has}
 use Rattle.logic.specs.Lists.{Among}
-use Rattle.logic.specs.Contexts.{Mentioned, by_fixing, by_replacing, by_parent, entry_of, fixing, replacing, noEntry}
+use Rattle.logic.specs.Contexts.{Mentioned, by_fixing, by_replacing, by_parent}
 use Rattle.logic.proofs.Exactly.{has_exactly}
-
-pub no_number : {k : ℕ} → entry_of k ≡ noEntry → (k ≡ 1 → ⊥) × (k ≡ 2 → ⊥)
-unfolding entry_of
-no_number e = (λ one. let z : fixing ≡ noEntry = rw one at e in cc, λ two. let z : replacing ≡ noEntry = rw two at e in cc)
 
 only_above : {b : Bundle} {c x : ℕ} → ((context_of b c).kind ≡ 1 → (context_of b c).a ≡ x → ⊥)
     → ((context_of b c).kind ≡ 2 → Among x (items b (context_of b c).a) → ⊥) → Mentioned b c x → Mentioned b (context_of b c).parent x

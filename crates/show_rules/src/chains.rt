@@ -1,6 +1,6 @@
 // A context's entries, from the context up to the empty one: what they mention, and where they end. A parent that is not lower, which check 10 refuses,
 // ends a walk.
-ghost use Rattle.std.specs.Prelude.{◌≡◌, false, ◌-◌, ◌≤◌};
+ghost use Rattle.std.specs.Prelude.{IfSome, ◌≡◌, false, ◌<◌};
 ghost use Rattle.bundle.specs.Bundle.{context_of};
 ghost use Rattle.logic.specs.Contexts.{Mentioned};
 
@@ -21,6 +21,14 @@ fn entry_mentions(bundle: &Bundle, c: usize, x: usize) -> bool
     }
 }
 
+// The parent of context c, where it is lower.
+fn above(bundle: &Bundle, c: usize) -> Option<usize>
+    ensures { IfSome result (λ p. (p ≡ (context_of bundle.now c).parent) × (p < c)) }
+{
+    let parent = bundle.context_field(c, 3);
+    if parent < c { Some(parent) } else { None }
+}
+
 // Whether an entry of a context mentions x. Where it says no, none does.
 pub fn mentions(bundle: &Bundle, context: usize, x: usize) -> bool
     ensures { result ≡ false → Mentioned bundle.now context x → ⊥ }
@@ -31,24 +39,15 @@ pub fn mentions(bundle: &Bundle, context: usize, x: usize) -> bool
         if entry_mentions(bundle, c, x) {
             return true;
         }
-        let parent = bundle.context_field(c, 3);
-        if parent >= c {
+        let Some(parent) = above(bundle, c) else {
             return true;
-        }
+        };
         c = parent;
     }
     false
 }
 
 // ---- Up to the empty context
-
-// The parent of context c, or 0 where that is not lower.
-fn above(bundle: &Bundle, c: usize) -> usize
-    ensures { result ≤ c - 1 }
-{
-    let parent = bundle.context_field(c, 3);
-    if parent < c { parent } else { 0 }
-}
 
 // How many entries a context has, and its last, whose parent is the empty context.
 #[derive(Clone, Copy)]
@@ -66,7 +65,7 @@ pub fn chain_of(bundle: &Bundle, context: usize) -> Option<Chain> {
     while c != 0 {
         entries += 1;
         last = Some(c);
-        c = above(bundle, c);
+        c = above(bundle, c).unwrap_or(0);
     }
     Some(Chain {
         entries,
@@ -89,7 +88,7 @@ pub fn replacer(sets: &TermSets, context: usize, x: usize) -> Option<usize> {
         if replaces && free_in_some(sets, bundle.context_field(c, 2), x) {
             return Some(c);
         }
-        c = above(bundle, c);
+        c = above(bundle, c).unwrap_or(0);
     }
     None
 }

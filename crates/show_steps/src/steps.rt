@@ -76,7 +76,7 @@ fn other_claim(bundle: &Bundle, left: usize, right: usize) {
     }
 }
 
-// The sentence for a file that is whole and claims left and right.
+// The sentence for a file that is whole and claims left and right: a table of sentences.
 pub fn sentence(bundle: &Bundle, left: usize, right: usize, failure: Failure) {
     let record = failure.record;
     match failure.check {

@@ -56,6 +56,7 @@ pub fn before(i: usize) -> usize {
     i.saturating_sub(1)
 }
 
+// As crate terms has it for its own tests.
 pub fn is_number(n: usize, most: usize) -> bool {
     (0 < n) & (n <= most)
 }

@@ -6,6 +6,7 @@ use logic::kinds::Entry;
 use show_tables::tables::{is_number, no_list, not_to};
 use show_text::out;
 
+// As `bad_variable_term`, in other words: one for both would be handed each sentence.
 fn bad_fixing(bundle: &Bundle, v: usize, unused: usize) {
     if !is_number(v, bundle.variables()) {
         not_to(b" fixes variable ", v, bundle.variables());
@@ -17,6 +18,7 @@ fn bad_fixing(bundle: &Bundle, v: usize, unused: usize) {
     }
 }
 
+// As `bad_let` for the variables, and in other words from there on.
 fn bad_replacing(bundle: &Bundle, variables: usize, terms: usize) {
     if variables > bundle.links() {
         no_list(

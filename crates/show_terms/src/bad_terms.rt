@@ -6,6 +6,7 @@ use duplicates::same_term;
 use logic::kinds::Kind;
 use show_tables::tables::{before, is_number, no_list, not_lower, not_to};
 use show_text::out;
+use sorting::sorts::{is_known, signature_of};
 
 fn bad_variable_term(bundle: &Bundle, v: usize) {
     if !is_number(v, bundle.variables()) {
@@ -16,8 +17,8 @@ fn bad_variable_term(bundle: &Bundle, v: usize) {
 }
 
 fn bad_application(bundle: &Bundle, i: usize, f: usize, list: usize) {
-    let last = 32 + bundle.symbols();
-    if (f == 0) | ((8 < f) & (f < 33)) | (last < f) {
+    if !is_known(signature_of(bundle, f)) {
+        let last = 32 + bundle.symbols();
         out::name(b" applies symbol ", f);
         out::name(b", neither built in (1 to 8) nor declared (33 up to ", last);
         out::close();
@@ -116,18 +117,9 @@ pub fn missorted(bundle: &Bundle, i: usize) {
     }
 }
 
-// The first term that is the same as term i, i itself where there is no earlier one.
-fn first_same(bundle: &Bundle, i: usize) -> usize {
-    for j in 1..i {
-        if same_term(bundle, j, i) {
-            return j;
-        }
-    }
-    i
-}
-
-// 9: a term equal to an earlier one.
+// 9: a term equal to an earlier one. Where 9 is the first check that fails, there is one.
 pub fn repeated_term(bundle: &Bundle, i: usize) {
+    let earlier = (1..i).find(|j| same_term(bundle, *j, i));
     out::name(b"t", i);
-    out::name(b" is the same term as t", first_same(bundle, i));
+    out::name(b" is the same term as t", earlier.unwrap_or(i));
 }

@@ -28,7 +28,8 @@ fn why(context: usize, right: usize, x: usize, reason: Reason) {
         Reason::Unmatched(y) => {
             out::name(b"v", x);
             out::name(b" is bound, and t", right);
-            out::name(b" is not v", y);
+            // v0 where there is none.
+            out::name(b" is not v", y.unwrap_or(0));
             out::text(b", the variable of the matching binder");
         }
         Reason::Hidden(y) => {

@@ -62,7 +62,8 @@ impl<'a> SortedBundle<'a> {
         sort_in(self.sorts, t)
     }
 
-    // Whether the terms of a list are so many, each of the same sort.
+    // Whether the terms of a list are so many, each of the same sort. Alike to `variables_fit` and to `same_list`: two sequences side by side, each with a
+    // test and a definition of its own.
     fn all_of_sort(&self, count: usize, sort: usize, terms: usize) -> bool
         ensures { result ≡ same_list (replicate count sort) (map (sort_at self.now) (items self.now terms)) }
     {

@@ -21,8 +21,9 @@ fn built_in(count: usize, sort: usize) -> Signature
     }
 }
 
-// The signature of symbol f, where so many are declared.
-fn signature_in(symbols: usize, f: usize) -> Signature
+// The signature of symbol f, where so many are declared: with no bundle at hand. By numbers: a file names built-in symbols by them, and declared ones go on
+// after them.
+pub fn signature_in(symbols: usize, f: usize) -> Signature
     requires { symbols ≤ limits.symbols }
     ensures { result ≡ signature (symbol_kind symbols f) }
 {
@@ -63,7 +64,7 @@ pub fn is_known(s: Signature) -> bool
     }
 }
 
-// The result sort.
+// The result sort; 0 where there is no such symbol, as the definition has it.
 pub fn result_sort(bundle: &Bundle, s: Signature) -> usize
     ensures { result ≡ result_sort bundle.now s }
 {
@@ -78,7 +79,7 @@ pub fn result_sort(bundle: &Bundle, s: Signature) -> usize
     }
 }
 
-// The sort of a term from `sorts`, where those of all terms are noted; 0 for a number past them.
+// The sort of a term from `sorts`, where those of all terms are noted; 0 for a number past them, as the definition has it.
 pub fn sort_in(sorts: &[usize], t: usize) -> usize
     ensures { result ≡ get_or sorts.now t 0 }
 {

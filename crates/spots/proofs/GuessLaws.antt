@@ -1,5 +1,5 @@
 -- Laws of the second scan.
---     guess_in, guess_out, column-…, if-…, inside-…     as the functions of `guesses` return
+--     guess_out, column-…, if-…, inside-…     as the functions of `guesses` return
 --     guessed_word, guessed_open, guessed_close         one lexeme
 --     Seeking                                           the loop of `guesses::find_levels`
 use Prim.Native.Nat.{ℕ, suc, ◌+◌, ◌-◌, ◌*◌, ◌≤◌, ◌<◌}
@@ -15,6 +15,7 @@ use borrow.Author.Tests.{lt-ltb, le-ltb, eq-eqb, ne_eqb, ltb-true, ltb-false, no
 use Rattle.grammar.specs.Bytes.{word_of}
 use Rattle.grammar.specs.Names.{Name, symbolOnly, variableOnly}
 use Rattle.lexing.specs.Counted.{place_of}
+use Rattle.lexing.proofs.LexemeLaws.{word_small}
 use Rattle.spots.specs.Spots.{table, cell, alike}
 use Rattle.spots.specs.Judgement.{code_of_run, is_unknown}
 use Rattle.spots.specs.Traces.{Stand, stand, origin, run_at, Next, words, opens, closes, Reached, Sound}
@@ -24,13 +25,10 @@ use Rattle.spots.specs.Runs.{code_of, lexeme_from, run_end, part}
 use Rattle.spots.specs.declared.Guess.{Guess}
 use Rattle.spots.proofs.RunLaws.{lexeme_within, end_within}
 use Rattle.spots.proofs.TableFacts.{guess_word, guess_sort, guess_symbol, guess_variable, guess_open, guess_enter}
-use Rattle.spots.proofs.TraceLaws.{word_range, sound_origin, sound_next, next_after, at_goal}
+use Rattle.spots.proofs.TraceLaws.{sound_origin, sound_next, next_after, at_goal}
 use Rattle.spots.proofs.Windows.{level_top, level_under}
 
 -- ---- as the functions return
-
-pub guess_in : (s k n r : ℕ) → n ≡ s → r ≡ get_or table (n * 14 + k) 0 → r ≡ get_or table (s * 14 + k) 0
-guess_in s k n r e q = q ∙ ap (λ i. get_or table (i * 14 + k) 0) e
 
 pub guess_out : (s k n : ℕ) → n ≡ s → 294 ≤ n * 14 + k → 0 ≡ get_or table (s * 14 + k) 0
 guess_out s k n e l = let m : length table ≤ s * 14 + k = omega (arith, l, ap (λ i. i * 14 + k) e) in sym (get_or-eq_default table 0 m)
@@ -62,7 +60,7 @@ module _ (w : List ℕ) (code : ℕ) (is : code ≡ code_of_run w) where
   pub column_word : (code ≡ 8 → ⊥) → (code ≡ 9 → ⊥) → (code ≡ guess_column w) × (code < 14)
   unfolding guess_column
   column_word e f =
-      let r = word_range (word_of w) in
+      let r = word_small (word_of w) in
       (rw (ne_eqb (code_of_run w) 8 (λ x. e (is ∙ x)), ne_eqb (code_of_run w) 9 (λ x. f (is ∙ x))) is, omega (arith, r.1, is))
 
 module _ (low top depth : ℕ) where
@@ -131,7 +129,7 @@ module _ (known : Name → Bool) (letters : Lettered known) (s g : ℕ) (w : Lis
       go (no e) (yes q) (no f) =
           rw (q, ne_eqb (get_or w 0 0) 102 f) (guess_variable s g low is (rw q at goes) (not_symbol q f))
       go (no e) (no q) f =
-          let r = word_range (word_of w) in
+          let r = word_small (word_of w) in
           rw (ne_eqb (code_of_run w) 8 e, ne_eqb (code_of_run w) 9 q) (guess_word s g (code_of_run w) low is r.0 (omega (arith, r.1, e, q)) goes)
 
 module _ (a : List ℕ) (low top d g : ℕ) (x : Stand) (h : Guessed a low top d g x) where

@@ -8,13 +8,15 @@ use native.Mathlib.Omega.{arith}
 use native.Mathlib.Numerals.{add-one}
 use mathlib.Core.Path.{◌≡◌, refl, sym, ap, ◌∙◌}
 use mathlib.Core.Bool.{Bool, true, false, cond, not, ◌&&◌, ◌||◌, true≢false, false≢true}
-use mathlib.Core.List.{List, [], ◌∷◌, ◌++◌}
+use mathlib.Core.List.{List, [], ◌∷◌, ◌++◌, map}
 use mathlib.Core.Option.{none, some, none-ne-some}
-use lib.ListN.{length, get_or, take, drop}
+use lib.ListN.{length, get_or, drop}
 use lib.Seq.{drop-cons, drop-drop}
 use lib.Dec.{eqb, ltb}
-use borrow.Author.Tests.{lt-ltb, le-ltb, eq-eqb, ne_eqb, eqb-true, eqb-false}
+use borrow.Author.Tests.{lt-ltb, le-ltb, eq-eqb, ne_eqb, eqb-true, eqb-false, not-true}
+use Rattle.bundle.specs.Lists.{each, same_list}
 use Rattle.logic.specs.Tests.{Fault, fault}
+use Rattle.logic.proofs.Tests.{and_left, and_right}
 use Rattle.grammar.specs.Bytes.{
   Class,
   space,
@@ -35,12 +37,12 @@ use Rattle.grammar.specs.Bytes.{
   name,
   class_of,
 }
-use Rattle.grammar.specs.Bytes.{word_of, bytes, twelve}
+use Rattle.grammar.specs.Bytes.{word_of, bytes, twelve, Reserved}
 use Rattle.grammar.specs.Grammar.{opens, closes, word, stray, between, within}
 use Rattle.grammar.specs.Parser.{Due, stack_of, takes, run, feed, and_then, finish, starts, may_grow}
 use Rattle.grammar.specs.Grammar.{last}
 use Rattle.grammar.specs.Names.{Name, locate, word_at, met_at, ends_at, first_unknown}
-use Rattle.grammar.proofs.Words.{among}
+use Rattle.grammar.proofs.Words.{Each, among}
 use Rattle.grammar.proofs.Bytewise.{refuses}
 use Rattle.lexing.specs.Codes.{class_code, word_code}
 use Rattle.lexing.specs.Common.{common}
@@ -59,40 +61,18 @@ use Rattle.spots.proofs.RunLaws.{run_parts, run_past, run_ending, run_length_lem
 
 -- ---- words and names
 
+-- no reserved word has the number of a name
+reserved : (w : List ℕ) (rs : List Reserved) → each (λ k. not (eqb k 9)) (map (λ r. word_code r.meaning) rs) ≡ true
+    → Each (λ r. same_list w r.spelled ≡ true → word_code r.meaning ≡ 9 → r.meaning ≡ name w) rs
+unfolding each
+reserved w [] h = tt
+reserved w (r ∷ rs) h =
+    let k = word_code r.meaning in
+    (λ s e. absurd (eqb-false k 9 (not-true (eqb k 9) (and_left (not (eqb k 9)) _ h)) e), reserved w rs (and_right (not (eqb k 9)) _ h))
+
 name_of_lem : (w : List ℕ) → code_of_run w ≡ 9 → word_of w ≡ name w
-unfolding word_of word_code twelve
-name_of_lem w =
-    among (λ x. word_code x ≡ 9 → x ≡ name w) w (λ e. refl) twelve (
-      λ h e. absurd (off 3 e (omega arith)),
-      (
-        λ h e. absurd (off 3 e (omega arith)),
-        (
-          λ h e. absurd (off 4 e (omega arith)),
-          (
-            λ h e. absurd (off 5 e (omega arith)),
-            (
-              λ h e. absurd (off 5 e (omega arith)),
-              (
-                λ h e. absurd (off 5 e (omega arith)),
-                (
-                  λ h e. absurd (off 5 e (omega arith)),
-                  (
-                    λ h e. absurd (off 6 e (omega arith)),
-                    (
-                      λ h e. absurd (off 6 e (omega arith)),
-                      (λ h e. absurd (off 7 e (omega arith)), (λ h e. absurd (off 8 e (omega arith)), (λ h e. absurd (off 8 e (omega arith)), tt))),
-                    ),
-                  ),
-                ),
-              ),
-            ),
-          ),
-        ),
-      ),
-    )
-  where
-    off : (k : ℕ) → k ≡ 9 → k < 9 → ⊥
-    off k e l = omega arith
+unfolding word_of word_code twelve each
+name_of_lem w = among (λ x. word_code x ≡ 9 → x ≡ name w) w (λ e. refl) twelve (reserved w twelve refl)
 
 no_name : (σ : List Due) (x : Word) → (word_code x ≡ 9 → ⊥) → met_at σ x ≡ []
 unfolding met_at word_at word_code

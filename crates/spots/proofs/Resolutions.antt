@@ -13,7 +13,7 @@ use Rattle.lexing.proofs.NumeralLaws.{counts_suffice}
 use Rattle.grammar.specs.Bytes.{class_of}
 use Rattle.grammar.specs.Grammar.{Formula}
 use Rattle.grammar.specs.Parser.{State, step, finish, on_read, on_step, parse_from, start, parse}
-use Rattle.grammar.specs.Names.{Name, Located, ends_at, ended_by, while_steps, met_from, first_unknown, Resolved, resolved, otherwise, or_unknown, resolve}
+use Rattle.grammar.specs.Names.{Name, Located, ends_at, ended_by, while_steps, met_from, first_unknown, otherwise, or_unknown, resolve}
 use Rattle.grammar.specs.Names as N
 use Rattle.grammar.proofs.Erased.{mapped, state_by, step_by, finish_by}
 use Rattle.spots.specs.Spots.{wants, wanted, owed, due_at}

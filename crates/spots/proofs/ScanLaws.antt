@@ -6,11 +6,10 @@ use mathlib.Core.Bool.{Bool, true, false, cond, ◌&&◌, false≢true}
 use mathlib.Core.List.{List, [], ◌∷◌}
 use lib.ListN.{length, get_or, set, drop}
 use lib.Dec.{eqb, ltb, leb}
-use borrow.Author.Tests.{lt-ltb, le-ltb, eq-eqb, ne_eqb, eqb-true, ltb-true, ltb-false}
+use borrow.Author.Tests.{eq-eqb, ne_eqb, eqb-true, ltb-true, ltb-false}
 use Rattle.std.specs.Prelude.{Result, Ok, Err}
 use Rattle.logic.specs.Tests.{fault}
 use Rattle.logic.specs.declared.checks.Failure.{Failure}
-use Rattle.logic.specs.Failures.{check_number}
 use Rattle.grammar.specs.Names.{Name, resolve}
 use Rattle.reading.specs.Called.{number_after, is_numeral, decimal}
 use Rattle.lexing.specs.Counted.{number_within, known_among}
@@ -20,7 +19,7 @@ use Rattle.spots.specs.Judgement.{verdict_of, declared_by, judge_from, standing,
 use Rattle.spots.specs.Traces.{stand, origin, run_at, words, opens, closes, here, Sound}
 use Rattle.spots.specs.Levels.{Stands, place, pushed, stored_at}
 use Rattle.spots.specs.Guesses.{Lettered}
-use Rattle.spots.specs.Turns.{Popped, Turned, Scanning, TurnedFrom}
+use Rattle.spots.specs.Turns.{Popped, Turned, Scanning, Turning, TurnedFrom}
 use Rattle.spots.specs.declared.Place.{Place as Where}
 use Rattle.spots.specs.declared.Turn.{Turn}
 use Rattle.spots.proofs.Resolutions.{resolved_judged}
@@ -134,24 +133,27 @@ pub first_cell : (s c : ℕ) → c ≡ get_or table (s * 14) 0 → c ≡ cell s 
 first_cell s c e = let z : s * 14 ≡ s * 14 + 0 = omega arith in e ∙ ap (λ k. get_or table k 0) z
 
 -- what `scan::turn` asks of what it calls
-module _ (known : Name → Bool) (text a : List ℕ) (p : Where) (i : ℕ) (h : Scanning known text a p i) where
-  now_sound : Sound text (stand i p.spot h.held)
-  now_sound = stands_sound known text a p i h.held h.stands
+module _ {f v : ℕ} {text a : List ℕ} {p : Where} {i : ℕ} (h : Turning f v text a p i) where
+  s : Scanning (declared_by f v) text a p i
+  s = h.scanning
 
-  pub scanning_low : p.spot < 20
-  scanning_low = now_sound.low
+  now_sound : Sound text (stand i p.spot s.held)
+  now_sound = stands_sound (declared_by f v) text a p i s.held s.stands
 
-  pub scanning_fits : (p.height ≤ length a) × (p.base + p.height ≤ i)
-  scanning_fits = let d = h.stands.window.depth in let n = now_sound.depth in (h.stands.window.fits, omega (arith, d, n))
+  pub turning_low : p.spot < 20
+  turning_low = now_sound.low
 
-  pub scanning_some : (c : ℕ) → c ≡ cell p.spot 1 → c < 99 → 0 < p.base + p.height
-  scanning_some c is lc = go (closes_some p.spot scanning_low ok h.held now_sound.nested)
+  pub turning_fits : (p.height ≤ length a) × (p.base + p.height ≤ i)
+  turning_fits = let d = s.stands.window.depth in let n = now_sound.depth in (s.stands.window.fits, omega (arith, d, n))
+
+  pub turning_some : {c : ℕ} → c ≡ cell p.spot 1 → c < 99 → 0 < p.base + p.height
+  turning_some is lc = go (closes_some p.spot turning_low ok s.held now_sound.nested)
     where
       ok : cell p.spot 1 ≡ 99 → ⊥
       ok e = omega (arith, is, lc)
 
-      go : ((u : ℕ) × (rest : List ℕ) × (h.held ≡ u ∷ rest)) → 0 < p.base + p.height
-      go r = let d = h.stands.window.depth in let n : length h.held ≡ suc (length r.1) = ap length r.2 in omega (arith, d, n)
+      go : ((u : ℕ) × (rest : List ℕ) × (s.held ≡ u ∷ rest)) → 0 < p.base + p.height
+      go r = let d = s.stands.window.depth in let n : length s.held ≡ suc (length r.1) = ap length r.2 in omega (arith, d, n)
 
 -- ---- the loop of `scan::scan`
 
@@ -167,13 +169,7 @@ passing_start known text a i e = rw e (record {
 })
 
 module _ (known : Name → Bool) (text a : List ℕ) (p : Where) (i : ℕ) (h : Passing known text a p i) where
-  pub passing_inside : i ≤ length text
-  passing_inside = (stands_sound known text a p i h.scanning.held h.scanning.stands).inside
-
   module _ (b : List ℕ) where
-    pub passing_stop : (f : Failure) → TurnedFrom known text a b p i (Err f) → fault (check_number f.check) f.«record» ≡ verdict_of (resolve known text)
-    passing_stop f t = sym (h.rest ∙ t h.scanning.held h.scanning.stands)
-
     pub passing_on : i < length text → (r : Turn) → TurnedFrom known text a b p i (Ok r) → Passing known text b r.place r.next × (i < r.next)
     passing_on l r t =
         let g = t h.scanning.held h.scanning.stands in

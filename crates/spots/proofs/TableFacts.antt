@@ -9,7 +9,7 @@ use mathlib.Core.List.{List, [], ◌∷◌}
 use mathlib.Core.Logic.{◌⊎◌, inl, inr}
 use lib.ListN.{length}
 use lib.Dec.{eqb, ltb}
-use borrow.Author.Tests.{lt-ltb, le-ltb, eq-eqb, ne_eqb, eqb-true, ltb-true, not-true}
+use borrow.Author.Tests.{lt-ltb, le-ltb, ne_eqb, eqb-true, ltb-true, not-true}
 use Rattle.bundle.specs.Lists.{has, each, same_list}
 use Rattle.logic.specs.Tests.{up_to}
 use Rattle.logic.proofs.Tests.{up_to_lem, and_left, and_right, or_cases, same_list_lem, each_has}
@@ -247,31 +247,27 @@ pub guess_sort : (s g : ℕ) → s < 20 → alike s g ≡ true → cell s 8 < 20
 unfolding sort_fact
 guess_sort s g l a c = implied (ltb (cell s 8) 20) (alike (cell s 8) (cell g 13)) (each_pair sort_fact sort_facts s g l a) (lt-ltb (cell s 8) 20 c)
 
-symbol_fact : ℕ → ℕ → Bool
-symbol_fact s g = implies (ltb (cell s 9) 20) (implies (not (eqb (cell s 12) 2)) (alike (cell s 9) (cell g 9)))
+-- after a name that may not be of kind n
+name_fact : (n k s g : ℕ) → Bool
+name_fact n k s g = implies (ltb (cell s 9) 20) (implies (not (eqb (cell s 12) n)) (alike (cell s 9) (cell g k)))
 
-symbol_facts : up_to 20 (λ s. up_to 21 (λ g. implies (alike (s - 1) (g - 1)) (symbol_fact (s - 1) (g - 1)))) ≡ true
-unfolding up_to symbol_fact implies alike
-symbol_facts = refl
+name_facts : ℕ → ℕ → Bool
+name_facts n k = up_to 20 (λ s. up_to 21 (λ g. implies (alike (s - 1) (g - 1)) (name_fact n k (s - 1) (g - 1))))
+
+guess_name : (n k : ℕ) → name_facts n k ≡ true → (s g : ℕ) → s < 20 → alike s g ≡ true → cell s 9 < 20 → (cell s 12 ≡ n → ⊥)
+    → alike (cell s 9) (cell g k) ≡ true
+unfolding name_fact name_facts
+guess_name n k f s g l a c ne =
+    implied (not (eqb (cell s 12) n)) (alike (cell s 9) (cell g k))
+    (implied (ltb (cell s 9) 20) _ (each_pair (name_fact n k) f s g l a) (lt-ltb (cell s 9) 20 c)) (rw (ne_eqb (cell s 12) n ne))
 
 pub guess_symbol : (s g : ℕ) → s < 20 → alike s g ≡ true → cell s 9 < 20 → (cell s 12 ≡ 2 → ⊥) → alike (cell s 9) (cell g 9) ≡ true
-unfolding symbol_fact
-guess_symbol s g l a c k =
-    implied (not (eqb (cell s 12) 2)) (alike (cell s 9) (cell g 9))
-    (implied (ltb (cell s 9) 20) _ (each_pair symbol_fact symbol_facts s g l a) (lt-ltb (cell s 9) 20 c)) (rw (ne_eqb (cell s 12) 2 k))
-
-variable_fact : ℕ → ℕ → Bool
-variable_fact s g = implies (ltb (cell s 9) 20) (implies (not (eqb (cell s 12) 1)) (alike (cell s 9) (cell g 13)))
-
-variable_facts : up_to 20 (λ s. up_to 21 (λ g. implies (alike (s - 1) (g - 1)) (variable_fact (s - 1) (g - 1)))) ≡ true
-unfolding up_to variable_fact implies alike
-variable_facts = refl
+unfolding up_to name_fact name_facts implies alike
+guess_symbol = guess_name 2 9 refl
 
 pub guess_variable : (s g : ℕ) → s < 20 → alike s g ≡ true → cell s 9 < 20 → (cell s 12 ≡ 1 → ⊥) → alike (cell s 9) (cell g 13) ≡ true
-unfolding variable_fact
-guess_variable s g l a c k =
-    implied (not (eqb (cell s 12) 1)) (alike (cell s 9) (cell g 13))
-    (implied (ltb (cell s 9) 20) _ (each_pair variable_fact variable_facts s g l a) (lt-ltb (cell s 9) 20 c)) (rw (ne_eqb (cell s 12) 1 k))
+unfolding up_to name_fact name_facts implies alike
+guess_variable = guess_name 1 13 refl
 
 open_fact : ℕ → ℕ → Bool
 open_fact s g = implies (ltb (cell s 0) 20) (alike (cell s 0) (cell g 0) && alike (cell s 10) (cell g 10))

@@ -7,25 +7,15 @@ use mathlib.Core.Path.{◌≡◌, refl, ap}
 use mathlib.Core.Bool.{Bool}
 use mathlib.Core.List.{List, ◌∷◌}
 use lib.ListN.{length}
-use Rattle.grammar.specs.Bytes.{Word, constant, negation, connective, quantifier, letting, sort, name, word_of}
+use Rattle.grammar.specs.Bytes.{word_of}
 use Rattle.grammar.specs.Names.{Name}
-use Rattle.lexing.specs.Codes.{word_code}
+use Rattle.lexing.proofs.LexemeLaws.{word_small}
 use Rattle.spots.specs.Spots.{Nested}
 use Rattle.spots.specs.Runs.{run_end}
 use Rattle.spots.specs.Judgement.{code_of_run}
 use Rattle.spots.specs.Traces.{Stand, origin, run_at, Next, words, opens, closes, Reached, here, more, Sound}
 use Rattle.spots.proofs.RunLaws.{lexeme_within, lexeme_first, end_within}
 use Rattle.spots.proofs.TableFacts.{word_keeps, opens_keeps, behind_low}
-
-pub word_range : (x : Word) → (3 ≤ word_code x) × (word_code x < 10)
-unfolding word_code
-word_range (constant v) = (omega arith, omega arith)
-word_range negation = (omega arith, omega arith)
-word_range (connective c) = (omega arith, omega arith)
-word_range (quantifier q) = (omega arith, omega arith)
-word_range letting = (omega arith, omega arith)
-word_range (sort s) = (omega arith, omega arith)
-word_range (name w) = (omega arith, omega arith)
 
 pub sound_origin : (text : List ℕ) → Sound text (origin text)
 sound_origin text =
@@ -37,7 +27,7 @@ module _ (known : Name → Bool) (text : List ℕ) where
   pub sound_next : (x y : Stand) → Sound text x → x.byte < length text → Next known text x y → Sound text y × (x.byte < y.byte)
   sound_next x y h l (words e c u) =
       let i = x.byte in
-      let r = word_range (word_of (run_at text i)) in
+      let r = word_small (word_of (run_at text i)) in
       let a = end_within text (i + 1) (omega arith) in
       let b = lexeme_within text (run_end text (i + 1)) a.1 in (
         record {

@@ -4,8 +4,7 @@ use native.Mathlib.Omega.{arith}
 use mathlib.Core.Path.{◌≡◌, refl, sym, ap, ◌∙◌}
 use mathlib.Core.Bool.{Bool, true, false}
 use mathlib.Core.List.{List}
-use lib.ListN.{length, drop, length-drop}
-use lib.Seq.{length-take-le}
+use lib.ListN.{length}
 use borrow.Author.Tests.{lt-ltb, le-ltb, eq-eqb, ne_eqb}
 use Rattle.std.specs.Prelude.{Ok, Err}
 use Rattle.lexing.specs.Codes.{word_code}
@@ -14,7 +13,7 @@ use Rattle.lexing.specs.declared.words.SortWord.{SortWord}
 use Rattle.lexing.specs.declared.words.Word.{Word}
 use Rattle.lexing.specs.Counted.{place_of, known_among}
 use Rattle.spots.specs.Spots.{cell}
-use Rattle.spots.specs.Runs.{part, sort_start}
+use Rattle.spots.specs.Runs.{sort_start}
 use Rattle.spots.specs.Judgement.{declared_by, unread_text, unknown_name, code_of_run, is_unknown, viable_bytes, word_met}
 use Rattle.spots.proofs.RunLaws.{sort_within}
 
@@ -50,26 +49,21 @@ no_name_code (Word.Name u) ne e = ne u refl
 
 -- ---- a word at a spot
 
-pub part_length : (text : List ℕ) (s e : ℕ) → s ≤ e → e ≤ length text → length (part text s e) ≡ e - s
-part_length text s e l m = let d = length-drop s text in length-take-le (e - s) (drop s text) (omega (arith, d))
-
-module _ (text : List ℕ) (s start end : ℕ) (l : start ≤ end) (m : end ≤ length text) (g : ℕ) (is : g ≡ cell s 11) where
-  pub viable_none : g ≡ 0 → (0 ≡ viable_bytes s (part text start end)) × (start + 0 ≤ end)
+module _ (w : List ℕ) (s g : ℕ) (is : g ≡ cell s 11) where
+  pub viable_none : g ≡ 0 → (0 ≡ viable_bytes s w) × (0 ≤ length w)
   unfolding viable_bytes
   viable_none e = let q : cell s 11 ≡ 0 = sym is ∙ e in (rw (eq-eqb (cell s 11) 0 q), omega arith)
 
-  pub viable_any : (g ≡ 0 → ⊥) → g ≡ 1 → (end - start ≡ viable_bytes s (part text start end)) × (start + (end - start) ≤ end)
+  pub viable_any : (g ≡ 0 → ⊥) → g ≡ 1 → (length w ≡ viable_bytes s w) × (length w ≤ length w)
   unfolding viable_bytes
   viable_any z e =
       let q : cell s 11 ≡ 1 = sym is ∙ e in
-      (rw (ne_eqb (cell s 11) 0 (λ x. z (is ∙ x)), eq-eqb (cell s 11) 1 q) (sym (part_length text start end l m)), omega arith)
+      (rw (ne_eqb (cell s 11) 0 (λ x. z (is ∙ x)), eq-eqb (cell s 11) 1 q), omega arith)
 
-  pub viable_sort : (g ≡ 0 → ⊥) → (g ≡ 1 → ⊥) → (r : ℕ) → r ≡ sort_start (part text start end) → (r ≡ viable_bytes s (part text start end)) × (start + r ≤ end)
+  pub viable_sort : (g ≡ 0 → ⊥) → (g ≡ 1 → ⊥) → (r : ℕ) → r ≡ sort_start w → (r ≡ viable_bytes s w) × (r ≤ length w)
   unfolding viable_bytes
   viable_sort z o r e =
-      let b = sort_within (part text start end) in
-      let n = part_length text start end l m in
-      (rw (ne_eqb (cell s 11) 0 (λ x. z (is ∙ x)), ne_eqb (cell s 11) 1 (λ x. o (is ∙ x))) e, omega (arith, b, n, e))
+      (rw (ne_eqb (cell s 11) 0 (λ x. z (is ∙ x)), ne_eqb (cell s 11) 1 (λ x. o (is ∙ x))) e, omega (arith, sort_within w, e))
 
 module _ (symbols variables s i : ℕ) (w : List ℕ) (code : ℕ) (is : code ≡ code_of_run w) (next : ℕ) (goes : next ≡ cell s code) where
   there : next ≡ cell s (code_of_run w)

@@ -1,4 +1,5 @@
 // Types of the scan of a text. What may follow where, and the laws that the code of crate scanning rests on, are in specs/ and proofs/.
+// A spot is a number: its row in the table of what may follow where. The second scan has a row more, 20, for a spot that is not known.
 #![tactic(auto)]
 
 // Where a scan stands: its spot, and how many spots the area holds for the last open brackets; `base` brackets are around these.

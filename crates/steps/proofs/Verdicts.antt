@@ -27,7 +27,7 @@ use Rattle.logic.specs.declared.Limited.{Limited}
 use Rattle.logic.specs.declared.Mention.TheVariants.{Absent}
 use Rattle.logic.specs.Contexts.{as_image}
 use Rattle.logic.specs.Tests.{passed, first_failing}
-use Rattle.logic.specs.Failures.{check_number, number_in}
+use Rattle.logic.specs.Failures.{number_in}
 use Rattle.logic.specs.Readings.{Reading}
 use Rattle.logic.specs.ReflWalk.{PairWalk, refl_walk_by, within_by, pair_limit, limit}
 use Rattle.logic.specs.Rules.{rule_of, refl_holds_by, refl_matches_by, refl_suffices_by, scoped_by, matches_by, sides_by, refers_where}

@@ -21,7 +21,7 @@ pub fn sections_fault(sorted: &SortedBundle) -> Result<(), Failure>
     terms::terms_fault(sorted)
 }
 
-// The same, with room for the sorts: a file with few terms gets little.
+// The same, with room for the sorts: a file with few terms gets little. `noted_fault` of `checker` is alike, and says why there are two.
 fn noted_sections(bundle: &Bundle) -> Result<(), Failure>
     ensures { fault_in result ≡ sections_fault bundle.now }
 {

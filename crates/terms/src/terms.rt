@@ -20,7 +20,7 @@ use logic::kinds::Kind;
 use sorting::sorted_bundle::SortedBundle;
 use sorting::sorts::{is_known, signature_of, some_different};
 
-// Whether x is a record's number in a section of n.
+// Whether x is a record's number in a section of n. `unions` and *show* have their own: a line each.
 fn is_number(n: usize, x: usize) -> bool
     ensures { result ≡ numbers n x }
 {

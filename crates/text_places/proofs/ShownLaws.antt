@@ -6,36 +6,10 @@ use mathlib.Core.Path.{◌≡◌, refl, sym, ap, ap₂, ◌∙◌}
 use mathlib.Core.Bool.{Bool, true, false, cond}
 use mathlib.Core.List.{List, [], ◌∷◌, ◌++◌, map, append-nil}
 use lib.ListN.{length, get_or, take, set, length-set}
-use lib.Seq.{take-suc, take-suc-set, take-length}
-use borrow.Author.Tests.{ne_eqb, eq-eqb, lt-ltb, le-ltb}
+use lib.Seq.{take-suc, take-suc-set}
 use Rattle.text_places.specs.Shown.{shown_byte, goes_on, under_byte, under, UnderAsMany}
 
--- ---- bytes
-
-module _ (c : ℕ) where
-  pub shown_tab : c ≡ 9 → c ≡ shown_byte c
-  shown_tab e = rw (eq-eqb c 9 e) refl
-
-  pub shown_control : (c ≡ 9 → ⊥) → c < 32 → 63 ≡ shown_byte c
-  shown_control a l = rw (ne_eqb c 9 a, lt-ltb c 32 l) refl
-
-  pub shown_delete : (c ≡ 9 → ⊥) → 32 ≤ c → c ≡ 127 → 63 ≡ shown_byte c
-  shown_delete a l e = rw (ne_eqb c 9 a, le-ltb c 32 l, eq-eqb c 127 e) refl
-
-  pub shown_other : (c ≡ 9 → ⊥) → 32 ≤ c → (c ≡ 127 → ⊥) → c ≡ shown_byte c
-  shown_other a l b = rw (ne_eqb c 9 a, le-ltb c 32 l, ne_eqb c 127 b) refl
-
-  pub under_tab : c ≡ 9 → 9 ≡ under_byte c
-  under_tab e = rw (eq-eqb c 9 e) refl
-
-  pub under_other : (c ≡ 9 → ⊥) → 32 ≡ under_byte c
-  under_other a = rw (ne_eqb c 9 a) refl
-
 -- ---- lists
-
-map_more : (f : ℕ → ℕ) (xs : List ℕ) (y : ℕ) → map f (xs ++ (y ∷ [])) ≡ map f xs ++ (f y ∷ [])
-map_more f [] y = refl
-map_more f (x ∷ xs) y = ap (λ r. f x ∷ r) (map_more f xs y)
 
 under_more : (xs : List ℕ) (c : ℕ) → under (xs ++ (c ∷ [])) ≡ under xs ++ cond (goes_on c) [] (under_byte c ∷ [])
 unfolding under
@@ -55,26 +29,6 @@ pub record Showing (part : List ℕ) (area : List ℕ) (n : ℕ) : Type 0 where
   pub room : length area ≡ 128
   pub bytes : take n area ≡ map shown_byte (take n part)
 
-pub showing_none : (part area : List ℕ) → length area ≡ 128 → Showing part area 0
-showing_none part area r = record { inside = omega arith; room = r; bytes = refl }
-
-module _ (part area : List ℕ) (n : ℕ) (h : Showing part area n) (few : length part ≤ 100) where
-  pub showing_more : (v : ℕ) → n < length part → v ≡ shown_byte (get_or part n 0) → Showing part (set area n v) (n + 1)
-  showing_more v l e = record {
-    inside = omega arith;
-    room = length-set area n v ∙ h.room;
-    bytes =
-        rw (add-one n) (take-suc-set area n v (omega (arith, h.room)))
-        ∙ ap₂ (λ x y. x ++ (y ∷ [])) h.bytes e
-        ∙ sym (map_more shown_byte (take n part) (get_or part n 0))
-        ∙ ap (map shown_byte) (rw (add-one n) (sym (take-suc part n 0 l)));
-  }
-
-  pub showing_all : length part ≤ n → take (length part) area ≡ map shown_byte part
-  showing_all l =
-      let q : n ≡ length part = omega (arith, h.inside) in
-      rw q at h.bytes ∙ ap (map shown_byte) (take-length part)
-
 -- ---- the mark: what stands under the first j bytes of the part is in the area
 
 pub record Marking (part : List ℕ) (area : List ℕ) (n j : ℕ) : Type 0 where
@@ -82,10 +36,6 @@ pub record Marking (part : List ℕ) (area : List ℕ) (n j : ℕ) : Type 0 wher
   pub few : n ≤ j
   pub room : length area ≡ 128
   pub bytes : take n area ≡ under (take j part)
-
-pub marking_none : (part area : List ℕ) → length area ≡ 128 → Marking part area 0 0
-unfolding under
-marking_none part area r = record { inside = omega arith; few = omega arith; room = r; bytes = refl }
 
 module _ (part area : List ℕ) (n j : ℕ) (h : Marking part area n j) (few : length part ≤ 60) where
   module _ (l : j < length part) (b : Bool) (e : b ≡ goes_on (get_or part j 0)) where
@@ -114,12 +64,6 @@ module _ (part area : List ℕ) (n j : ℕ) (h : Marking part area n j) (few : l
           ∙ sym (append-nil (under (take j part)))
           ∙ sym (next ∙ ap (λ x. under (take j part) ++ cond x [] (under_byte (get_or part j 0) ∷ [])) t);
     }
-
-  pub marking_all : length part ≤ j → take (n + 1) (set area n 94) ≡ under part ++ (94 ∷ [])
-  marking_all l =
-      let q : j ≡ length part = omega (arith, h.inside) in
-      rw (add-one n) (take-suc-set area n 94 (omega (arith, h.room, h.few, h.inside)))
-      ∙ ap (λ x. x ++ (94 ∷ [])) (h.bytes ∙ ap under (ap (λ k. take k part) q ∙ take-length part))
 
 -- ---- THE LAW
 

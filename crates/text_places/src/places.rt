@@ -1,4 +1,4 @@
-// The line and the column of a byte, and the end of its line.
+// The line and the column of a byte, and the end of its line. By places in the text, since a byte's place is what is asked about.
 ghost use Rattle.std.specs.Prelude.{◌≡◌, ◌≤◌, ◌<◌, length};
 ghost use Rattle.text_places.specs.Places.{ends_line, line_of, column_of, start_of, LineEnds, is_space, ContentEnds};
 
@@ -11,6 +11,7 @@ pub struct Place {
 }
 
 // Whether a line ends with byte k: at 10, and at 13 where no 10 follows.
+#[tactic(auto, unfolding(crate::specs::Places::ends_line))]
 fn ends_line(text: &[u8], k: usize) -> bool
     requires { k < length text.now }
     ensures { result ≡ ends_line text.now k }
@@ -29,6 +30,7 @@ fn ends_line(text: &[u8], k: usize) -> bool
 }
 
 // The place of a byte, or of the text's end.
+#[tactic(auto, unfolding(crate::specs::Places::line_of, crate::specs::Places::start_of))]
 pub fn place_of(text: &[u8], at: usize) -> Place
     requires { at ≤ length text.now }
     ensures { (result.line ≡ line_of text.now at) × (result.column ≡ column_of text.now at)
@@ -49,7 +51,7 @@ pub fn place_of(text: &[u8], at: usize) -> Place
     }
 }
 
-// The first 10 or 13 from a byte on, or the text's end.
+// The first 10 or 13 from a byte on, or the text's end. The pass has its own, whose clause speaks of what a comment hides.
 pub fn line_end(text: &[u8], at: usize) -> usize
     requires { at ≤ length text.now }
     ensures { LineEnds text.now at result }

@@ -86,6 +86,7 @@ fn under_byte(b: u8) -> u8
 }
 
 // What stands under a part, and then the mark, in an area: tabs as tabs, a space for any other character.
+#[tactic(auto, using(crate::proofs::ShownLaws::marking_more, crate::proofs::ShownLaws::marking_on), unfolding(crate::specs::Shown::under))]
 pub fn mark_line<'a>(part: &[u8], line: &'a mut [u8; 128]) -> &'a [u8]
     requires { length part.now ≤ 60 }
     ensures { result.now ≡ under part.now ++ (94 ∷ []) }

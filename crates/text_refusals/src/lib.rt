@@ -8,10 +8,10 @@ use logic::checks::{Check, Failure};
 use text_places::places::{content_end, line_end, place_of};
 use text_places::shown::{mark_line, shown_from, shown_line, shown_to};
 
-// The first bytes of an area.
+// The first bytes of an area, so many as a call that wrote to it has answered.
 pub fn write_start(file: i32, area: &[u8], length: usize) {
-    if length <= area.len() {
-        io::write_all(file, &area[..length]);
+    if let Some(start) = area.get(..length) {
+        io::write_all(file, start);
     }
 }
 
@@ -139,7 +139,7 @@ fn show_part(part: &[u8], before: &[u8], is_cut_before: bool, is_cut_after: bool
     put(b"\n");
 }
 
-// The line of a byte, or what is near the byte, and the mark under it.
+// The line of a byte, or what is near the byte, and the mark under it. A place in the text, since that is what a refusal tells.
 fn show_line(text: &[u8], at: usize)
     requires { at ≤ length text.now }
 {

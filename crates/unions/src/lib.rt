@@ -15,7 +15,8 @@ ghost use Rattle.unions.specs.Unions.{known, unmet, joined, Unions, Uniting, Par
 use bundle::Bundle;
 use std::marker::Model;
 
-// The mark of a known link. Any other mark but 0 says that the link was met; while a walk is on its way out, it is the link before.
+// The mark of a known link. Any other mark but 0 says that the link was met; while a walk is on its way out, it is the link before: so marks are numbers,
+// and no enum.
 const KNOWN: u16 = 65535;
 
 const MET: u16 = 1;
@@ -59,7 +60,7 @@ fn is_known(k: usize, mark: u16) -> bool
     (k == 0) | (mark == KNOWN)
 }
 
-// Whether x is the number of a term below t.
+// Whether x is the number of a term below t. Crate terms has its own, of a record's number.
 fn is_lower(t: usize, x: usize) -> bool
     requires { 1 ≤ t }
     ensures { result ≡ numbers (t - 1) x }
@@ -164,7 +165,7 @@ impl<'a> Uniting<'a> {
         }
     }
 
-    // Adds the sets of the first terms of a list. Gives the link that is next, 0 where the list has ended.
+    // Adds the sets of the first terms of a list. Gives the link that is next, 0, which is no link, where the list has ended.
     fn unite_first(&self, area: &mut [u64], at: usize, list: usize) -> usize
         requires { SetRoom area.old self.now.n self.now.t at }
         ensures { (result ≤ length self.now.bundle.links) × Partly area.old area.new self.now.n self.now.t at (items self.now.bundle list) (items self.now.bundle result) }
@@ -199,7 +200,8 @@ impl<'a> Uniting<'a> {
         last
     }
 
-    // Makes link k known, if the link after it is, and its term is below t. Gives the link that was before it on the walk, 0 if it was the first.
+    // Makes link k known, if the link after it is, and its term is below t. Gives the link that was before it on the walk, 0 if it was the first, as marks
+    // have it.
     fn learn_link(&mut self, area: &[u64], k: usize) -> usize
         requires { SetsBelow area.now self.old.n self.old.t self.old.bundle × (1 ≤ k) × (k ≤ length self.old.bundle.links) }
         ensures { (result < k) × (self.new ≡ self.old) }
@@ -280,7 +282,8 @@ impl<'a> Uniting<'a> {
         i
     }
 
-    // Adds the sets of the terms of the list that starts at link i: up to a link that was met before one by one, then by what is known.
+    // Adds the sets of the terms of the list that starts at link i: up to a link that was met before one by one, then by what is known. Of one shape with
+    // `unite_list`, and no more: that one looks at no mark.
     fn unite_rest(&mut self, area: &mut [u64], at: usize, i: usize)
         requires { SetRoom area.old self.old.n self.old.t at × SetsBelow area.old self.old.n self.old.t self.old.bundle × (i ≤ length self.old.bundle.links) }
         ensures put { Adds self.old area.old area.new at (items self.old.bundle i) }

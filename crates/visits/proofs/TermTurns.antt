@@ -36,8 +36,7 @@ use Rattle.expansion.proofs.Grown.{open_longer, visit_longer, visit_all_longer}
 use Rattle.visits.proofs.StandingKept.{stands_on, visit_more, visit_all_steps, replacing_context, open_context, opening, opening_longer, scope_longer}
 use Rattle.visits.proofs.StandingKept.{node_longer, body_longer, block_longer}
 use Rattle.placing.proofs.Pairs.{Pair, below_same, below_trans, below_set, halves_then}
-use Rattle.placing.proofs.OutcomeFacts.{longer_over, Done, outcome_done, full_on, on, visit_done}
-use Rattle.placing.proofs.OutcomeFacts.{BinderDone, binder_done, ListDone, list_done, list_full}
+use Rattle.placing.proofs.OutcomeFacts.{longer_over, Done, outcome_done, full_on, on, visit_done, ListDone, list_done, list_full}
 
 -- the term's record, as the code reads it
 pub record Reads (b : Bundle) (t : ℕ) (w : TermWords) : Type 0 where
@@ -143,8 +142,8 @@ module _ {b : Bundle} {s : List ℕ} {Γ h t : ℕ} (asks : TermAsks b s Γ h t)
       }
 
       module _ {o : Opened} (told : r ≡ Some o) where
-        scope_open : BinderDone (open_binder b w.first Γ).bundle (open_binder b w.first Γ).context (open_binder b w.first Γ).variable b1 o
-        scope_open = binder_done opened told
+        scope_open : Done (open_binder b w.first Γ).bundle (record { context = (open_binder b w.first Γ).context; variable = (open_binder b w.first Γ).variable }) b1 o
+        scope_open = outcome_done opened told
 
         scope_longer_lem : Longer b b1
         scope_longer_lem = on (open_longer b w.first Γ) scope_open.bundle
@@ -154,7 +153,7 @@ module _ {b : Bundle} {s : List ℕ} {Γ h t : ℕ} (asks : TermAsks b s Γ h t)
         scope_asks = binder_only reads (λ τ. TermAsks b1 s o.context h w.second × (w.second < t)) quantifies (λ u low k. (
           record {
             pending = record { places = asks.pending.places; height = omega (arith, asks.pending.height, (sizes scope_longer_lem).steps) };
-            context = omega (arith, scope_open.context, open_context b w.first Γ, ap (λ (B : Bundle). length B.contexts) scope_open.bundle);
+            context = omega (arith, ap (λ (x : Opened). x.context) scope_open.value, open_context b w.first Γ, ap (λ (B : Bundle). length B.contexts) scope_open.bundle);
             standing = u;
             stands = stands_on scope_longer_lem u w.second k;
           },
@@ -163,13 +162,13 @@ module _ {b : Bundle} {s : List ℕ} {Γ h t : ℕ} (asks : TermAsks b s Γ h t)
 
         -- the variable that the result binds is a word
         pub scope_word : Within (own_counts b) → o.variable ≤ largest_word
-        scope_word k = omega (arith, scope_open.variable, k.variables)
+        scope_word k = omega (arith, ap (λ (x : Opened). x.variable) scope_open.value, k.variables)
 
         module _ {b2 : Bundle} {s2 : List ℕ} {r2 : Option Visited} (gave : TermGives b1 s o.context h w.second b2 s2 r2) where
           scope_body : (u : Node) → Stands b w.second u
               → VisitOutcome (visit u (open_binder b w.first Γ).context (open_binder b w.first Γ).bundle) b2 r2
           scope_body u k =
-              subst (λ (v : Visit). VisitOutcome v b2 r2) (λ i. visit u (scope_open.context i) (scope_open.bundle i))
+              subst (λ (v : Visit). VisitOutcome v b2 r2) (λ i. visit u (scope_open.value i).context (scope_open.bundle i))
               (gave.outcome u (stands_on scope_longer_lem u w.second k))
 
           -- the body's visit was full: so is the quantifier's
@@ -191,7 +190,7 @@ module _ {b : Bundle} {s : List ℕ} {Γ h t : ℕ} (asks : TermAsks b s Γ h t)
             outcome = binder_only reads (λ τ. VisitOutcome (visit τ Γ b) b3 r3) quantifies (λ u low k.
                 let d = visit_done (scope_body u k) told2 in
                 subst (λ (v : Visit). VisitOutcome v b3 r3)
-                (λ j. close_binder Γ t q (scope_open.variable j) (record { bundle = d.bundle j; result = d.result j; step = d.step j })) g);
+                (λ j. close_binder Γ t q (scope_open.value j).variable (record { bundle = d.bundle j; result = d.result j; step = d.step j })) g);
             words = fits;
           }
 

@@ -6,36 +6,31 @@ use native.Mathlib.Omega.{arith}
 use Rattle.bundle.specs.Words.{largest_word}
 use Rattle.logic.specs.declared.Image.{Image}
 use Rattle.logic.specs.Contexts.{image}
-use Rattle.logic.specs.Rules.{REFL}
 use Rattle.scratch.proofs.Pushed.{add_none}
 use Rattle.expansion.specs.Visit.{visit, concluded, image_term}
 use Rattle.placing.specs.Outcomes.{VisitOutcome}
-use Rattle.closers.proofs.Numbers.{rule_number}
 use Rattle.closers.proofs.Closings.{concluded_is, concluded_fits}
 use Rattle.closers.proofs.close_variable.Goals.{in-Own, in-Gives}
 use Rattle.closers.proofs.close_variable.Goals as goal
 
 pub add_step-requires : goal.add_step-requires
-add_step-requires c =
-    let n : c.number.result ≡ 1 = rule_number c.number.result REFL c.number.ensures (λ e. cc) in
+add_step-requires g c =
     let word : c.match-image.right ≤ largest_word =
     elim c.match-image.branch [ in-Own w ↦ omega (arith, w.right-is, c.requires.1) | in-Gives w ↦ omega (arith, w.right-is, c.image.ensures.1 _ w.in-Gives.is) ] in
-    record { rule = omega (arith, n); context = c.requires.0; left = c.requires.1; right = word; premises = omega arith }
+    record { rule = omega (arith, c.number.ensures); context = c.requires.0; left = c.requires.1; right = word; premises = omega arith }
 
 pub returns : goal.returns
 unfolding visit
-returns c =
+returns g c =
     let a = c.args in
-    let b = a.filed.now in
-    let n : c.number.result ≡ 1 = rule_number c.number.result REFL c.number.ensures (λ e. cc) in
+    let b = g.S.Appends.bundle a.scratch.now in
     let to : Image → ℕ = λ i. image_term i a.term in
-    let found : c.image.result ≡ image b a.context a.x = c.image.ensures.0 ∙ ap (λ s. image s a.context a.x) c.scratch.ensures in
     let right : c.match-image.right ≡ to (image b a.context a.x) =
     elim c.match-image.branch
-    [ in-Own w ↦ w.right-is ∙ ap to (sym w.in-Own.is ∙ found) | in-Gives w ↦ w.right-is ∙ ap to (sym w.in-Gives.is ∙ found) ] in
+    [ in-Own w ↦ w.right-is ∙ ap to (sym w.in-Own.is ∙ c.image.ensures.0) | in-Gives w ↦ w.right-is ∙ ap to (sym w.in-Gives.is ∙ c.image.ensures.0) ] in
     let word : c.match-image.right ≤ largest_word =
     elim c.match-image.branch [ in-Own w ↦ omega (arith, w.right-is, c.requires.1) | in-Gives w ↦ omega (arith, w.right-is, c.image.ensures.1 _ w.in-Gives.is) ] in
-    let o = concluded_is b 1 a.context a.term c.match-image.right [] n (sym (add_none b)) refl c.add_step.ensures in (
-      subst (λ (t : ℕ). VisitOutcome (concluded b 1 a.context a.term t []) c.add_step.new.filed c.add_step.result) right o,
+    let o = concluded_is b 1 a.context a.term c.match-image.right [] c.number.ensures (sym (add_none b)) refl c.add_step.ensures in (
+      subst (λ (t : ℕ). VisitOutcome (concluded b 1 a.context a.term t []) (g.S.Appends.bundle c.add_step.new.scratch) c.add_step.result) right o,
       concluded_fits b 1 a.context a.term c.match-image.right [] o word,
     )

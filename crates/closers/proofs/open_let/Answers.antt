@@ -1,25 +1,11 @@
--- `open_let` meets its contract: the number of a context that replaces, and its list.
-use mathlib.Core.Path.{◌≡◌}
+-- `open_let` meets its contract: the context's list is the one that was appended.
 use mathlib.Core.Bool.{true}
-use native.Mathlib.Omega.{arith}
-use Rattle.logic.specs.Contexts.{replacing}
 use Rattle.scratch.specs.Stack.{halves_of}
 use Rattle.placing.proofs.OutcomeFacts.{outcome_done}
-use Rattle.placing.proofs.Placings.{list_word}
-use Rattle.closers.proofs.Numbers.{entry_number}
-use Rattle.closers.proofs.Closings.{opened_is}
 use Rattle.closers.proofs.open_let.Goals as goal
 
-pub add_context-requires : goal.add_context-requires
-add_context-requires c =
-    let a = c.args in
-    let n : c.number.result ≡ 2 = entry_number c.number.result replacing c.number.ensures (λ e. cc) in
-    let second = list_word a.filed.now (halves_of true a.pairs.now) c.add_halves.ensures c.in_ok-second.was in
-    record { kind = omega (arith, n); first = c.requires.0; second = second; parent = c.requires.1 }
-
 pub returns : goal.returns
-returns c =
+returns g c =
     let a = c.args in
-    let n : c.number.result ≡ 2 = entry_number c.number.result replacing c.number.ensures (λ e. cc) in
-    let d = outcome_done c.add_halves.ensures c.in_ok-second.was in
-    opened_is a.filed.now a.variables a.parent (halves_of true a.pairs.now) n d.bundle d.value c.add_context.ensures
+    let d = outcome_done c.add_halves.ensures c.in_ok-terms.was in
+    c.open_replacing.ensures (g.S.Appends.bundle a.scratch.now) (halves_of true a.pairs.now) d.bundle d.value

@@ -8,8 +8,8 @@ returns c =
     rw (
       ← c.empty.ensures,
       ← c.mixed-d.ensures,
-      ← c.lists_of-first.ensures.1,
-      ← c.lists_of-first.ensures.0,
+      ← c.second_is_list.ensures,
+      ← c.first_is_list.ensures,
       ← c.mixed_field-d1.ensures,
       ← c.mixed_field-d2.ensures,
       ← c.mixed.ensures,

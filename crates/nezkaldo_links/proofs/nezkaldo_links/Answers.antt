@@ -19,7 +19,6 @@ use Rattle.logic.specs.Rules.{cong_walk_by, cong_walk}
 use Rattle.logic.proofs.Headers.{header_exactly}
 use Rattle.images.specs.LentReading.{step_in}
 use Rattle.images.proofs.ReadingRight.{step_right}
-use Rattle.rules.proofs.RuleNumbers.{cong_number_is}
 use Rattle.nezkaldo_links.specs.Links.{walk_number, step_number, links_number}
 use Rattle.nezkaldo_links.proofs.Links.{links_short, few_links}
 use Rattle.nezkaldo_links.proofs.nezkaldo_links.Goals as goal
@@ -60,15 +59,16 @@ plain b bed s short = ap (λ (step : ℕ → Step). cong_walk_by step b s) (fun_
 
 pub returns-in-Err : goal.returns-in-Err
 returns-in-Err c =
-    refused c.args.file.now c.args.step (c.number.ensures ∙ c.in-Err.ensures.number) (λ z. some_number c.in-Err.check (sym c.number.ensures ∙ z))
+    c.told.ensures ∙ refused c.args.file.now c.args.step c.in-Err.ensures.number (some_number c.in-Err.check)
 
 pub returns-then-s-number : goal.returns-then-s-number
 returns-then-s-number c =
     let a = c.args in
     let b = c.in-Ok.bundle in
     let s = c.step_words-s in
-    sym (counted a.file.now b c.in-Ok.ensures.number c.in-Ok.ensures.bundle a.step
-    ∙ no_cong b (as_step s.result) (step_of b a.step) s.ensures (λ e. c.if-s-number.true (e ∙ sym (cong_number_is c.number-2.ensures))))
+    c.told-then-s-number.ensures
+    ∙ sym (counted a.file.now b c.in-Ok.ensures.number c.in-Ok.ensures.bundle a.step
+    ∙ no_cong b (as_step s.result) (step_of b a.step) s.ensures (λ e. c.if-s-number.true (e ∙ sym c.number.ensures)))
 
 pub walk_number-requires : goal.walk_number-requires
 walk_number-requires c =
@@ -77,7 +77,7 @@ walk_number-requires c =
     let walked = rw c.of.ensures at c.step_walk-walked.ensures.value in
     omega (
       arith,
-      ap (λ (x : Walk). x.links) (walked (c.if-s-number.false ∙ cong_number_is c.number-2.ensures) ∙ plain b _ s (omega arith)),
+      ap (λ (x : Walk). x.links) (walked (c.if-s-number.false ∙ c.number.ensures) ∙ plain b _ s (omega arith)),
       links_short b s (few c.args.file.now b c.in-Ok.ensures.number c.in-Ok.ensures.bundle),
     )
 
@@ -86,7 +86,7 @@ returns c =
     let a = c.args in
     let b = c.in-Ok.bundle in
     let s = c.step_words-s in
-    let cong = c.if-s-number.false ∙ cong_number_is c.number-2.ensures in
+    let cong = c.if-s-number.false ∙ c.number.ensures in
     let walked = rw c.of.ensures at c.step_walk-walked.ensures.value in
     c.walk_number.ensures
     ∙ sym (counted a.file.now b c.in-Ok.ensures.number c.in-Ok.ensures.bundle a.step

@@ -5,7 +5,7 @@ use Rattle.placing.proofs.Placings.{list_length}
 use Rattle.placing.proofs.add_halves.Goals as goal
 
 pub returns-then-pairs-counts : goal.returns-then-pairs-counts
-returns-then-pairs-counts c = Prim.grind (arith, list_length, length-map)
+returns-then-pairs-counts g c = Prim.grind (arith, list_length, length-map)
 
 pub returns : goal.returns
-returns c = Prim.grind (arith, list_length, length-map)
+returns g c = Prim.grind (arith, list_length, length-map)

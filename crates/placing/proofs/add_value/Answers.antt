@@ -4,7 +4,7 @@ use Rattle.placing.proofs.Placings.{list_length}
 use Rattle.placing.proofs.add_value.Goals as goal
 
 pub returns-then-counts-ge-LINKS : goal.returns-then-counts-ge-LINKS
-returns-then-counts-ge-LINKS c = Prim.grind (arith, list_length)
+returns-then-counts-ge-LINKS g c = Prim.grind (arith, list_length)
 
 pub returns : goal.returns
-returns c = Prim.grind (arith, list_length)
+returns g c = Prim.grind (arith, list_length)

@@ -1,18 +1,13 @@
--- `place_binder` meets its contract: by what the lookup found.
+-- `place_binder` meets its contract: a binder's record has no list.
 use native.Mathlib.Omega.{arith}
 use Rattle.bundle.specs.RecordWords.{TermFits}
 use Rattle.logic.specs.Named.{binder_in}
 use Rattle.filing.proofs.FiledTerms.{binder_kind}
-use Rattle.placing.proofs.Placings.{found_is, plain_is, plain_filed}
+use Rattle.placing.proofs.Placings.{plain_filed}
 use Rattle.placing.proofs.place_binder.Goals as goal
 
-pub returns-in-Some : goal.returns-in-Some
-returns-in-Some c =
-    let found = c.find_binder.ensures (binder_in c.args.q) c.number-kind.ensures in
-    found_is c.args.filed.now _ _ _ found c.in-Some.is c.keep.ensures
-
-pub add_term-requires : goal.add_term-requires
-add_term-requires c =
+pub place_plain-requires : goal.place_plain-requires
+place_plain-requires c =
     let a = c.args in
     let k = c.number-kind in
     let d = c.root_digest-d in
@@ -22,6 +17,4 @@ add_term-requires c =
     (fits, plain_filed a.filed.now k.result a.y a.body d.result (λ e. omega (arith, range.0, k.ensures)) (λ e. omega (arith, range.1, k.ensures)) d.ensures)
 
 pub returns : goal.returns
-returns c =
-    let found = c.find_binder.ensures (binder_in c.args.q) c.number-kind.ensures in
-    plain_is c.args.filed.now _ _ found c.in_default.is (rw (← c.number-kind.ensures) c.add_term.ensures)
+returns c = rw (← c.number-kind.ensures) (c.place_plain.ensures _ (c.find_binder-known.ensures (binder_in c.args.q) c.number-kind.ensures))

@@ -1,8 +1,6 @@
 -- `unite_term` meets its contract.
 use native.Mathlib.Omega.{arith}
-use Prim.Native.Nat.{◌+◌, ◌*◌, ◌-◌, ◌≤◌}
-use Rattle.bundle.proofs.Fields.{record_within}
-use Rattle.unions.proofs.Puts.{unite_zero, unite_high, unite_low}
+use Rattle.unions.proofs.Puts.{unite_zero, unite_high, lower_room, unite_low}
 use Rattle.unions.proofs.unite_term.Goals as goal
 
 pub returns-then-i-eq0 : goal.returns-then-i-eq0
@@ -14,16 +12,13 @@ returns-then-i-t c = let a = c.args in unite_high a.area.now a.n a.t a.at a.i c.
 pub overflow_mul-n : goal.overflow_mul-n
 overflow_mul-n c =
     let a = c.args in
-    let low : a.n * (a.i - 1) + a.n ≤ a.n * (a.t - 1) = record_within a.n (a.t - 1) a.i c.if-i-eq0.false (omega arith) in
-    omega (arith, c.requires.start, c.requires.room)
+    let room = lower_room a.area.now a.n a.t a.at a.i c.requires c.if-i-eq0.false c.if-i-t.false in
+    omega (arith, room.0, room.1)
 
 pub unite-requires : goal.unite-requires
-unite-requires c =
-    let a = c.args in
-    let low : a.n * (a.i - 1) + a.n ≤ a.n * (a.t - 1) = record_within a.n (a.t - 1) a.i c.if-i-eq0.false (omega arith) in
-    omega (arith, c.requires.start, c.requires.room)
+unite-requires c = let a = c.args in lower_room a.area.now a.n a.t a.at a.i c.requires c.if-i-eq0.false c.if-i-t.false
 
 pub returns : goal.returns
-returns c = let a = c.args in
-    unite_low a.area.now a.n a.t a.at a.i c.unite.new.area c.requires
-    c.if-i-eq0.false c.if-i-t.false c.unite.ensures
+returns c =
+    let a = c.args in
+    unite_low a.area.now a.n a.t a.at a.i c.unite.new.area c.requires c.if-i-eq0.false c.if-i-t.false c.unite.ensures

@@ -1,6 +1,5 @@
 -- `all_settled` meets its contract.
 use native.Mathlib.Omega.{arith}
-use mathlib.Core.Path.{◌∙◌}
 use Rattle.bundle.specs.Lists.{each}
 use Rattle.images.proofs.ReadingRight.{settled_right}
 use Rattle.contexts.proofs.contexts.all_settled.Goals as goal

@@ -5,7 +5,9 @@ use Prim.Native.Nat.{suc, ◌-◌, ◌≤◌, ◌<◌}
 use lib.ListN.{length}
 use Rattle.bundle.specs.Limits.{limits}
 use Rattle.logic.specs.Named.{binder_in}
+use Rattle.lexing.specs.Lexes.{Tail}
 use Rattle.lexing.specs.Words.{word_in}
+use Rattle.lexing.proofs.Tails.{tail_after}
 use Rattle.heads.specs.Places.{head_in}
 use Rattle.placing.proofs.Pairs.{Pair, below_same}
 use Rattle.endings.specs.declared.ReadTerm.{ReadTerm}
@@ -23,7 +25,7 @@ pub read_formula-returns-in-Alone : goal.read_formula-returns-in-Alone
 read_formula-returns-in-Alone t c =
     let h = c.in_ok-found.ensures in
     let g = c.place_word.ensures in
-    (F.placed_leaves (below_same _ _) g.0 g.1 h.fewer, F.word_reads h c.args.bundle.now (word_in c.in-Alone.word) (ap head_in c.in-Alone.is) g.0)
+    (F.placed_leaves (below_same _ _) g.0 g.1 h.tail h.fewer, F.word_reads h c.args.bundle.now (word_in c.in-Alone.word) (ap head_in c.in-Alone.is) g.0)
 
 pub read_formula-returns-in_err-parts-in-Application : goal.read_formula-returns-in_err-parts-in-Application
 read_formula-returns-in_err-parts-in-Application t c =
@@ -46,8 +48,9 @@ read_formula-returns-in_ok-parts-in-Application t c =
     let p = c.read_parts.ensures in
     let d = c.in_ok-parts-in-Application.was in
     let g = c.apply_parts.ensures in
-    let z = F.at_some (λ (x : ReadParts). length x.rest.now ≤ length c.in_ok-found.found.rest.now) d p.0.fewer in (
-      F.placed_leaves p.0.kept g.0 g.1 (omega (arith, h.fewer, z)),
+    let z = F.at_some (λ (x : ReadParts). length x.rest.now ≤ length c.in_ok-found.found.rest.now) d p.0.fewer in
+    let u = F.at_some (λ (x : ReadParts). Tail c.in_ok-found.found.rest.now x.rest.now) d p.0.tail in (
+      F.placed_leaves p.0.kept g.0 g.1 (tail_after h.tail u) (omega (arith, h.fewer, z)),
       F.application_reads h D w (F.applied h D w d g.0) n (ap head_in c.in-Application.is) p.1,
     )
 
@@ -55,7 +58,7 @@ pub read_formula-returns-in-Quantifier : goal.read_formula-returns-in-Quantifier
 read_formula-returns-in-Quantifier t c =
     let h = c.in_ok-found.ensures in
     let p = c.read_quantified.ensures in (
-      F.later_leaves (omega (arith, h.fewer)) p.0,
+      F.later_leaves h.tail (omega (arith, h.fewer)) p.0,
       F.quantifier_reads h c.args.bundle.now (binder_in c.in-Quantifier.q) (ap head_in c.in-Quantifier.is) p.1,
     )
 
@@ -64,7 +67,7 @@ read_formula-returns-in-Let t c =
     let h = c.in_ok-found.ensures in
     let n : c.args.left ≡ suc (c.args.left - 1) = omega (arith, c.if-left-eq0.false) in
     let p = c.read_let.ensures in
-    (F.later_leaves (omega (arith, h.fewer)) p.0, F.let_reads h c.args.bundle.now n (ap head_in c.in-Let.is) p.1)
+    (F.later_leaves h.tail (omega (arith, h.fewer)) p.0, F.let_reads h c.args.bundle.now n (ap head_in c.in-Let.is) p.1)
 
 -- ---- a let
 
@@ -151,7 +154,7 @@ read_quantified-returns-in_default t c =
     let p = c.read_formula.ensures in
     let d = c.in_ok-body.was in
     let k = c.closed.ensures in (
-      F.closed_leaves v.item.fewer p.0 d k,
+      F.closed_leaves v.item.tail v.item.fewer p.0 d k,
       F.last_quantified c.args.bundle.now v (binder_in c.args.q) (λ τ s rest o. F.closed_outcome d k o) c.in_default.is p.1,
     )
 
@@ -184,4 +187,5 @@ read_quantified-returns t c =
     let left = c.variable_at-item.result.rest.now in
     let x = F.at_some (λ (y : ReadTerm). length y.rest.now < length left) d p.0.fewer in
     let l = F.at_some (λ _. length left < length c.args.text.now) is v.further in
-    (F.placed_leaves p.0.kept g.0 g.1 (omega (arith, l, x)), F.next_quantified D v q is (F.bound D v q is d g.0) n p.1)
+    let u = tail_after v.item.tail (F.at_some (λ (y : ReadTerm). Tail left y.rest.now) d p.0.tail) in
+    (F.placed_leaves p.0.kept g.0 g.1 u (omega (arith, l, x)), F.next_quantified D v q is (F.bound D v q is d g.0) n p.1)

@@ -13,4 +13,4 @@ returns-in_default-lexeme c =
 
 pub returns : goal.returns
 returns c =
-    L.variable_goes c.args.variables c.in-Some.ensures (ap lexeme_in c.in-Opens.is) c.named_at-named.ensures c.past.ensures c.past-2.ensures refl
+    L.variable_goes c.args.variables c.in-Some.ensures (ap lexeme_in c.in-Opens.is) c.named_at-named.ensures c.after_lexeme.ensures c.after_lexeme-2.ensures refl

@@ -8,22 +8,13 @@ pub returns-then-x-eq0 : goal.returns-then-x-eq0
 returns-then-x-eq0 c = sym (mention_zero _ _ _ _ c.if-x-eq0.true)
 
 pub returns-then-x-variables : goal.returns-then-x-variables
-returns-then-x-variables c = sym (mention_past _ _ _ _ (rw c.variables-variables.ensures.0 at c.if-x-variables.true))
-
-pub overflow_add-variables : goal.overflow_add-variables
-overflow_add-variables c = rw c.variables-variables.ensures.0 (omega (arith, c.requires))
-
-pub offset_bounds-images-variables : goal.offset_bounds-images-variables
-offset_bounds-images-variables c = rw c.variables-variables.ensures.0 (omega (arith, c.requires))
-
-pub bounds-images-variables : goal.bounds-images-variables
-bounds-images-variables c = rw c.variables-variables.ensures.0 (omega (arith, c.requires))
+returns-then-x-variables c = sym (mention_past _ _ _ _ c.if-x-variables.true)
 
 pub returns-then-t-eq0 : goal.returns-then-t-eq0
-returns-then-t-eq0 c = sym (mention_some _ _ _ _ (omega arith) (rw c.variables-variables.ensures.0 at c.if-x-variables.false) (rw c.variables-variables.ensures.0 at c.from-t.ensures) ∙ as_absent _ c.if-t-eq0.true)
+returns-then-t-eq0 c = sym (mention_some _ _ _ _ (omega arith) c.if-x-variables.false c.from-t.ensures ∙ as_absent _ c.if-t-eq0.true)
 
 pub returns-then-t-eq-FIXED : goal.returns-then-t-eq-FIXED
-returns-then-t-eq-FIXED c = sym (mention_some _ _ _ _ (omega arith) (rw c.variables-variables.ensures.0 at c.if-x-variables.false) (rw c.variables-variables.ensures.0 at c.from-t.ensures) ∙ as_fixed _ c.if-t-eq-FIXED.true)
+returns-then-t-eq-FIXED c = sym (mention_some _ _ _ _ (omega arith) c.if-x-variables.false c.from-t.ensures ∙ as_fixed _ c.if-t-eq-FIXED.true)
 
 pub returns : goal.returns
-returns c = sym (mention_some _ _ _ _ (omega arith) (rw c.variables-variables.ensures.0 at c.if-x-variables.false) (rw c.variables-variables.ensures.0 at c.from-t.ensures) ∙ as_replaced _ c.if-t-eq0.false c.if-t-eq-FIXED.false)
+returns c = sym (mention_some _ _ _ _ (omega arith) c.if-x-variables.false c.from-t.ensures ∙ as_replaced _ c.if-t-eq0.false c.if-t-eq-FIXED.false)

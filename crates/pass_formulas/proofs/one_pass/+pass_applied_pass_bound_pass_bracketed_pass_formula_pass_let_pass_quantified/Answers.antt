@@ -33,14 +33,14 @@ pass_bracketed-returns-in-Symbol t c =
     let h = c.in_ok-f.ensures in
     let v = P.heads_as c.args.bundle.now h c.in-Symbol.is in
     IfSome_then c.pass_applied.result (c.pass_applied.ensures v.1.0 v.1.2)
-    (λ u g. P.gives_from c.args.bundle.now (omega (arith, h.fewer)) (ap (λ (l : List Lexeme). opens ∷ l) (sym v.1.1)) g)
+    (λ u g. P.gives_from c.args.bundle.now h.tail (ap (λ (l : List Lexeme). opens ∷ l) (sym v.1.1)) g)
 
 pub pass_bracketed-returns-in-Binder : goal.pass_bracketed-returns-in-Binder
 pass_bracketed-returns-in-Binder t c =
     let h = c.in_ok-f.ensures in
     let v = P.heads_as c.args.bundle.now h c.in-Binder.is in
     IfSome_then c.pass_quantified.result c.pass_quantified.ensures
-    (λ u g. P.quantifier_gives c.args.bundle.now (omega (arith, h.fewer)) v.1 v.2 g)
+    (λ u g. P.quantifier_gives c.args.bundle.now h.tail v.1 v.2 g)
 
 pub pass_formula-returns-then-first-eq40 : goal.pass_formula-returns-then-first-eq40
 pass_formula-returns-then-first-eq40 t c =

@@ -10,7 +10,7 @@ returns-in-BuiltIn c = rw c.in-BuiltIn.is c.all_of_sort.ensures
 
 pub returns-in-Declared : goal.returns-in-Declared
 unfolding argument_sorts
-returns-in-Declared c = rw (c.in-Declared.is, ← c.symbol_field.ensures) c.sorts_of.ensures
+returns-in-Declared c = rw (c.in-Declared.is, ← c.symbol_field.ensures) c.same_halves.ensures
 
 pub returns-in-Unknown : goal.returns-in-Unknown
 unfolding argument_sorts

@@ -2,11 +2,8 @@
 use native.Mathlib.Omega.{arith}
 use mathlib.Core.Path.{◌≡◌}
 use lib.ListN.{length}
-use Rattle.pass_tokens.proofs.BlankLaws.{line_start, line_on, line_feed, line_return, line_past}
+use Rattle.pass_tokens.proofs.BlankLaws.{line_on, line_feed, line_return, line_past}
 use Rattle.pass_tokens.proofs.blanks.line_end.Goals as goal
-
-pub loop-j-init : goal.loop-j-init
-loop-j-init c = line_start c.args.text.now c.args.i c.requires
 
 pub returns-then-c-eq10 : goal.returns-then-c-eq10
 returns-then-c-eq10 c =

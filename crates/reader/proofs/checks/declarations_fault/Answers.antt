@@ -36,8 +36,9 @@ returns-then-not-is_declarations-clause-fault c =
     let a = c.args in
     let b = c.in_ok-bundle.ensures in
     let none = sym (header a.file.now a.out a.words a.sets c.long_enough-enough.ensures b.number) in
-    not_bare a.file.now a.out a.words a.sets none b.bundle _ c.in_ok-sections_fault.ensures refl c.is_declarations.result c.is_declarations.ensures
-    c.if-not-is_declarations.true
+    rw c.into.ensures
+    (not_bare a.file.now a.out a.words a.sets none b.bundle _ c.in_ok-sections_fault.ensures refl c.is_declarations.result c.is_declarations.ensures
+    c.if-not-is_declarations.true)
 
 pub returns-clause-fault : goal.returns-clause-fault
 returns-clause-fault c =

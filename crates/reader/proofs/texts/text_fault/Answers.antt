@@ -22,7 +22,7 @@ pub returns-then-not-text_fine : goal.returns-then-not-text_fine
 returns-then-not-text_fine c =
     let told = rw (c.symbols-symbols.ensures.0, c.variables-variables.ensures.0) at c.in_ok-scan.ensures in
     let sorts = scan_passes c.args.bundle.now c.args.text.now _ told c.text_fine.result c.text_fine.ensures refl in
-    ap (λ (q : Bool). cond q (fault 0 0) (fault 8 0)) (sym c.if-not-text_fine.true) ∙ sorts
+    rw c.into.ensures (ap (λ (q : Bool). cond q (fault 0 0) (fault 8 0)) (sym c.if-not-text_fine.true) ∙ sorts)
 
 pub returns : goal.returns
 returns c =

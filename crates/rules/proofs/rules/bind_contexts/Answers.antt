@@ -3,7 +3,6 @@ use Rattle.bundle.specs.RecordWords.{as_step}
 use Rattle.logic.specs.Tests.{passed}
 use Rattle.logic.specs.Rules.{inner_by, outer_by, bind_contexts_by}
 use Rattle.images.specs.LentReading.{step_in}
-use Rattle.images.proofs.EntryNumbers.{fixes_number_is, replaces_number_is}
 use Rattle.rules.proofs.SameBundle.{along}
 use Rattle.rules.proofs.rules.bind_contexts.Goals as goal
 
@@ -13,8 +12,8 @@ returns c =
     let taken = c.args.taken.now in
     along (λ b. passed (bind_contexts_by (step_in taken.bundle taken.bed) b (as_step c.args.s))) c.bundle-bundle.ensures
     (rw (
-      replaces_number_is c.number.ensures,
-      fixes_number_is c.number-2.ensures,
+      c.number.ensures,
+      c.number-2.ensures,
       ← c.term_field-x.ensures,
       ← c.term_field-y.ensures,
       ← c.first_item-premise.ensures,

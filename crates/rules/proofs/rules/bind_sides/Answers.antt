@@ -7,7 +7,7 @@ use lib.ListN.{length}
 use Rattle.bundle.specs.Bundle.{Bundle, term_of}
 use Rattle.logic.specs.Rules.{bind_sides_by}
 use Rattle.free_variables.specs.TermSets.{free_in}
-use Rattle.free_variables.proofs.FreeWords.{free_zero, free_past, set_within}
+use Rattle.free_variables.proofs.FreeWords.{free_zero, free_past}
 use Rattle.images.specs.ContextRows.{image_at}
 use Rattle.images.specs.LentReading.{images_in}
 use Rattle.rules.specs.WordSides.{hit_by}

@@ -91,7 +91,7 @@ returns-then-free_in_image c =
         low = low;
         few = omega (arith, rw c.bundle-bundle.ensures at c.variables.ensures.0);
         member = l.invariant.part r.result (r.ensures.here low);
-        here = rw (← (rw c.bundle-bundle.ensures at c.image_of-image.ensures), ← c.free_in_image.ensures, c.if-free_in_image.true);
+        here = rw (← (rw (c.variables-in-loop-left.ensures.0, c.bundle-bundle.ensures) at c.image_of-image.ensures), ← c.free_in_image.ensures, c.if-free_in_image.true);
       }),
     )
 
@@ -115,7 +115,7 @@ loop-left-preserved c =
     let r = c.lowest_bit-i in
     rw c.without_bit-left.ensures
     (left_on a.word a.base last hit l.left l.invariant r.result (omega (arith, c.without_bit-left.ensures))
-    (rw (← (rw c.bundle-bundle.ensures at c.image_of-image.ensures), ← c.free_in_image.ensures, c.if-free_in_image.false)))
+    (rw (← (rw (c.variables-in-loop-left.ensures.0, c.bundle-bundle.ensures) at c.image_of-image.ensures), ← c.free_in_image.ensures, c.if-free_in_image.false)))
 
 pub returns : goal.returns
 returns c =

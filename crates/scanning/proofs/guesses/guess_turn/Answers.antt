@@ -1,14 +1,18 @@
 -- `guesses::guess_turn` meets its contract.
+use native.Mathlib.Omega.{arith}
 use mathlib.Core.Path.{sym, ◌∙◌}
 use Rattle.spots.proofs.RunLaws.{run_fits}
 use Rattle.spots.proofs.GuessLaws.{turned_word, turned_open, turned_empty, turned_close}
 use Rattle.scanning.proofs.guesses.guess_turn.Goals as goal
 
-pub guess_word-after-requires : goal.guess_word-after-requires
-guess_word-after-requires c = run_fits _ _ _ c.requires.0 c.run_end-end.ensures
+pub slice_bounds-guess_word-count : goal.slice_bounds-guess_word-count
+slice_bounds-guess_word-count c = let f = run_fits _ _ _ c.requires.0 c.run_end-end.ensures in omega (arith, f.0, f.1)
 
-pub lexeme_from-next-requires : goal.lexeme_from-next-requires
-lexeme_from-next-requires c = (run_fits _ _ _ c.requires.0 c.run_end-end.ensures).1
+pub slice_bounds-guess_word-start : goal.slice_bounds-guess_word-start
+slice_bounds-guess_word-start c = let f = run_fits _ _ _ c.requires.0 c.run_end-end.ensures in omega (arith, f.0, f.1)
+
+pub slice_bounds-guess_word-end : goal.slice_bounds-guess_word-end
+slice_bounds-guess_word-end c = let f = run_fits _ _ _ c.requires.0 c.run_end-end.ensures in omega (arith, f.0, f.1)
 
 pub returns-then-class-eq6 : goal.returns-then-class-eq6
 returns-then-class-eq6 c =

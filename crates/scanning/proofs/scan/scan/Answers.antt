@@ -2,29 +2,12 @@
 use borrow.Author.Rules.{rules}
 use native.Mathlib.Omega.{arith}
 use mathlib.Core.Path.{refl}
-use Rattle.std.proofs.lemmas.Result.{err_from_is_err_and}
 use Rattle.spots.specs.Judgement.{declared_by}
-use Rattle.spots.proofs.ScanLaws.{passing_start, passing_stop, passing_on, passing_read, passing_short}
+use Rattle.spots.proofs.ScanLaws.{passing_start, passing_on, passing_read, passing_short}
 use Rattle.scanning.proofs.scan.scan.Goals as goal
 
 pub loop-i-init : goal.loop-i-init
 loop-i-init c = (passing_start _ _ _ _ c.lexeme_from-i.ensures, refl)
-
-pub turn-requires : goal.turn-requires
-turn-requires c =
-    record {
-      inside = c.loop-i-test.true;
-      room = omega (arith, c.requires.0, c.loop-i.invariant.1);
-      symbols = c.requires.1;
-      variables = c.requires.2;
-      scanning = c.loop-i.invariant.0.scanning;
-    }
-
-pub returns-in_err-t : goal.returns-in_err-t
-returns-in_err-t c =
-    let p = err_from_is_err_and c.from_residual.result c.from_residual.ensures.1 in
-    rw (p.1, p.2)
-    (passing_stop (declared_by c.args.symbols c.args.variables) _ _ c.loop-i.p _ c.loop-i.invariant.0 c.turn.new.area _ c.in_err-t.ensures)
 
 pub loop-i-smaller : goal.loop-i-smaller
 loop-i-smaller c =

@@ -6,13 +6,13 @@ use Rattle.std.proofs.lemmas.Result.{err_from_is_err_and}
 use Rattle.spots.specs.Judgement.{declared_by}
 use Rattle.spots.proofs.RunLaws.{run_fits}
 use Rattle.spots.proofs.ScanLaws.{lettered, turned_run, turned_inside, turned_closed, turned_not_inside, turned_not_closed, turned_stray}
-use Rattle.spots.proofs.ScanLaws.{first_cell, scanning_low, scanning_fits, scanning_some}
+use Rattle.spots.proofs.ScanLaws.{first_cell, turning_low, turning_fits, turning_some}
 use Rattle.scanning.proofs.scan.turn.Goals as goal
 
 pub word-requires : goal.word-requires
 word-requires c =
     let f = run_fits _ _ _ c.requires.inside c.run_end-end.ensures in
-    (scanning_low (declared_by c.args.symbols c.args.variables) _ _ c.args.p _ c.requires.scanning, f.0, f.1, c.requires.symbols, c.requires.variables)
+    (turning_low c.requires, f.0, f.1, c.requires.symbols, c.requires.variables)
 
 pub lexeme_from-next-requires : goal.lexeme_from-next-requires
 lexeme_from-next-requires c = (run_fits _ _ _ c.requires.inside c.run_end-end.ensures).1
@@ -31,19 +31,15 @@ returns-then-class-eq6 c = λ held st.
     c.lexeme_from-next.ensures (Ok _) (sym c.in_ok-after.was ∙ c.word.ensures)
 
 pub overflow_mul-spot : goal.overflow_mul-spot
-overflow_mul-spot c =
-    let l = scanning_low (declared_by c.args.symbols c.args.variables) _ _ c.args.p _ c.requires.scanning in
-    omega (arith, l)
+overflow_mul-spot c = omega (arith, turning_low c.requires)
 
 pub cell-requires : goal.cell-requires
-cell-requires c =
-    let l = scanning_low (declared_by c.args.symbols c.args.variables) _ _ c.args.p _ c.requires.scanning in
-    omega (arith, l)
+cell-requires c = omega (arith, turning_low c.requires)
 
 pub push-place-requires : goal.push-place-requires
 push-place-requires c =
-    let f = scanning_fits (declared_by c.args.symbols c.args.variables) _ _ c.args.p _ c.requires.scanning in (
-      scanning_low (declared_by c.args.symbols c.args.variables) _ _ c.args.p _ c.requires.scanning,
+    let f = turning_fits c.requires in (
+      turning_low c.requires,
       f.0,
       omega (arith, c.requires.room),
       omega
@@ -67,30 +63,24 @@ returns-then-class-eq3 c = λ held st.
     (first_cell c.args.p.spot _ (c.from-inside.ensures ∙ c.cell.ensures)) c.if-inside-lt20.false
 
 pub overflow_mul-spot-then-class-eq4 : goal.overflow_mul-spot-then-class-eq4
-overflow_mul-spot-then-class-eq4 c =
-    let l = scanning_low (declared_by c.args.symbols c.args.variables) _ _ c.args.p _ c.requires.scanning in
-    omega (arith, l)
+overflow_mul-spot-then-class-eq4 c = omega (arith, turning_low c.requires)
 
 pub overflow_add-spot : goal.overflow_add-spot
-overflow_add-spot c =
-    let l = scanning_low (declared_by c.args.symbols c.args.variables) _ _ c.args.p _ c.requires.scanning in
-    omega (arith, l)
+overflow_add-spot c = omega (arith, turning_low c.requires)
 
 pub cell-requires-then-class-eq4 : goal.cell-requires-then-class-eq4
-cell-requires-then-class-eq4 c =
-    let l = scanning_low (declared_by c.args.symbols c.args.variables) _ _ c.args.p _ c.requires.scanning in
-    omega (arith, l)
+cell-requires-then-class-eq4 c = omega (arith, turning_low c.requires)
 
 pub pop-place-requires : goal.pop-place-requires
 pop-place-requires c =
-    let f = scanning_fits (declared_by c.args.symbols c.args.variables) _ _ c.args.p _ c.requires.scanning in
+    let f = turning_fits c.requires in
     let b = c.from-back.ensures ∙ c.cell-then-class-eq4.ensures in
     record {
-      spot = scanning_low (declared_by c.args.symbols c.args.variables) _ _ c.args.p _ c.requires.scanning;
+      spot = turning_low c.requires;
       fits = f.0;
       room = c.requires.room;
       inside = omega (arith, c.requires.inside);
-      some = scanning_some (declared_by c.args.symbols c.args.variables) _ _ c.args.p _ c.requires.scanning _ b c.if-back-lt99.true;
+      some = turning_some c.requires b c.if-back-lt99.true;
       behind = b;
       taken = c.if-back-lt99.true;
     }

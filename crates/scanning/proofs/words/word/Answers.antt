@@ -3,19 +3,19 @@ use native.Mathlib.Omega.{arith}
 use mathlib.Core.Path.{◌∙◌, sym, ap}
 use Rattle.grammar.specs.Bytes.{word_of}
 use Rattle.lexing.specs.Codes.{word_code}
+use Rattle.lexing.proofs.LexemeLaws.{word_small}
 use Rattle.spots.specs.Runs.{part}
 use Rattle.spots.proofs.WordLaws.{name_code, no_name_code, met_word, met_name, met_unknown, met_refused}
-use Rattle.spots.proofs.TraceLaws.{word_range}
 use Rattle.scanning.proofs.words.word.Goals as goal
 
 pub overflow_add-row : goal.overflow_add-row
 overflow_add-row c =
-    let r = word_range (word_of (part c.args.text.now c.args.start c.args.end)) in
+    let r = word_small (word_of (part c.args.text.now c.args.start c.args.end)) in
     omega (arith, c.code.ensures ∙ ap word_code c.word_of-word.ensures, r.1, c.requires.0)
 
 pub cell-requires : goal.cell-requires
 cell-requires c =
-    let r = word_range (word_of (part c.args.text.now c.args.start c.args.end)) in
+    let r = word_small (word_of (part c.args.text.now c.args.start c.args.end)) in
     omega (arith, c.code.ensures ∙ ap word_code c.word_of-word.ensures, r.1, c.requires.0)
 
 pub returns-then-next-ge20 : goal.returns-then-next-ge20

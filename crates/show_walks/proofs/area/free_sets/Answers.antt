@@ -5,11 +5,6 @@ use Rattle.bundle.specs.Limits.{Within}
 use Rattle.free_variables.proofs.HeldSets.{free_sets}
 use Rattle.show_walks.proofs.area.free_sets.Goals as goal
 
-pub free_sets-requires : goal.free_sets-requires
-free_sets-requires c =
-    let within : Within (own_counts c.args.bundle.now) = rw c.counts-limits.ensures.0 at c.counts-limits.ensures.1 in
-    (omega arith, omega arith, omega arith, omega arith)
-
 pub returns : goal.returns
 returns c =
     let within : Within (own_counts c.args.bundle.now) = rw c.counts-limits.ensures.0 at c.counts-limits.ensures.1 in

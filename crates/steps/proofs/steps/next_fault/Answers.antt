@@ -2,7 +2,7 @@
 use mathlib.Core.Path.{sym, refl, ◌∙◌}
 use Rattle.bundle.specs.RecordWords.{as_step}
 use Rattle.images.specs.LentReading.{reading_in}
-use Rattle.steps.proofs.RuleOf.{refers_context, refers_left, refers_right}
+use Rattle.steps.proofs.RuleOf.{refers_places}
 use Rattle.steps.proofs.Verdicts.{after_refers, after_rule}
 use Rattle.steps.proofs.steps.next_fault.Goals as goal
 
@@ -13,13 +13,8 @@ returns-then-not-step_refers c =
 
 pub scoped_fault-requires : goal.scoped_fault-requires
 scoped_fault-requires c =
-    let b = c.args.known.now.sets.bundle in
-    let s = as_step c.args.s in
-    let e = c.all_numbers-before.result in
-    let refers = rw c.bundle-bundle.ensures at (sym c.step_refers.ensures ∙ c.if-not-step_refers.false) in
-    let left = refers_left b s e refers in
-    let right = refers_right b s e refers in
-    (refers_context b s e refers, left.0, left.1, right.0, right.1)
+    refers_places c.args.known.now.sets.bundle (as_step c.args.s) c.all_numbers-before.result
+    (rw c.bundle-bundle.ensures at (sym c.step_refers.ensures ∙ c.if-not-step_refers.false))
 
 pub returns : goal.returns
 unfolding reading_in

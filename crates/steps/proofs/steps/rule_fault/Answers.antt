@@ -2,15 +2,14 @@
 use mathlib.Core.Path.{refl, sym, ◌∙◌}
 use Rattle.bundle.specs.RecordWords.{as_step}
 use Rattle.images.specs.LentReading.{reading_in}
-use Rattle.rules.proofs.RuleNumbers.{refl_number_is}
 use Rattle.steps.proofs.Verdicts.{other_judged}
 use Rattle.steps.proofs.steps.rule_fault.Goals as goal
 
 pub refl_verdict-requires : goal.refl_verdict-requires
-refl_verdict-requires c = (c.requires, c.if-s-number.true ∙ refl_number_is c.number.ensures)
+refl_verdict-requires c = (c.requires, c.if-s-number.true ∙ c.number.ensures)
 
 pub step_matches-requires : goal.step_matches-requires
-step_matches-requires c = λ e. c.if-s-number.false (e ∙ sym (refl_number_is c.number.ensures))
+step_matches-requires c = λ e. c.if-s-number.false (e ∙ sym c.number.ensures)
 
 pub returns-then-not-step_matches : goal.returns-then-not-step_matches
 unfolding reading_in
@@ -18,7 +17,7 @@ returns-then-not-step_matches c =
     let k = c.args.known.now in
     let g = reading_in k c.args.bed.now in
     let same = rw (c.of.ensures, c.bundle.ensures) at (c.step_matches.ensures g) in
-    other_judged g k.sets.bundle (as_step c.args.s) _ (λ e. c.if-s-number.false (e ∙ sym (refl_number_is c.number.ensures)))
+    other_judged g k.sets.bundle (as_step c.args.s) _ (λ e. c.if-s-number.false (e ∙ sym c.number.ensures))
     (rw (← same refl, c.if-not-step_matches.true)) tt
 
 pub returns-then-not-step_sides : goal.returns-then-not-step_sides
@@ -27,7 +26,7 @@ returns-then-not-step_sides c =
     let k = c.args.known.now in
     let g = reading_in k c.args.bed.now in
     let same = rw (c.of.ensures, c.bundle.ensures) at (c.step_matches.ensures g) in
-    other_judged g k.sets.bundle (as_step c.args.s) _ (λ e. c.if-s-number.false (e ∙ sym (refl_number_is c.number.ensures)))
+    other_judged g k.sets.bundle (as_step c.args.s) _ (λ e. c.if-s-number.false (e ∙ sym c.number.ensures))
     (rw (← same refl, c.if-not-step_matches.false, ← c.step_sides.ensures, c.if-not-step_sides.true)) tt
 
 pub returns : goal.returns
@@ -36,5 +35,5 @@ returns c =
     let k = c.args.known.now in
     let g = reading_in k c.args.bed.now in
     let same = rw (c.of.ensures, c.bundle.ensures) at (c.step_matches.ensures g) in
-    other_judged g k.sets.bundle (as_step c.args.s) _ (λ e. c.if-s-number.false (e ∙ sym (refl_number_is c.number.ensures)))
+    other_judged g k.sets.bundle (as_step c.args.s) _ (λ e. c.if-s-number.false (e ∙ sym c.number.ensures))
     (rw (← same refl, c.if-not-step_matches.false, ← c.step_sides.ensures, c.if-not-step_sides.false)) refl

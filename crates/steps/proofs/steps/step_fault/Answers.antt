@@ -1,5 +1,4 @@
 -- `steps::step_fault` meets its contract: the words of the step, the walk over its premises, and then the rest.
-use native.Mathlib.Omega.{arith}
 use Prim.Native.Nat.{ℕ, ◌-◌, ◌<◌}
 use mathlib.Core.Path.{◌≡◌, refl, sym, ap, ◌∙◌}
 use lib.ListN.{length}
@@ -8,7 +7,7 @@ use Rattle.bundle.specs.Links.{items}
 use Rattle.bundle.specs.Lists.{numbers, each}
 use Rattle.bundle.specs.RecordWords.{as_step}
 use Rattle.images.specs.LentReading.{reading_in}
-use Rattle.steps.proofs.RuleOf.{refers_context, refers_left, refers_right, refers_earlier, list_past}
+use Rattle.steps.proofs.RuleOf.{refers_places, refers_earlier, list_past}
 use Rattle.steps.proofs.Verdicts.{after_refers, after_rule, on_ok}
 use Rattle.steps.proofs.steps.step_fault.Goals as goal
 
@@ -33,13 +32,8 @@ returns-then-not-step_refers-clause-fact c =
 
 pub scoped_fault-requires : goal.scoped_fault-requires
 scoped_fault-requires c =
-    let b = c.args.known.now.sets.bundle in
-    let s = as_step c.step-s.result in
-    let e = c.far_lower-before.result in
-    let refers = rw c.bundle-bundle.ensures at (sym c.step_refers.ensures ∙ c.if-not-step_refers.false) in
-    let left = refers_left b s e refers in
-    let right = refers_right b s e refers in
-    (refers_context b s e refers, left.0, left.1, right.0, right.1)
+    refers_places c.args.known.now.sets.bundle (as_step c.step-s.result) c.far_lower-before.result
+    (rw c.bundle-bundle.ensures at (sym c.step_refers.ensures ∙ c.if-not-step_refers.false))
 
 pub returns-clause-fact : goal.returns-clause-fact
 unfolding reading_in

@@ -1,14 +1,15 @@
 -- `steps::step_matches` meets its contract: in each arm the rule is known.
-use mathlib.Core.Path.{sym, ap, ◌∙◌}
+use native.Mathlib.Omega.{arith}
+use mathlib.Core.Path.{◌≡◌, sym, ap, ◌∙◌}
 use mathlib.Core.Logic.{⊎_elim}
 use Rattle.bundle.specs.Bundle.{Step}
 use Prim.Native.Nat.{ℕ}
 use Rattle.logic.specs.declared.Walk.{Walk}
 use Rattle.logic.specs.Named.{rule_in}
 use Rattle.logic.specs.Tests.{passed}
-use Rattle.logic.specs.Rules.{cong_walk_by, trans_tests_by, let_tests_by, matches_by}
+use Rattle.logic.specs.Rules.{REFL, CONG, LET, cong_walk_by, trans_tests_by, let_tests_by, matches_by}
+use Rattle.logic.proofs.RuleNumbers.{number_of_rule}
 use Rattle.bundle.specs.RecordWords.{as_step}
-use Rattle.rules.proofs.RuleNumbers.{refl_number_is, cong_number_is, let_number_not}
 use Rattle.steps.proofs.RuleOf.{matches_cong, matches_trans, matches_bind, matches_let}
 use Rattle.steps.proofs.steps.step_matches.Goals as goal
 
@@ -20,10 +21,10 @@ returns-in-Cong c g same =
     let i = c.in-Cong in
     ⊎_elim
     (λ e. let rule = c.in-Some.ensures ∙ ap rule_in e in
-    ap (λ (x : Walk). x.passes) (w.value (cong_number_is rule)) ∙ ap (λ (u : ℕ → Step). (cong_walk_by u b s).passes) (sym same)
+    ap (λ (x : Walk). x.passes) (w.value (number_of_rule c.args.s.rule CONG rule (λ z. cc))) ∙ ap (λ (u : ℕ → Step). (cong_walk_by u b s).passes) (sym same)
     ∙ matches_cong g b s rule)
     (λ e. let rule = c.in-Some.ensures ∙ ap rule_in e in
-    w.passes_value (let_number_not rule) ∙ ap (λ (u : ℕ → Step). passed (let_tests_by u b s)) (sym same)
+    w.passes_value (λ two. let five : c.args.s.rule ≡ 5 = number_of_rule c.args.s.rule LET rule (λ z. cc) in omega arith) ∙ ap (λ (u : ℕ → Step). passed (let_tests_by u b s)) (sym same)
     ∙ matches_let g b s rule) i.is
 
 pub returns-in-Trans : goal.returns-in-Trans
@@ -39,7 +40,7 @@ returns-in-Bind c g same =
     (matches_bind g c.args.taken.now.bundle (as_step c.args.s) (c.in-Some.ensures ∙ ap rule_in c.in-Bind.is))
 
 pub returns-in-Refl : goal.returns-in-Refl
-returns-in-Refl c g same = absurd (c.requires (refl_number_is (c.in-Some.ensures ∙ ap rule_in c.in-Refl.is)))
+returns-in-Refl c g same = absurd (c.requires (number_of_rule c.args.s.rule REFL (c.in-Some.ensures ∙ ap rule_in c.in-Refl.is) (λ z. cc)))
 
 pub returns-in_default : goal.returns-in_default
 unfolding matches_by

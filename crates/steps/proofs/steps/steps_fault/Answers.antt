@@ -1,7 +1,5 @@
 -- `steps::steps_fault` meets its contract: the arrays are zero at first and large enough.
 use native.Mathlib.Omega.{arith}
-use Prim.Native.Nat.{◌≤◌, ◌<◌}
-use lib.ListN.{length}
 use Rattle.bundle.proofs.LinkNotes.{zeros}
 use Rattle.steps.proofs.steps.steps_fault.Goals as goal
 

@@ -1,6 +1,6 @@
 -- `Uniting::walk_out` meets its contract. The invariant: what is known is so.
 use native.Mathlib.Omega.{arith}
-use mathlib.Core.Path.{◌≡◌, refl, sym, ap, ◌∙◌}
+use mathlib.Core.Path.{◌≡◌, refl, sym, ◌∙◌}
 use mathlib.Core.Bool.{false}
 use Rattle.bundle.proofs.Walks.{walk_le, walk_length}
 use Rattle.unions.specs.Unions.{known}

@@ -1,7 +1,7 @@
 -- `enter` meets its contract: what is found in the parent, with what the entry says over it, is what is found in the context.
 use native.Mathlib.Omega.{arith}
-use mathlib.Core.Path.{◌≡◌, refl, sym, ap, ◌∙◌}
-use Prim.Native.Nat.{ℕ, ◌≤◌, ◌<◌}
+use mathlib.Core.Path.{◌≡◌, refl, sym, ◌∙◌}
+use Prim.Native.Nat.{ℕ, ◌<◌}
 use mathlib.Core.Bool.{true, cond}
 use lib.Dec.{eqb}
 use Rattle.bundle.specs.Links.{items}
@@ -10,8 +10,7 @@ use Rattle.logic.specs.Contexts.{lookup, or_above, found, as_image, moved_by, co
 use Rattle.logic.proofs.Found.{found_fixes, found_replaces}
 use Rattle.images.specs.ContextRows.{fixed_place, as_mention}
 use Rattle.logic.proofs.EntryFacts.{lower_parent, fixes_number, replaces_kind, replaces_lists}
-use Rattle.images.proofs.EntryNumbers.{fixes_number_is}
-use Rattle.images.proofs.ContextRows.{room_on, agrees_copied, images_on, sets_on}
+use Rattle.images.proofs.ContextRows.{room_on, agrees_copied, rows_on}
 use Rattle.images.proofs.rows.Rows.enter.Goals as goal
 
 -- the parent lies below
@@ -39,7 +38,7 @@ set_image-requires c =
     let k = c.args.k in
     let p = rw (← c.self.view_is) at c.requires in
     let i = rw (← c.self.view_is) at c.inherit.ensures in
-    let f = fixes_number _ k p.4 (sym c.context_field-kind.ensures ∙ c.if-kind-number.true ∙ fixes_number_is c.number.ensures) in
+    let f = fixes_number _ k p.4 (sym c.context_field-kind.ensures ∙ c.if-kind-number.true ∙ c.number.ensures) in
     let first = c.context_field-first.ensures in
     let low = low_parent _ p.4 c.context_field-parent.ensures in (
       room_on _ c.inherit.new.self k i.0 p.2,
@@ -59,7 +58,7 @@ replace-requires c =
     let i = rw (← c.self.view_is) at c.inherit.ensures in
     let first = c.context_field-first.ensures in
     let second = c.context_field-second.ensures in
-    let kind = replaces_kind _ k p.4 (λ e. c.if-kind-number.false (c.context_field-kind.ensures ∙ e ∙ sym (fixes_number_is c.number.ensures))) in
+    let kind = replaces_kind _ k p.4 (λ e. c.if-kind-number.false (c.context_field-kind.ensures ∙ e ∙ sym c.number.ensures)) in
     let f = replaces_lists _ k p.4 kind in
     let low = low_parent _ p.4 c.context_field-parent.ensures in (
       room_on _ c.inherit.new.self k i.0 p.2,
@@ -76,13 +75,10 @@ returns-then-kind-number-clause-entered c =
     let p = rw (← c.self.view_is) at c.requires in
     let i = rw (← c.self.view_is) at c.inherit.ensures in
     let parent = c.context_field-parent.ensures in
-    let kind = sym c.context_field-kind.ensures ∙ c.if-kind-number.true ∙ fixes_number_is c.number.ensures in
+    let kind = sym c.context_field-kind.ensures ∙ c.if-kind-number.true ∙ c.number.ensures in
     let own = fixes_own _ k p.4 parent c.context_field-first.ensures kind in
     let low = low_parent _ p.4 parent in
-    rw (← c.self.view_is) (
-      images_on _ c.inherit.new.self k _ low p.0 p.1 i.0 i.1 c.set_image.new.self p.2 _ c.set_image.ensures own,
-      sets_on _ c.inherit.new.self k _ low p.0 p.1 i.0 i.1 c.set_image.new.self p.2 _ c.set_image.ensures own,
-    )
+    rw (← c.self.view_is) (rows_on _ c.inherit.new.self k _ low p.0 p.1 i.0 i.1 c.set_image.new.self p.2 _ c.set_image.ensures own)
 
 pub returns-else-kind-number-clause-entered : goal.returns-else-kind-number-clause-entered
 returns-else-kind-number-clause-entered c =
@@ -90,10 +86,7 @@ returns-else-kind-number-clause-entered c =
     let p = rw (← c.self.view_is) at c.requires in
     let i = rw (← c.self.view_is) at c.inherit.ensures in
     let parent = c.context_field-parent.ensures in
-    let kind = replaces_kind _ k p.4 (λ e. c.if-kind-number.false (c.context_field-kind.ensures ∙ e ∙ sym (fixes_number_is c.number.ensures))) in
+    let kind = replaces_kind _ k p.4 (λ e. c.if-kind-number.false (c.context_field-kind.ensures ∙ e ∙ sym c.number.ensures)) in
     let own = replaces_own _ k p.4 parent c.context_field-first.ensures i.0.bundle kind c.context_field-second.ensures in
     let low = low_parent _ p.4 parent in
-    rw (← c.self.view_is) (
-      images_on _ c.inherit.new.self k _ low p.0 p.1 i.0 i.1 c.replace.new.self p.2 _ c.replace.ensures own,
-      sets_on _ c.inherit.new.self k _ low p.0 p.1 i.0 i.1 c.replace.new.self p.2 _ c.replace.ensures own,
-    )
+    rw (← c.self.view_is) (rows_on _ c.inherit.new.self k _ low p.0 p.1 i.0 i.1 c.replace.new.self p.2 _ c.replace.ensures own)

@@ -10,7 +10,7 @@ use Rattle.pair_walk.proofs.path.Path.cross.Goals as goal
 pub cross-before-requires : goal.cross-before-requires
 cross-before-requires c =
     let h = rw (← c.self.view_is) at c.requires in
-    (h.1, h.2, (kept_room c.self.invariant h.0).2)
+    (h.1, h.2, c.self.invariant.bits, (kept_room c.self.invariant h.0).2)
 
 pub push-requires : goal.push-requires
 push-requires c =
@@ -42,7 +42,7 @@ invariant_of-self c =
     let before = c.cross-before.ensures.1 (crossed_by (frames s.agenda.now s.height)) (sym k.crossing.deep) k.crossing.placed in
     rw (add-one s.height, add-one s.depth)
     (kept_more s.binders c.cross-before.new.self s.agenda.now c.push.new.agenda s.most s.height s.depth c.args.x c.args.y c.cross-before.result.left
-    c.cross-before.result.right k (kept_room k h.0).0 c.push.ensures.0 c.push.ensures.1 before.0)
+    c.cross-before.result.right k c.cross-before.ensures.0 (kept_room k h.0).0 c.push.ensures.0 c.push.ensures.1 before.0)
 
 pub returns : goal.returns
 unfolding frame_of

@@ -8,7 +8,7 @@ pub invariant_of-result : goal.invariant_of-result
 unfolding frames crossed_by
 invariant_of-result c =
     let h = c.requires in
-    record { long = h.1; high = omega arith; few = h.2; crossing = record { placed = h.0; deep = refl } }
+    record { long = h.1; high = omega arith; few = h.2; bits = h.3; crossing = record { placed = h.0; deep = refl } }
 
 pub returns : goal.returns
 unfolding frames

@@ -1,75 +1,28 @@
--- `Path::open` meets its contract, by the kind.
+-- `Path::open` meets its contract: `open` of its agenda.
 use native.Mathlib.Omega.{arith}
-use mathlib.Core.Path.{sym, ap, ◌∙◌}
-use lib.ListN.{length}
-use Rattle.bundle.specs.Bundle.{Bundle, term_of}
-use Rattle.bundle.specs.Links.{starts_at}
-use Rattle.bundle.proofs.Walks.{walk_start_le}
-use Rattle.pair_walk.specs.Agenda.{with_frames}
-use Rattle.pair_walk.proofs.ByKind.{open_variable, open_binder, open_none, open_some}
+use mathlib.Core.Path.{ap, ◌∙◌}
+use Rattle.pair_walk.specs.Agenda.{frames, crossed_by}
+use Rattle.pair_walk.proofs.FrameWords.{kept_same}
+use Rattle.pair_walk.proofs.Paths.{kept_room}
+use Rattle.pair_walk.proofs.ByKind.{opened_crossed}
 use Rattle.pair_walk.proofs.path.Path.open.Goals as goal
 
-pub returns-then-kind-number : goal.returns-then-kind-number
-returns-then-kind-number c =
-    let a = c.args in
-    let p = a.self.now in
-    let k = c.term_field-kind.ensures ∙ ap (λ (x : Bundle). (term_of x a.l).kind) c.bundle-bundle.ensures in
-    ap (with_frames p) (sym (open_variable p.sets.bundle a.l a.r p.frames k (c.if-kind-number.true ∙ c.number.ensures)))
+pub open-self-inside-requires : goal.open-self-inside-requires
+open-self-inside-requires c =
+    let h = rw (← c.self.view_is) at c.requires in
+    rw c.bundle.ensures ((kept_room c.self.invariant h.0).1, h.1)
 
-pub push-requires : goal.push-requires
-push-requires c =
+pub invariant_of-self : goal.invariant_of-self
+invariant_of-self c =
     let a = c.args in
-    let h = c.requires in
-    let k = c.term_field-kind.ensures ∙ ap (λ (x : Bundle). (term_of x a.l).kind) c.bundle-bundle.ensures in
-    let known = h.1 (λ e. c.if-kind-number.false (k ∙ e ∙ sym c.number.ensures)) in
-    let few = rw c.bundle-bundle.ensures at c.terms.ensures in
-    (h.0, known.0.0, omega (arith, known.0.1, few), omega (arith, known.1.1, few), omega arith, omega arith)
-
-pub returns-then-is_binder : goal.returns-then-is_binder
-returns-then-is_binder c =
-    let a = c.args in
-    let p = a.self.now in
-    let k = c.term_field-kind.ensures ∙ ap (λ (x : Bundle). (term_of x a.l).kind) c.bundle-bundle.ensures in
-    c.push.ensures ∙ ap (with_frames p) (sym (open_binder p.sets.bundle a.l a.r p.frames k (sym c.is_binder.ensures ∙ c.if-is_binder.true)))
-
-pub returns-then-kind-number-2 : goal.returns-then-kind-number-2
-returns-then-kind-number-2 c =
-    let a = c.args in
-    let p = a.self.now in
-    let b = c.bundle-bundle in
-    let k = c.term_field-kind.ensures ∙ ap (λ (x : Bundle). (term_of x a.l).kind) b.ensures in
-    let i = c.first_link-i.ensures ∙ ap (starts_at (length b.result.now.links)) c.term_field.ensures
-    ∙ ap (λ (x : Bundle). starts_at (length x.links) (term_of x a.l).b) b.ensures in
-    let j = c.first_link-j.ensures ∙ ap (starts_at (length b.result.now.links)) c.term_field-2.ensures
-    ∙ ap (λ (x : Bundle). starts_at (length x.links) (term_of x a.r).b) b.ensures in
-    ap (with_frames p) (sym (open_none p.sets.bundle a.l a.r p.frames k i j (rw c.number-2.ensures at c.if-kind-number-2.true)))
-
-pub push-requires-2 : goal.push-requires-2
-push-requires-2 c =
-    let a = c.args in
-    let h = c.requires in
-    let b = c.bundle-bundle in
-    let k = c.term_field-kind.ensures ∙ ap (λ (x : Bundle). (term_of x a.l).kind) b.ensures in
-    let known = h.1 (λ e. c.if-kind-number.false (k ∙ e ∙ sym c.number.ensures)) in
-    let few = rw b.ensures at c.terms.ensures in (
-      h.0,
-      known.0.0,
-      omega (arith, known.0.1, few),
-      omega (arith, known.1.1, few),
-      omega (arith, walk_start_le b.result.now c.term_field.result c.first_link-i.result c.first_link-i.ensures, c.links.ensures),
-      omega (arith, walk_start_le b.result.now c.term_field-2.result c.first_link-j.result c.first_link-j.ensures, c.links.ensures),
-    )
+    let s = c.self.inside in
+    let h = rw (← c.self.view_is) at c.requires in
+    let e = rw c.bundle.ensures at c.open-self-inside.ensures in
+    kept_same s.binders s.agenda.now c.open-self-inside.new.agenda s.most s.height _ s.depth c.self.invariant
+    (omega (arith, e.1, (kept_room c.self.invariant h.0).0)) e.0
+    (ap crossed_by e.2 ∙ opened_crossed s.binders.sets.bundle a.l a.r (frames s.agenda.now s.height))
 
 pub returns : goal.returns
 returns c =
-    let a = c.args in
-    let p = a.self.now in
-    let b = c.bundle-bundle in
-    let k = c.term_field-kind.ensures ∙ ap (λ (x : Bundle). (term_of x a.l).kind) b.ensures in
-    let i = c.first_link-i.ensures ∙ ap (starts_at (length b.result.now.links)) c.term_field.ensures
-    ∙ ap (λ (x : Bundle). starts_at (length x.links) (term_of x a.l).b) b.ensures in
-    let j = c.first_link-j.ensures ∙ ap (starts_at (length b.result.now.links)) c.term_field-2.ensures
-    ∙ ap (λ (x : Bundle). starts_at (length x.links) (term_of x a.r).b) b.ensures in
-    c.push-2.ensures
-    ∙ ap (with_frames p) (sym (open_some p.sets.bundle a.l a.r p.frames k i j (rw c.number-2.ensures at c.if-kind-number-2.false)
-    (sym c.is_binder.ensures ∙ c.if-is_binder.false) (λ e. c.if-kind-number.false (e ∙ sym c.number.ensures))))
+    let e = rw c.bundle.ensures at c.open-self-inside.ensures in
+    rw (← c.self.view_is, e.2)

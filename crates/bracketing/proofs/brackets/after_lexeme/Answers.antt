@@ -1,9 +1,0 @@
--- `brackets::after_lexeme` meets its contract.
-use Rattle.bracketing.proofs.TextLaws.{leaves_all, leaves_next}
-use Rattle.bracketing.proofs.brackets.after_lexeme.Goals as goal
-
-pub returns-in-Some : goal.returns-in-Some
-returns-in-Some c = leaves_next _ c.in-Some.l c.in-Some.ensures
-
-pub returns-in-None : goal.returns-in-None
-returns-in-None c = leaves_all _ c.in-None.ensures
