@@ -12,6 +12,9 @@ use logic::checks::Failure;
 // Words of 64 bits for the stack: as many as the free sets of all terms may take.
 const STACK: usize = Bundle::SET_WORDS * Bundle::TERMS;
 
+// The output, the scratch and the stack: so many have to be long enough.
+pub const AREAS: usize = 3;
+
 // How many of the three areas are long enough: a count, since check 4 compares what is lent with what is required.
 pub fn long_enough(out: usize, words: usize, sets: usize) -> usize
     ensures { result ≡ long_enough out words sets }

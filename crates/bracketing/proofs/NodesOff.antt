@@ -1,10 +1,11 @@
 -- Every node's test, read off a spelling.
 --     bracket_by_bracket   THE THEOREM
 use Prim.Native.Nat.{ℕ, zero, suc}
-use mathlib.Core.Path.{◌≡◌, refl, ap, ◌∙◌}
-use mathlib.Core.Bool.{Bool, true, false, cond, ◌&&◌, false≢true}
+use mathlib.Core.Path.{◌≡◌, refl, ap, ◌∙◌, sym}
+use mathlib.Core.Bool.{Bool, true, false, cond, ◌&&◌, false≢true, and-true, and-false, and_assoc}
 use mathlib.Core.List.{List, [], ◌∷◌, map}
 use lib.Dec.{eqb, ltb}
+use Rattle.reading.proofs.TermSorts.{known_first, known_rest}
 use Rattle.bundle.specs.Bundle.{Bundle, sort_of_variable}
 use Rattle.bundle.specs.Lists.{same_list, each, different}
 use Rattle.logic.specs.Symbols.{truth_sort, signature_of, argument_sorts}
@@ -27,18 +28,6 @@ use Rattle.bracketing.proofs.SortsOff.{sort_off}
 
 -- ---- truth values
 
-and_true : (p : Bool) → (p && true) ≡ p
-and_true true = refl
-and_true false = refl
-
-and_none : (p : Bool) → (p && false) ≡ false
-and_none true = refl
-and_none false = refl
-
-and_assoc : (p q r : Bool) → (p && (q && r)) ≡ ((p && q) && r)
-and_assoc true q r = refl
-and_assoc false q r = refl
-
 -- a node's own test is made before those of its parts, and Local has it last
 own_last : (t p r : Bool) → (t && (p && r)) ≡ ((p && t) && r)
 own_last true true r = refl
@@ -48,11 +37,11 @@ own_last false false r = refl
 
 own_last_2 : (t p q r : Bool) → (t && (p && (q && r))) ≡ ((p && (q && t)) && r)
 own_last_2 t true q r = own_last t q r
-own_last_2 t false q r = and_none t
+own_last_2 t false q r = and-false t
 
 own_last_3 : (t p q s r : Bool) → (t && (p && (q && (s && r)))) ≡ ((p && (q && (s && t))) && r)
 own_last_3 t true q s r = own_last_2 t q s r
-own_last_3 t false q s r = and_none t
+own_last_3 t false q s r = and-false t
 
 module _ (b : Bundle) where
   abbrev Known : List Name → Type 0
@@ -66,34 +55,26 @@ module _ (b : Bundle) where
   abbrev symbol_as : (w : List ℕ) → Name
   symbol_as w = record { place = symbolOnly; spelled = w }
 
-  first_known : (x : Name) (ns : List Name) → Known (x ∷ ns) → known_in b x ≡ true
-  unfolding all_known
-  first_known x ns e = and_left (known_in b x) (all_known (known_in b) ns) e
-
-  rest_known : (x : Name) (ns : List Name) → Known (x ∷ ns) → Known ns
-  unfolding all_known
-  rest_known x ns e = and_right (known_in b x) (all_known (known_in b) ns) e
-
   variables_known : (xs : List SortedVariable) (ns : List Name) → Known (variable_names xs ns) → Known ns
   unfolding variable_names
   variables_known [] ns e = e
-  variables_known (declares x s ∷ xs) ns e = variables_known xs ns (rest_known (name_as x) (variable_names xs ns) e)
+  variables_known (declares x s ∷ xs) ns e = variables_known xs ns (known_rest b (name_as x) (variable_names xs ns) e)
 
   mutual
     unfolding names
 
     after_known : (φ : Formula) (ns : List Name) → Known (names φ ns) → Known ns
-    after_known (called w) ns e = rest_known _ ns e
+    after_known (called w) ns e = known_rest b _ ns e
     after_known (truth v) ns e = e
     after_known (bracketed φ) ns e = inside_known φ ns e
 
     inside_known : (φ : Bracketed) (ns : List Name) → Known (names_inside φ ns) → Known ns
     inside_known (denies φ) ns e = after_known φ ns e
     inside_known (connects c φ ψ) ns e = after_known ψ ns (after_known φ (names ψ ns) e)
-    inside_known (applies f φ φs) ns e = all_known_lem φs ns (after_known φ (names_of_all φs ns) (rest_known _ _ e))
+    inside_known (applies f φ φs) ns e = all_known_lem φs ns (after_known φ (names_of_all φs ns) (known_rest b _ _ e))
     inside_known (quantifies q x xs φ) ns e = after_known φ ns (variables_known (x ∷ xs) (names φ ns) e)
     inside_known (lets x φ xs ψ) ns e =
-        after_known ψ ns (bound_known xs (names ψ ns) (after_known φ (names_bound xs (names ψ ns)) (rest_known _ _ e)))
+        after_known ψ ns (bound_known xs (names ψ ns) (after_known φ (names_bound xs (names ψ ns)) (known_rest b _ _ e)))
 
     all_known_lem : (φs : Formulas) (ns : List Name) → Known (names_of_all φs ns) → Known ns
     all_known_lem no_formula ns e = e
@@ -101,7 +82,7 @@ module _ (b : Bundle) where
 
     bound_known : (xs : Bindings) (ns : List Name) → Known (names_bound xs ns) → Known ns
     bound_known no_binding ns e = e
-    bound_known (and_binding x φ xs) ns e = bound_known xs ns (after_known φ (names_bound xs ns) (rest_known _ _ e))
+    bound_known (and_binding x φ xs) ns e = bound_known xs ns (after_known φ (names_bound xs ns) (known_rest b _ _ e))
 
   -- a variable's name is no symbol's
   with_v : (w ds : List ℕ) → w ≡ 118 ∷ ds → symbol_called b w ≡ 0
@@ -132,18 +113,18 @@ module _ (b : Bundle) where
 
   joins_accepts : (c : Connective) (s t : ℕ) → joins c s t ≡ accepts b (connective_symbol c s) (s ∷ t ∷ [])
   unfolding joins accepts connective_symbol signature_of argument_sorts
-  joins_accepts conjunction s t = rw and_true
-  joins_accepts disjunction s t = rw and_true
-  joins_accepts implication s t = rw and_true
+  joins_accepts conjunction s t = rw and-true
+  joins_accepts disjunction s t = rw and-true
+  joins_accepts implication s t = rw and-true
   joins_accepts equality s t = go (eqb s truth_sort)
     where
       go : (p : Bool) → (eqb (cond p 0 1) s && eqb (cond p 0 1) t) ≡ same_list (argument_sorts b (signature_of b (cond p 7 8))) (s ∷ t ∷ [])
-      go true = rw and_true
-      go false = rw and_true
+      go true = rw and-true
+      go false = rw and-true
 
   denies_accepts : (s : ℕ) → eqb truth_sort s ≡ accepts b 3 (s ∷ [])
   unfolding accepts signature_of argument_sorts
-  denies_accepts s = rw and_true
+  denies_accepts s = rw and-true
 
   -- ---- arguments, a quantifier's variables, a let's bindings
 
@@ -184,8 +165,8 @@ module _ (b : Bundle) where
   fitting_sorts no_binding ns e = refl
   fitting_sorts (and_binding x φ xs) ns e =
       rw (
-        some_fits (eqb (sort_of_variable b (variable_called b x)) (head_sort b φ)) (variable_called b x) (a_variable x (first_known _ _ e)),
-        fitting_sorts xs ns (after_known φ (names_bound xs ns) (rest_known _ _ e)),
+        some_fits (eqb (sort_of_variable b (variable_called b x)) (head_sort b φ)) (variable_called b x) (a_variable x (known_first b _ _ e)),
+        fitting_sorts xs ns (after_known φ (names_bound xs ns) (known_rest b _ _ e)),
       )
 
   fitting_names : (xs : Bindings) → each (ltb 0) (fitting xs) ≡ true → fitting xs ≡ bound_names b xs
@@ -205,8 +186,8 @@ module _ (b : Bundle) where
     where
       go : (p : Bool) → each (ltb 0) (fitting xs) ≡ p → (each (ltb 0) (fitting xs) && different (fitting xs))
           ≡ (different (bound_names b xs) && same_list (map (sort_of_variable b) (bound_names b xs)) (bound_sorts b xs))
-      go true h = rw (← fitting_sorts xs ns e, h, fitting_names xs h, and_true)
-      go false h = rw (← fitting_sorts xs ns e, h, and_none)
+      go true h = rw (← fitting_sorts xs ns e, h, fitting_names xs h, and-true)
+      go false h = rw (← fitting_sorts xs ns e, h, and-false)
 
   -- ---- every node
 
@@ -262,8 +243,8 @@ module _ (b : Bundle) where
   unfolding fine_from spell_variables variable_names
   variables_off [] head ns rest e = refl
   variables_off (declares x s ∷ xs) head ns rest e =
-      both (pair_off x (word (sort s) ∷ closes ∷ spell_variables xs rest) (first_known (name_as x) (variable_names xs ns) e))
-      (variables_off xs false ns rest (rest_known (name_as x) (variable_names xs ns) e))
+      both (pair_off x (word (sort s) ∷ closes ∷ spell_variables xs rest) (known_first b (name_as x) (variable_names xs ns) e))
+      (variables_off xs false ns rest (known_rest b (name_as x) (variable_names xs ns) e))
 
   mutual
     unfolding fine_from fine spell names
@@ -284,8 +265,8 @@ module _ (b : Bundle) where
         (fine_off φ (names ψ ns) (spell ψ (closes ∷ rest)) e ∙ ap (λ (p : Bool). fine b φ && p) (fine_off ψ ns (closes ∷ rest) (after_known φ (names ψ ns) e)))
         ∙ own_last_2 (accepts b (connective_symbol c (head_sort b φ)) (head_sort b φ ∷ head_sort b ψ ∷ [])) (fine b φ) (fine b ψ) (fine_from b false rest)
     inside_off (applies f φ φs) ns rest e =
-        let k : Known (names φ (names_of_all φs ns)) = rest_known (symbol_as f) (names φ (names_of_all φs ns)) e in
-        both (applies_off f φ φs rest (first_known (symbol_as f) (names φ (names_of_all φs ns)) e))
+        let k : Known (names φ (names_of_all φs ns)) = known_rest b (symbol_as f) (names φ (names_of_all φs ns)) e in
+        both (applies_off f φ φs rest (known_first b (symbol_as f) (names φ (names_of_all φs ns)) e))
         (fine_off φ (names_of_all φs ns) (spell_formulas φs rest) k
         ∙ ap (λ (p : Bool). fine b φ && p) (all_off φs ns rest (after_known φ (names_of_all φs ns) k)))
         ∙ own_last_2 (accepts b (symbol_called b f) (head_sort b φ ∷ head_sorts b φs)) (fine b φ) (fine_all b φs) (fine_from b false rest)
@@ -295,10 +276,10 @@ module _ (b : Bundle) where
         ∙ fine_off φ ns (closes ∷ rest) (variables_known (x ∷ xs) (names φ ns) e))
         ∙ own_last (sorts_declared b (x ∷ xs) && eqb (head_sort b φ) truth_sort) (fine b φ) (fine_from b false rest)
     inside_off (lets x φ xs ψ) ns rest e =
-        let k : Known (names φ (names_bound xs (names ψ ns))) = rest_known (name_as x) (names φ (names_bound xs (names ψ ns))) e in
+        let k : Known (names φ (names_bound xs (names ψ ns))) = known_rest b (name_as x) (names φ (names_bound xs (names ψ ns))) e in
         let l : Known (names_bound xs (names ψ ns)) = after_known φ (names_bound xs (names ψ ns)) k in
         both (lets_off x φ xs (names ψ ns) (spell ψ (closes ∷ rest)) e)
-        (both (pair_off x (spell φ (closes ∷ spell_bindings xs (spell ψ (closes ∷ rest)))) (first_known (name_as x) _ e))
+        (both (pair_off x (spell φ (closes ∷ spell_bindings xs (spell ψ (closes ∷ rest)))) (known_first b (name_as x) _ e))
         (fine_off φ (names_bound xs (names ψ ns)) (closes ∷ spell_bindings xs (spell ψ (closes ∷ rest))) k
         ∙ ap (λ (p : Bool). fine b φ && p)
         (bound_off xs (names ψ ns) (spell ψ (closes ∷ rest)) l
@@ -314,17 +295,17 @@ module _ (b : Bundle) where
     all_off (and_formula φ φs) ns rest e =
         fine_off φ (names_of_all φs ns) (spell_formulas φs rest) e
         ∙ (ap (λ (p : Bool). fine b φ && p) (all_off φs ns rest (after_known φ (names_of_all φs ns) e))
-        ∙ and_assoc (fine b φ) (fine_all b φs) (fine_from b false rest))
+        ∙ sym (and_assoc (fine b φ) (fine_all b φs) (fine_from b false rest)))
 
     bound_off : (xs : Bindings) (ns : List Name) (rest : List Lexeme) → Known (names_bound xs ns)
         → fine_from b false (spell_bindings xs rest) ≡ (fine_bound b xs && fine_from b false rest)
     bound_off no_binding ns rest e = refl
     bound_off (and_binding x φ xs) ns rest e =
-        let k : Known (names φ (names_bound xs ns)) = rest_known (name_as x) (names φ (names_bound xs ns)) e in
-        both (pair_off x (spell φ (closes ∷ spell_bindings xs rest)) (first_known (name_as x) (names φ (names_bound xs ns)) e))
+        let k : Known (names φ (names_bound xs ns)) = known_rest b (name_as x) (names φ (names_bound xs ns)) e in
+        both (pair_off x (spell φ (closes ∷ spell_bindings xs rest)) (known_first b (name_as x) (names φ (names_bound xs ns)) e))
         (fine_off φ (names_bound xs ns) (closes ∷ spell_bindings xs rest) k
         ∙ ap (λ (p : Bool). fine b φ && p) (bound_off xs ns rest (after_known φ (names_bound xs ns) k)))
-        ∙ and_assoc (fine b φ) (fine_bound b xs) (fine_from b false rest)
+        ∙ sym (and_assoc (fine b φ) (fine_bound b xs) (fine_from b false rest))
 
 pub bracket_by_bracket : BracketByBracket
 bracket_by_bracket b φ rest k = record { sort = sort_off b φ rest; after = skip_whole φ rest; nodes = fine_off b φ [] rest k }

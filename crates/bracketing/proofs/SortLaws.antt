@@ -1,6 +1,6 @@
 -- Words at the front of a text, what they name, and the sort of the formula there.
 --     front_none, front_next, front_other                the lexeme at the front
---     said_other, no_name                                a word that is no word for a sort, no name
+--     no_name                                            no name
 --     variable_is, symbol_is, variable_small             what a name names, by a count and by the bundle
 --     variable_found, variable_other, variable_missing   the answers of `sorts::variable_at`
 --     variable_in_is                                     the variable behind a bracket, by a count and by the bundle
@@ -28,7 +28,6 @@ use Rattle.lexing.specs.Lexes.{lexemes_of, Found, rest_of, Leaves}
 use Rattle.lexing.specs.Words.{word_in, lexeme_in}
 use Rattle.lexing.specs.declared.lexemes.Lexed.{Lexed}
 use Rattle.lexing.specs.declared.lexemes.Lexeme.{Lexeme}
-use Rattle.lexing.specs.declared.words.SortWord.{SortWord}
 use Rattle.lexing.specs.declared.words.Word.{Word}
 use Rattle.lexing.proofs.NumeralLaws.{counts_suffice}
 use Rattle.reading.specs.Called.{number_after, variable_called, symbol_called}
@@ -62,23 +61,6 @@ module _ (text : List ℕ) where
       ]
 
 -- ---- words
-
-no_sort : (w : Word) → ((s : SortWord) → w ≡ Word.Sort s → ⊥) → (s : bytes.SortWord) → word_in w ≡ bytes.sort s → ⊥
-no_sort (Word.Constant v) ne s e = cc
-no_sort Word.Negation ne s e = cc
-no_sort (Word.Connective c) ne s e = cc
-no_sort (Word.Quantifier q) ne s e = cc
-no_sort Word.Let ne s e = cc
-no_sort (Word.Sort t) ne s e = ne t refl
-no_sort (Word.Name w) ne s e = cc
-
--- another word at the front
-pub said_other : {l : grammar.Lexeme} {w : Word} → l ≡ grammar.word (word_in w) → ((s : SortWord) → w ≡ Word.Sort s → ⊥)
-    → (s : bytes.SortWord) → l ≡ grammar.word (bytes.sort s) → ⊥
-said_other {l} {w} e ne s q = no_sort w ne s (same (sym e ∙ q))
-  where
-    same : {u v : bytes.Word} → grammar.word u ≡ grammar.word v → u ≡ v
-    same h = cc
 
 pub no_name : (w : Word) → ((u : _) → w ≡ Word.Name u → ⊥) → name_of (word_in w) ≡ []
 unfolding name_of

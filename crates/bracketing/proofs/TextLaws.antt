@@ -1,5 +1,4 @@
--- What is left of a text: what follows two lexemes, what follows a formula.
---     leaves_two                                             what follows two lexemes
+-- What is left of a text: what follows a formula.
 --     starts_not, starts_next                                whether a part starts here
 --     Skipping, skip_start, skip_over, skip_here, skip_next  a formula skipped, as `brackets::after_formula` goes over it
 use Prim.Native.Nat.{ℕ, zero, suc, ◌+◌, ◌-◌, ◌≤◌, ◌<◌}
@@ -9,24 +8,12 @@ use mathlib.Core.Bool.{true, false}
 use mathlib.Core.List.{List, [], ◌∷◌}
 use lib.ListN.{length}
 use Rattle.grammar.specs.Grammar.{Lexeme, opens, closes, word, stray}
-use Rattle.lexing.specs.Lexes.{lexemes_of, Found, Tail, rest_of, Leaves}
+use Rattle.lexing.specs.Lexes.{lexemes_of, Found, Tail, Leaves}
 use Rattle.lexing.specs.Words.{lexeme_in}
 use Rattle.lexing.specs.declared.lexemes.Lexed.{Lexed}
 use Rattle.lexing.specs.declared.lexemes.Lexeme as code
 use Rattle.lexing.proofs.Tails.{tail_self, tail_after}
 use Rattle.bracketing.specs.Brackets.{one_less, open_after, if_none, skip, after_formula, starts_part}
-
--- ---- after two lexemes
-
-module _ (text : List ℕ) where
-  pub leaves_two : (rest last : List ℕ) → Leaves text (rest_of (lexemes_of text)) rest → Leaves rest (rest_of (lexemes_of rest)) last
-      → Leaves text (rest_of (rest_of (lexemes_of text))) last
-  leaves_two rest last h g = record {
-    lexemes = g.lexemes ∙ ap rest_of h.lexemes;
-    tail = tail_after h.tail g.tail;
-    fewer = omega (arith, g.fewer, h.fewer);
-    moves = λ ne. omega (arith, g.fewer, h.moves ne);
-  }
 
 -- ---- parts
 

@@ -71,7 +71,7 @@ fn word_sort(bundle: &Bundle, word: Word) -> usize
     result_of(bundle, word)
 }
 
-// The sort of the formula at the front: a let's is its body's.
+// The sort of the formula at the front: a let's is its body's. 0, the sort of truths, where no formula stands, as the definition has it.
 pub fn sort_at(bundle: &Bundle, text: &[u8]) -> usize
     ensures { result ≡ sort_from bundle.now (lexemes_of text.now) }
 {

@@ -1,5 +1,5 @@
 -- The fields of a memory's records are the words where they stand, and its counts are the lengths of the bundle's lists.
---     row_within, record_within          a record ends where its section ends, or before
+--     record_within          a record ends where its section ends, or before
 --     symbol_word, ..                    field k of a record of words
 --     symbol_same, ..                    two records of the same words
 --     section_same, section_more         two memories that agree on a section
@@ -10,9 +10,9 @@
 use mathlib.Core.Path.{◌≡◌, refl}
 use mathlib.Core.List.{List, [], ◌∷◌, ◌++◌}
 use Prim.Native.Nat.{ℕ, ◌+◌, ◌*◌, ◌-◌, ◌≤◌, ◌<◌}
-use native.Mathlib.Nat.{mul-le-mul_left, mul-add, mul-one}
 use native.Mathlib.Omega.{arith}
 use lib.ListN.{length}
+use Rattle.std.proofs.lemmas.Nat.{column_fits}
 use Rattle.bundle.specs.declared.Counts.{Counts}
 use Rattle.bundle.specs.Words.{word_at}
 use Rattle.bundle.specs.Bundle.{Bundle, at, no_symbol, no_link, no_term, no_context, no_step, symbol_of, sort_of_variable, term_of, link_of, context_of, step_of}
@@ -21,15 +21,8 @@ use Rattle.bundle.specs.Limits.{symbols_at, variables_at, terms_at, links_at, co
 use Rattle.bundle.specs.File.{tab, record_by, symbol_from, link_from, term_from, context_from, step_from, bundle_by, bundle_at, own_counts}
 use Rattle.bundle.proofs.Tab.{tab_length, tab_at, tab_ext, tab_more, at_field}
 
--- a record of a section, by its place and by its number, ends where the section ends, or before
-pub row_within : (size count j : ℕ) → j < count → size * j + size ≤ size * count
-row_within size count j h =
-    let e : size * (j + 1) ≡ size * j + size = rw (mul-add, mul-one) in
-    let l : size * (j + 1) ≤ size * count = mul-le-mul_left size (omega arith) in
-    omega arith
-
 pub record_within : (size count i : ℕ) → (i ≡ 0 → ⊥) → i ≤ count → size * (i - 1) + size ≤ size * count
-record_within size count i ne h = row_within size count (i - 1) (omega arith)
+record_within size count i ne h = column_fits size (i - 1) size count (omega arith) (omega arith)
 
 -- field k of a record of words is word k, for the fields are those words one after another
 pub symbol_word : (w : ℕ → ℕ) (k : ℕ) → k < 2 → symbol_field (symbol_from w) k ≡ w k
@@ -79,7 +72,7 @@ module _ {A : Type 0} (from : (ℕ → ℕ) → A) (size : ℕ) (same : (u v : �
   row_same j l = same (record_by u p size j) (record_by v q size j) (λ k m.
       let a : p + size * j + k ≡ p + (size * j + k) = omega arith in
       let b : q + size * j + k ≡ q + (size * j + k) = omega arith in
-      rw (a, b) (agree (size * j + k) (omega (arith, row_within size n j l))))
+      rw (a, b) (agree (size * j + k) (omega (arith, column_fits size j size n l (omega arith)))))
 
   pub section_same : tab (λ j. from (record_by u p size j)) n ≡ tab (λ j. from (record_by v q size j)) n
   section_same = tab_ext _ _ n row_same

@@ -1,31 +1,27 @@
 -- The test of the counts says that each is within its limit; sections by their number.
---     both                       both halves of a conjunction hold
 --     within_all, within_true    `within_of` as a test, and `Within` as facts
 --     within_words               the words of counts within the limits
 --     header_ends, section_ends  where sections stand: after the header, and before a later one
 --     extent_within              a section is no longer than its limit
 --     section_fits               so it fits in the file and in the scratch
 use Prim.Native.Nat.{ℕ, zero, suc, ◌+◌, ◌<◌, ◌≤◌}
-use mathlib.Core.Path.{◌≡◌, refl}
+use mathlib.Core.Path.{◌≡◌}
 use mathlib.Core.Logic.{⊎_elim}
-use mathlib.Core.Bool.{Bool, true, false, ◌&&◌, false≢true}
+use mathlib.Core.Bool.{true}
 use native.Mathlib.Nat.{le_refl, not-suc-le-zero, le_of_suc-le-suc, eq-or-lt_of_le}
 use native.Mathlib.Omega.{arith}
 use borrow.Author.Tests.{leb-true, le-leb}
+use Rattle.std.proofs.lemmas.Bool.{and_parts}
 use Rattle.bundle.specs.declared.Counts.{Counts}
 use Rattle.bundle.specs.Limits.{limits, header_words, symbols_at, words_of, sections, extent_of, place_of, Within, within_of}
 
-pub both : (a : Bool) {b : Bool} → a && b ≡ true → (a ≡ true) × (b ≡ true)
-both true e = (refl, e)
-both false e = absurd (false≢true e)
-
 pub within_all : (c : Counts) → within_of c ≡ true → Within c
 within_all c e =
-    let s = both _ e in
-    let x = both _ s.0 in
-    let l = both _ x.0 in
-    let t = both _ l.0 in
-    let v = both _ t.0 in
+    let s = and_parts _ _ e in
+    let x = and_parts _ _ s.0 in
+    let l = and_parts _ _ x.0 in
+    let t = and_parts _ _ l.0 in
+    let v = and_parts _ _ t.0 in
     record {
       symbols = leb-true _ _ v.0;
       variables = leb-true _ _ v.1;

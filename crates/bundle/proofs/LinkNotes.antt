@@ -1,7 +1,7 @@
 -- What is noted at links of lists, on a walk that notes each link before the rest of its list is known.
 --     zeros                              a new array is zero throughout
 --     noted_none                         nothing is noted at first
---     OnWay, way_start, way_on, way_end  what holds at a link of such a walk: at its start, on to the next link, where it ends
+--     OnWay, way_on, way_end             what holds at a link of such a walk: on to the next link, where it ends
 --     lower_up                           links whose items are 1 to n stay so for a greater number
 use mathlib.Core.Path.{◌≡◌, refl}
 use mathlib.Core.List.{List}
@@ -31,9 +31,6 @@ module _ (Good : ℕ → ℕ → Type 0) where
   pub record OnWay (w : List ℕ) (v j : ℕ) : Type 0 where
     pub above : (p : ℕ) → j ≤ p → (j ≡ 0 → ⊥) → (get_or w p 0 ≡ 0 → ⊥) → Good (get_or w p 0) p
     pub all : Good v j → (p : ℕ) → (get_or w p 0 ≡ 0 → ⊥) → Good (get_or w p 0) p
-
-  pub way_start : (n : ℕ) (w : List ℕ) (v j : ℕ) → Noted Good n w → OnWay w v j
-  way_start n w v j so = record { above = λ p up ne some. so.sound p some; all = λ good p some. so.sound p some }
 
   pub way_end : (n : ℕ) (w : List ℕ) (v j : ℕ) → OnWay w v j → Good v j → n < length w → Noted Good n w
   way_end n w v j way good long = record { enough = long; sound = way.all good }

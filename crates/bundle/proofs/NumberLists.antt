@@ -10,10 +10,10 @@ use native.Mathlib.Omega.{arith}
 use lib.ListN.{length}
 use lib.Dec.{eqb, ltb, leb}
 use borrow.Author.Tests.{eqb-false, leb-true, le-leb, not-true}
+use Rattle.std.proofs.lemmas.Bool.{and_parts}
 use Rattle.bundle.specs.Bundle.{Bundle, link_of}
 use Rattle.bundle.specs.Links.{items, next_of}
 use Rattle.bundle.specs.Lists.{numbers, each}
-use Rattle.bundle.proofs.Limits.{both}
 use Rattle.bundle.proofs.Walks.{walk_nil, walk_cons, walk_some, numbers_not}
 
 module _ (b : Bundle) (n : ℕ) (i : ℕ) where
@@ -36,12 +36,12 @@ pub each_up : (n m : ℕ) (xs : List ℕ) → n ≤ m → each (numbers n) xs �
 unfolding each
 each_up n m [] h e = refl
 each_up n m (x ∷ xs) h e =
-    let all : (numbers n x ≡ true) × (each (numbers n) xs ≡ true) = both (numbers n x) e in
-    let one : (ltb 0 x ≡ true) × (leb x n ≡ true) = both (ltb 0 x) all.0 in
+    let all : (numbers n x ≡ true) × (each (numbers n) xs ≡ true) = and_parts (numbers n x) (each (numbers n) xs) e in
+    let one : (ltb 0 x ≡ true) × (leb x n ≡ true) = and_parts (ltb 0 x) (leb x n) all.0 in
     let low : x ≤ m = omega (arith, leb-true x n one.1) in
     rw (one.0, le-leb x m low) (each_up n m xs h all.1)
 
 pub both_some : (i j : ℕ) → (not (eqb i 0) && not (eqb j 0)) ≡ true → (i ≡ 0 → ⊥) × (j ≡ 0 → ⊥)
 both_some i j e =
-    let some = both (not (eqb i 0)) {b = not (eqb j 0)} e in
+    let some = and_parts (not (eqb i 0)) (not (eqb j 0)) e in
     (eqb-false i 0 (not-true (eqb i 0) some.0), eqb-false j 0 (not-true (eqb j 0) some.1))

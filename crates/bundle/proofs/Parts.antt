@@ -10,6 +10,7 @@ use native.Mathlib.Omega.{arith}
 use Rattle.std.proofs.lemmas.List.{length-drop, length-take-le}
 use lib.ListN.{length, get_or, take, drop}
 use lib.Seq.{get_or-take, get_or-drop}
+use Rattle.std.proofs.lemmas.Nat.{column_fits}
 use Rattle.bundle.specs.Words.{word_at}
 use Rattle.bundle.specs.declared.Counts.{Counts}
 use Rattle.bundle.specs.Bundle.{at, link_of, link_field, step_of, step_field}
@@ -17,7 +18,7 @@ use Rattle.bundle.specs.Limits.{links_at, steps_at}
 use Rattle.bundle.specs.File.{tab, record_by, bundle_at}
 use Rattle.bundle.specs.Parts.{from_word}
 use Rattle.bundle.proofs.Tab.{tab_ext, at_tab}
-use Rattle.bundle.proofs.Fields.{row_within, link_is, step_is}
+use Rattle.bundle.proofs.Fields.{link_is, step_is}
 
 module _ (f : List ℕ) (n m k : ℕ) (h : 4 * k + 4 ≤ m) where
   byte : (i j : ℕ) → i ≡ 4 * k + j → j < 4 → get_or (take m (drop (4 * n) f)) i 0 ≡ get_or f (4 * n + i) 0
@@ -57,7 +58,7 @@ module _ (f : List ℕ) (n : ℕ) where
       ap (λ (xs : List ℕ). at 0 xs i)
       (tab_ext (λ j. word_at (from_word f n) (size * j + k)) (λ j. record_by (word_at f) n size j k) count (λ j l.
       let e : n + (size * j + k) ≡ n + size * j + k = omega arith in
-      from_word_at (size * j + k) (omega (arith, row_within size count j l)) ∙ ap (word_at f) e))
+      from_word_at (size * j + k) (omega (arith, column_fits size j size count l (omega arith))) ∙ ap (word_at f) e))
 
 -- field k of a link that there is, and of a step
 module _ (f : List ℕ) (c : Counts) (i k : ℕ) (ne : i ≡ 0 → ⊥) where

@@ -1,9 +1,9 @@
 -- The laws of BundleWalks, said of a bundle by the lengths of its lists; and two tests of loops.
---     or_none, numbers_not               tests of code as tests of specs/
+--     numbers_not               tests of code as tests of specs/
 --     next_is, next_on                   the link after a link, from its next as it was read
-use mathlib.Core.Path.{◌≡◌, refl, sym, ◌∙◌}
+use mathlib.Core.Path.{◌≡◌, refl, ◌∙◌}
 use mathlib.Core.List.{[], ◌∷◌}
-use mathlib.Core.Bool.{Bool, true, false, not, ◌||◌, and-false, false≢true}
+use mathlib.Core.Bool.{Bool, true, false, not, ◌||◌, and-false}
 use Prim.Native.Nat.{ℕ, ◌+◌, ◌<◌, ◌≤◌}
 use native.Mathlib.Omega.{arith}
 use lib.ListN.{length}
@@ -14,11 +14,6 @@ use Rattle.bundle.specs.Links.{items, follows, next_of, starts_at}
 use Rattle.bundle.specs.Lists.{same_list, numbers}
 use Rattle.bundle.proofs.Fields.{own_sized}
 use Rattle.bundle.proofs.BundleWalks as any
-
--- both tests of an `or` fail where it does
-pub or_none : (p q : Bool) → (p || q) ≡ false → (p ≡ false) × (q ≡ false)
-or_none true q e = absurd (false≢true (sym e))
-or_none false q e = (refl, e)
 
 -- a number is a record's where it is neither 0 nor past the last
 pub numbers_not : (n x : ℕ) → numbers n x ≡ not (eqb x 0 || ltb n x)

@@ -42,7 +42,8 @@ pub struct LinkWords {
     pub next: usize,
 }
 
-// Word k of record i of a section of `count` records of `size` words, with which `section` starts.
+// Word k of record i of a section of `count` records of `size` words, with which `section` starts. By numbers, here and below: those are what is asked, and
+// one that no record has gives 0; a slice of the record would be made for one word of it.
 fn field(section: &[u8], size: usize, count: usize, i: usize, k: usize) -> usize
     requires { (k < size) × (4 * (size * count) ≤ length section.now) }
     ensures { result ≡ at 0 (tab (λ j. word_at section.now (size * j + k)) count) i }
@@ -130,7 +131,7 @@ impl<'a> Bundle<'a> {
         field(self.steps, 5, self.counts.steps, i, k)
     }
 
-    // The words of term i. `Scratch` has its own, alike: the fields are read from another memory.
+    // The words of term i. `View` of scratch has its own, alike: the fields are read from another memory.
     pub fn term_words(&self, i: usize) -> TermWords
         ensures { as_term result ≡ term_of self.now i }
     {

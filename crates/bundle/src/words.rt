@@ -21,7 +21,7 @@ pub fn as_word(x: usize) -> u32
     x as u32
 }
 
-// Word k of the file, as a number that can be an index.
+// Word k of the file, as a number that can be an index. The word by its number, as the definition has it.
 #[tactic(auto, unfolding(crate::specs::Words::word_at))]
 pub fn word_at(file: &[u8], k: usize) -> usize
     requires { 4 * k + 4 ≤ length file.now }

@@ -2,7 +2,7 @@
 #![tactic(auto)]
 
 ghost use Rattle.std.specs.Prelude.{◌≡◌, ◌+◌, ◌*◌, ◌≤◌, length, IfOk};
-ghost use Rattle.bundle.specs.Limits.{set_words};
+ghost use Rattle.bundle.specs.Limits.{limits, set_words};
 ghost use Rattle.bundle.specs.File.{bundle_of};
 ghost use Rattle.logic.specs.Failures.{number_in, fault_in};
 ghost use Rattle.logic.specs.Tests.{first_failing, or_next};
@@ -77,8 +77,37 @@ fn late_fault_in<'a>(
     Ok(pairs)
 }
 
-// The same with room of its own, for files with many variables. Two places call this: so the compiler keeps it, and its room, apart, and no other file pays
-// for so much stack.
+// The same with room of its own: PLACES places for rows, and WORDS words for sets.
+fn late_fault_within<const PLACES: usize, const WORDS: usize>(
+    sorted: &SortedBundle,
+    free: &[u64],
+    n: usize,
+) -> Result<usize, Failure>
+    requires { FreeSets (record { bundle = sorted.now; words = free.now; n = n }) × (n ≤ set_words) × (length sorted.now.variables ≤ 64 * n)
+        × (length sorted.now.variables * (length sorted.now.contexts + 1) ≤ PLACES) × (PLACES ≤ limits.variables * (limits.contexts + 1))
+        × (2 * n * (length sorted.now.contexts + 1) ≤ WORDS) × (WORDS ≤ 2 * set_words * (limits.contexts + 1)) }
+    ensures { Found (late_fault sorted.now) sorted.now result }
+{
+    let mut images = [0u16; PLACES];
+    let mut scopes = [0u64; WORDS];
+    late_fault_in(sorted, free, n, &mut images, &mut scopes)
+}
+
+// Room for fewer than 8 contexts, for fewer than 32, and for all that a file can have, where there are as many variables as there may be.
+const FEW_PLACES: usize = Bundle::VARIABLES * 8;
+
+const FEW_WORDS: usize = 2 * Bundle::SET_WORDS * 8;
+
+const SOME_PLACES: usize = Bundle::VARIABLES * 32;
+
+const SOME_WORDS: usize = 2 * Bundle::SET_WORDS * 32;
+
+const ALL_PLACES: usize = Bundle::VARIABLES * (Bundle::CONTEXTS + 1);
+
+const ALL_WORDS: usize = 2 * Bundle::SET_WORDS * (Bundle::CONTEXTS + 1);
+
+// The same with room of one of three sizes, for files with many variables. Two places call this: so the compiler keeps it, and its room, apart, and no other
+// file pays for so much stack.
 fn late_fault_wide(sorted: &SortedBundle, free: &[u64], n: usize) -> Result<usize, Failure>
     requires { FreeSets (record { bundle = sorted.now; words = free.now; n = n }) × (n ≤ set_words) × (length sorted.now.variables ≤ 64 * n) }
     ensures { Found (late_fault sorted.now) sorted.now result }
@@ -86,18 +115,12 @@ fn late_fault_wide(sorted: &SortedBundle, free: &[u64], n: usize) -> Result<usiz
     let bundle = sorted.bundle();
     let contexts = bundle.contexts();
     if contexts < 8 {
-        let mut few_images = [0u16; Bundle::VARIABLES * 8];
-        let mut few_scopes = [0u64; 2 * Bundle::SET_WORDS * 8];
-        return late_fault_in(sorted, free, n, &mut few_images, &mut few_scopes);
+        return late_fault_within::<FEW_PLACES, FEW_WORDS>(sorted, free, n);
     }
     if contexts < 32 {
-        let mut some_images = [0u16; Bundle::VARIABLES * 32];
-        let mut some_scopes = [0u64; 2 * Bundle::SET_WORDS * 32];
-        return late_fault_in(sorted, free, n, &mut some_images, &mut some_scopes);
+        return late_fault_within::<SOME_PLACES, SOME_WORDS>(sorted, free, n);
     }
-    let mut images = [0u16; Bundle::VARIABLES * (Bundle::CONTEXTS + 1)];
-    let mut scopes = [0u64; 2 * Bundle::SET_WORDS * (Bundle::CONTEXTS + 1)];
-    late_fault_in(sorted, free, n, &mut images, &mut scopes)
+    late_fault_within::<ALL_PLACES, ALL_WORDS>(sorted, free, n)
 }
 
 // The same with room of one of three sizes, the last for 64 variables in all contexts, or as above. The room is cleared first, so a file with few variables
@@ -111,14 +134,10 @@ fn late_fault(sorted: &SortedBundle, free: &[u64], n: usize) -> Result<usize, Fa
     let places = bundle.variables() * rows;
     let words = n * rows;
     if (places <= 512) & (words <= 40) {
-        let mut few_images = [0u16; 512];
-        let mut few_scopes = [0u64; 80];
-        return late_fault_in(sorted, free, n, &mut few_images, &mut few_scopes);
+        return late_fault_within::<512, 80>(sorted, free, n);
     }
     if (places <= 8192) & (words <= 257) {
-        let mut some_images = [0u16; 8192];
-        let mut some_scopes = [0u64; 514];
-        return late_fault_in(sorted, free, n, &mut some_images, &mut some_scopes);
+        return late_fault_within::<8192, 514>(sorted, free, n);
     }
     if places > 16448 {
         return late_fault_wide(sorted, free, n);
@@ -126,9 +145,7 @@ fn late_fault(sorted: &SortedBundle, free: &[u64], n: usize) -> Result<usize, Fa
     if words > 257 {
         return late_fault_wide(sorted, free, n);
     }
-    let mut more_images = [0u16; 16448];
-    let mut more_scopes = [0u64; 514];
-    late_fault_in(sorted, free, n, &mut more_images, &mut more_scopes)
+    late_fault_within::<16448, 514>(sorted, free, n)
 }
 
 // What is wrong past the header, where the sorts of all terms are noted. Where nothing is, the area holds the free sets. While the file is checked they have
@@ -149,6 +166,8 @@ fn sorted_fault(sorted: &SortedBundle, free: &mut [u64]) -> Result<usize, Failur
 
 // The same, with room for the sorts: a file with few terms gets little. As noted_sections of terms: tried as one function that takes a closure, and what the
 // closure leaves in the area was not proved.
+// Each room is one array and two lines: a function with a const size would be longer than both, where `late_fault_within` of checker has two arrays and three
+// sizes.
 fn noted_fault(bundle: &Bundle, free: &mut [u64]) -> Result<usize, Failure>
     requires { set_words * length bundle.now.terms ≤ length free.old }
     ensures fact { Found (or_next (sections_fault bundle.now) (late_fault bundle.now)) bundle.now result }

@@ -5,10 +5,11 @@ use mathlib.Core.Bool.{Bool, true, false, cond, not, ◌&&◌, false≢true}
 use mathlib.Core.List.{List}
 use Prim.Native.Nat.{ℕ, ◌+◌, ◌*◌, ◌-◌, ◌^◌, ◌<◌}
 use lib.ListN.{length, get_or}
+use Rattle.std.specs.Cmp.{both_ways}
 use Rattle.bundle.specs.Lists.{numbers, each, has}
 use Rattle.sets.specs.Sets.{member, disjoint_of}
 use Rattle.sets.proofs.Members.{disjoint_none, none_disjoint}
-use Rattle.logic.proofs.Tests.{both_ways, each_has, has_each}
+use Rattle.logic.proofs.Tests.{each_has, has_each}
 use Rattle.free_variables.specs.TermSets.{TermSets, Words, free_in, settled_in}
 
 module _ (w : List ℕ) (first : ℕ) (m : List ℕ) (n : ℕ) (ys : List ℕ) (known : (y : ℕ) → member m 0 n y ≡ has y ys)

@@ -1,14 +1,13 @@
 -- Pairs of terms that meet, by what code reads of them.
 --     bound_meets_lem     at a variable that is bound on the left
 --     free_meets_lem, image_differs     at one that is free there: the right one is its image, or is not
---     none_sorts, none_length   two lists, where the first has ended
+--     none_sorts                two lists, where the first has ended
 --     variable_pair, application_pair, binder_pair, let_pair, other_pair     a pair by the kind of the left one
 use mathlib.Core.Path.{◌≡◌, refl, sym, ap, ◌∙◌}
 use mathlib.Core.Bool.{Bool, true, false, not, ◌&&◌}
 use mathlib.Core.List.{List, [], ◌∷◌}
 use Prim.Native.Nat.{ℕ}
-use lib.ListN.{length}
-use lib.Dec.{eqb, eqb-zero-suc}
+use lib.Dec.{eqb}
 use borrow.Author.Tests.{ne_eqb}
 use Rattle.bundle.specs.Bundle.{Bundle, TermRecord, term_of}
 use Rattle.bundle.specs.Lists.{same_list, each, has}
@@ -50,11 +49,6 @@ module _ (b : Bundle) where
   unfolding all_sorts_meet same_list
   none_sorts [] = refl
   none_sorts (y ∷ ys) = refl
-
-pub none_length : (ys : List ℕ) → eqb 0 (length ys) ≡ same_list [] ys
-unfolding same_list
-none_length [] = refl
-none_length (y ∷ ys) = eqb-zero-suc (length ys)
 
 -- ---- a record's kind, from the tests of the code; p is what the function of that kind answers
 

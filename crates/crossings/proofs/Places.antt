@@ -7,7 +7,7 @@
 use mathlib.Core.Path.{◌≡◌, refl, sym, ap, ◌∙◌}
 use mathlib.Core.Bool.{Bool, true, false, cond, not, ◌&&◌, ◌||◌}
 use mathlib.Core.List.{List, [], ◌∷◌}
-use Prim.Native.Nat.{ℕ, zero, suc, ◌+◌, ◌*◌, ◌-◌, ◌/◌, ◌%◌, ◌≤◌}
+use Prim.Native.Nat.{ℕ, suc, ◌+◌, ◌*◌, ◌-◌, ◌/◌, ◌%◌, ◌≤◌}
 use native.Mathlib.Omega.{arith}
 use native.Mathlib.Numerals.{add-one}
 use native.Mathlib.Decide.{ℕ_discrete}
@@ -15,6 +15,7 @@ use lib.ListN.{length, get_or, set, take, drop, replicate, length-set, length-dr
 use lib.Seq.{get_or-set_same, get_or-set_other, get_or-take, get_or-drop, length-take-le}
 use lib.Dec.{eqb}
 use borrow.Author.Tests.{eq-eqb, ne_eqb}
+use Rattle.bundle.proofs.LinkNotes.{zeros}
 use Rattle.bundle.specs.Lists.{has}
 use Rattle.sets.specs.Sets.{bit_at, holds, member, inserted, removed}
 use Rattle.sets.proofs.Digits.{bit_none}
@@ -25,25 +26,20 @@ use Rattle.crossings.proofs.Stamps.{has_stamp, lefts_length, rights_length}
 
 -- ---- nothing crossed
 
-zero_at : (k j : ℕ) → ◌≡◌ {A = ℕ} (get_or (replicate k 0) j 0) 0
-zero_at zero j = refl
-zero_at (suc k) zero = refl
-zero_at (suc k) (suc j) = zero_at k j
-
 pub places_none : (variables n k l : ℕ) → variables + variables ≤ k → n ≤ l → Places variables n (replicate k 0) (replicate l 0) []
 unfolding lefts rights stamp has member
 places_none variables n k l long words = record {
   long = rw length-replicate long;
   words = rw length-replicate words;
-  left = λ x one few. zero_at k (x - 1);
-  right = λ y one few. zero_at k (variables + (y - 1));
+  left = λ x one few. (zeros k).zero (x - 1);
+  right = λ y one few. (zeros k).zero (variables + (y - 1));
   bound = λ y. go y (holds n y);
   lefts_known = tt;
   rights_known = tt;
 }
   where
     go : (y : ℕ) (p : Bool) → cond p (bit_at (get_or (replicate l 0) (0 + (y - 1) / 64) 0) ((y - 1) % 64)) false ≡ false
-    go y true = ap (λ (z : ℕ). bit_at z ((y - 1) % 64)) (zero_at l (0 + (y - 1) / 64)) ∙ bit_none ((y - 1) % 64)
+    go y true = ap (λ (z : ℕ). bit_at z ((y - 1) % 64)) ((zeros l).zero (0 + (y - 1) / 64)) ∙ bit_none ((y - 1) % 64)
     go y false = refl
 
 -- ---- a place that was read

@@ -3,7 +3,7 @@
 use Rattle.std.specs.Prelude.{ℕ, suc, ◌+◌, ◌-◌, ◌≤◌, ◌≡◌, cond, List, [], ◌∷◌, length, get_or, eqb}
 use Rattle.bundle.specs.Lists.{has}
 use Rattle.sets.specs.Sets.{member}
-use Rattle.free_variables.specs.TermSets.{TermSets, Words}
+use Rattle.free_variables.specs.TermSets.{TermSets}
 use Rattle.logic.specs.Lists.{All, Number}
 use Rattle.logic.specs.ReflWalk.{Crossed, lefts, rights}
 
@@ -36,11 +36,10 @@ pub record Binders : Type 0 where
   pub places : List ℕ
   pub bound : List ℕ
 
--- there is room for each variable, in the sets too, which are of words
+-- there is room for each variable, in the sets too
 pub record BindersFit (sets : TermSets) (w m : List ℕ) : Type 0 where
   pub long : length sets.bundle.variables + length sets.bundle.variables ≤ length w
   pub words : sets.n ≤ length m
-  pub small : Words sets.words
 
 abbrev pub HaveCrossed : Binders → Crossed → Type 0
 HaveCrossed b ps = Places (length b.sets.bundle.variables) b.sets.n b.places b.bound ps

@@ -1,19 +1,12 @@
 -- The first fault of links, symbols and variables, before what comes after them.
 --     sections_here, sections_on     there is one; there is none, and the rest says
-use mathlib.Core.Path.{◌≡◌, refl, sym, ap, ◌∙◌}
-use Prim.Native.Nat.{ℕ, zero, suc}
+use mathlib.Core.Path.{◌≡◌, sym, ap, ◌∙◌}
 use Rattle.bundle.specs.Bundle.{Bundle}
 use Rattle.logic.specs.Tests.{Fault}
-use Rattle.logic.specs.Tests.{or_else, or_next}
+use Rattle.logic.specs.Tests.{or_next}
 use Rattle.logic.specs.Checks.{links_fault, symbols_fault, variables_fault}
-use Rattle.logic.proofs.Firsts.{or_else_on, or_else_here}
+use Rattle.logic.proofs.Firsts.{or_else_on, or_else_here, next_nested}
 use Rattle.declarations.specs.Sections.{declared_fault}
-
--- a fault, or else a second, or else a third
-nested : (n i : ℕ) (second third : Fault) → or_next (or_else n i second) third ≡ or_else n i (or_next second third)
-unfolding or_else
-nested zero i second third = refl
-nested (suc n) i second third = refl
 
 module _ (b : Bundle) (rest : Fault) where
   abbrev whole : Fault
@@ -22,8 +15,8 @@ module _ (b : Bundle) (rest : Fault) where
   in_a_row : or_next (declared_fault b) rest ≡ whole
   unfolding declared_fault
   in_a_row =
-      nested (links_fault b).number (links_fault b).«record» (or_next (symbols_fault b) (variables_fault b)) rest
-      ∙ ap (or_next (links_fault b)) (nested (symbols_fault b).number (symbols_fault b).«record» (variables_fault b) rest)
+      next_nested (links_fault b).number (links_fault b).«record» (or_next (symbols_fault b) (variables_fault b)) rest
+      ∙ ap (or_next (links_fault b)) (next_nested (symbols_fault b).number (symbols_fault b).«record» (variables_fault b) rest)
 
   -- r is what the code has found
   module _ (r : Fault) (e : r ≡ declared_fault b) where

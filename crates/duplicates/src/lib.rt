@@ -1,4 +1,4 @@
-// Check 9: whether a term is equal to an earlier one. Earlier terms are filed by a digest of their records: `heads` has the newest term of each
+// Check 9: whether a term is equal to an earlier one. Earlier terms are filed by a digest of their records (`Earlier`): `heads` has the newest term of each
 // digest, `next` the one before each term among those with its digest, 0 for none: no term has number 0, and a word of 16 bits is enough. So a term is compared with those of its digest alone.
 #![tactic(auto)]
 
@@ -8,6 +8,8 @@ ghost use Rattle.bundle.specs.Links.{items};
 ghost use Rattle.logic.specs.Checks.{first_is_list, second_is_list, same_field, same_term, is_new};
 ghost use Rattle.duplicates.specs.Digests.{mix_items, mix_field, term_digest, FiledBelow};
 ghost use Rattle.bundle.specs.RecordWords.{as_term};
+
+pub mod earlier; // earlier.rt: the earlier terms
 
 use bundle::Bundle;
 use bundle::digests::{DIGESTS, Digest};
@@ -91,7 +93,7 @@ pub fn same_term(bundle: &Bundle, i: usize, j: usize) -> bool
     first & second & (bundle.term_field(i, 3) == bundle.term_field(j, 3))
 }
 
-// 9: whether no earlier term has the same record, where the terms below i are filed, and d is its digest.
+// 9: whether no earlier term has the same record, where the terms below i are filed, and d is its digest. Over the arrays: `Earlier` calls it.
 pub fn is_new(bundle: &Bundle, heads: &[u16; DIGESTS], next: &[u16], i: usize, d: Digest) -> bool
     requires { FiledBelow bundle.now heads.now next.now i × (i < length next.now) × (d ≡ term_digest bundle.now (term_of bundle.now
         i)) }

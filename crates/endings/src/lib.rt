@@ -66,10 +66,7 @@ pub fn place_word<'a>(
         let term = place_variable(filed, x)?;
         return Some(ReadTerm { term, sort, rest });
     }
-    let f = symbol_for(bundle.symbols(), word, 0);
-    let sort = symbol_sort(bundle, f);
-    let term = place_application(filed, f, &[])?;
-    Some(ReadTerm { term, sort, rest })
+    apply_parts(bundle, word, filed, &[], 0, rest)
 }
 
 // The symbol that a word stands for, at the terms of its parts: the upper halves of pairs. The first part is of the sort `first`.

@@ -3,6 +3,7 @@
 #![tactic(auto)]
 
 use bundle::Bundle;
+use printing::print;
 
 fn main() {
     let mut input = io::large_buffer();
@@ -12,16 +13,16 @@ fn main() {
     let mut sets = [0u64; Bundle::SET_WORDS * Bundle::TERMS];
     match writer::expand(&input[..n], &mut out, &mut words, &mut sets) {
         Ok(length) => {
+            // As `text_refusals::write_start`: a call would have this program stand on the sentences of another, for one `if`.
             if let Some(file) = out.get(..length) {
                 io::write_all(1, file);
             }
         }
         Err(failure) => {
-            io::write_all(2, b"refused ");
-            io::print_decimal(2, failure.check.number() as u64);
-            io::write_all(2, b" ");
-            io::print_decimal(2, failure.record as u64);
-            io::write_all(2, b"\n");
+            print(
+                2,
+                format_args!("refused {} {}\n", failure.check.number(), failure.record),
+            );
         }
     }
 }

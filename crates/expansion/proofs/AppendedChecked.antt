@@ -22,7 +22,7 @@ use Rattle.logic.specs.Instance.{StepHolds}
 use Rattle.logic.specs.Longer.{Longer, with_variables, with_terms, with_contexts, with_steps, start_of, consecutive, add_list, list_start}
 use Rattle.logic.proofs.Firsts.{none_bad}
 use Rattle.logic.proofs.Instances.{step_holds, steps_exactly}
-use Rattle.logic.proofs.Longer.{longer_refl, sizes, prefix_at, consecutive_length, list_longer, variables_longer, terms_longer, contexts_longer}
+use Rattle.logic.proofs.Longer.{longer_refl, sizes, prefix_at, list_longer, variables_longer, terms_longer, contexts_longer, list_length}
 use Rattle.logic.proofs.Longer.{steps_longer, variable_added, term_added}
 use Rattle.logic.proofs.FormedKept.{link_formed_kept, symbol_formed_kept, variable_formed_kept, term_formed_kept, fields_kept, context_formed_kept}
 use Rattle.logic.proofs.Later.{passes_kept}
@@ -123,11 +123,6 @@ consecutive_next m (v ∷ vs) (suc i) h = go (consecutive_next (suc m) vs i (ome
     go (inr e) = inr (omega (arith, e.0), omega (arith, e.1))
 
 module _ (b : Bundle) (vs : List ℕ) where
-  list_length : length (add_list b vs).links ≡ length b.links + length vs
-  list_length =
-      length-append b.links (consecutive (suc (length b.links)) vs)
-      ∙ ap (λ (n : ℕ). length b.links + n) (consecutive_length (suc (length b.links)) vs)
-
   start_within : (m : ℕ) (us : List ℕ) → start_of (suc m) us ≤ m + length us
   start_within m [] = omega arith
   start_within m (v ∷ us) = omega arith
@@ -135,7 +130,7 @@ module _ (b : Bundle) (vs : List ℕ) where
   module _ {B : Bundle} (more : Longer (add_list b vs) B) where
     -- the number of the list just appended starts a list of every longer bundle
     pub list_start_lem : list_start b vs ≤ length B.links
-    list_start_lem = omega (arith, start_within (length b.links) vs, list_length, (sizes more).links)
+    list_start_lem = omega (arith, start_within (length b.links) vs, list_length b vs, (sizes more).links)
 
     -- the links appended are in order
     pub list_in_order : Past (LinkFormed B) (length b.links) (length (add_list b vs).links)
@@ -149,7 +144,7 @@ module _ (b : Bundle) (vs : List ℕ) where
         formed {x} i is q (inl z) = inl (ap (λ (l : Link). l.next) q ∙ z)
         formed {x} i is q (inr z) =
             let same : (link_of B n).next ≡ x.next = ap (λ (l : Link). l.next) q in
-            inr (omega (arith, z.0), omega (arith, z.1, list_length, (sizes more).links))
+            inr (omega (arith, z.0), omega (arith, z.1, list_length b vs, (sizes more).links))
 
         go : (i : ℕ) → n ≡ suc (m + i) → LinkFormed B n
         go i is =
@@ -157,7 +152,7 @@ module _ (b : Bundle) (vs : List ℕ) where
             (prefix_at no_link (add_list b vs).links B.links more.links n hi
             ∙ ap (λ (k : ℕ). at no_link (add_list b vs).links k) is
             ∙ get_or-append-add b.links (consecutive (suc m) vs) i no_link)
-            (consecutive_next (suc m) vs i (omega (arith, list_length)))
+            (consecutive_next (suc m) vs i (omega (arith, list_length b vs)))
 
 -- Sections that no `let` speaks of have no new records.
 

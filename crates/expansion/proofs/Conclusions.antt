@@ -1,7 +1,7 @@
 -- Steps that a visit appends: each is an instance of its rule, and its sides are in scope.
 --     Done, done_kept, done_says           step p carries term t to its result r in context c
 --     DoneAll, done_all_kept               the same of lists of terms, results and steps
---     done_terms, done_results, done_sorts, done_steps, say_all     what follows for the lists
+--     done_results, done_sorts, done_steps, say_all     what follows for the lists
 --     Visited, conclude                    THE LAW: what a visit leaves whose step is an instance, in every longer bundle, and has its sides in scope
 use mathlib.Core.Path.{◌≡◌, refl, sym, ap, ap₂, ◌∙◌, subst}
 use Prim.Native.Nat.{ℕ, suc, ◌≤◌}
@@ -67,10 +67,6 @@ done_all_kept longer formed done_none = done_none
 done_all_kept longer formed (done_more h hs) = done_more (done_kept longer formed h) (done_all_kept longer formed hs)
 
 module _ {N : ℕ → Type 0} {b : Bundle} {c : ℕ} where
-  pub done_terms : {ts rs ps : List ℕ} → DoneAll N b c ts rs ps → All (Number (length b.terms)) ts
-  done_terms done_none = tt
-  done_terms (done_more h hs) = (h.term, done_terms hs)
-
   pub done_results : {ts rs ps : List ℕ} → DoneAll N b c ts rs ps → All (Result N b) rs
   done_results done_none = tt
   done_results (done_more h hs) = (h.result, done_results hs)

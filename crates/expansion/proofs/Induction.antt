@@ -16,6 +16,7 @@ use native.Mathlib.Omega.{arith}
 use lib.ListN.{length, length-append}
 use lib.Dec.{eqb}
 use borrow.Author.Tests.{eq-eqb, ne_eqb}
+use Rattle.std.proofs.lemmas.Bool.{or_from}
 use Rattle.bundle.specs.Bundle.{Bundle, sort_of_variable}
 use Rattle.logic.specs.declared.Image.{Image}
 use Rattle.logic.specs.declared.Image.TheVariants.{Own, Gives}
@@ -29,7 +30,6 @@ use Rattle.logic.specs.Rules.{REFL, rule_of}
 use Rattle.logic.specs.WellFormed.{ListsFormed, WellFormed}
 use Rattle.logic.specs.Instance.{ReflForm, Instance, by_refl, by_cong, by_bind, by_let, Replaces}
 use Rattle.logic.specs.Longer.{Longer, with_variables, add_list, list_start}
-use Rattle.logic.proofs.Tests.{or_neither}
 use Rattle.logic.proofs.FreeSettled.{free_number}
 use Rattle.logic.proofs.ReflStep.{refl_forms}
 use Rattle.logic.proofs.Found.{given_mentioned}
@@ -120,7 +120,7 @@ not_refl k other e = absurd (other (refl_rule k e))
 gather_plain : (N : ℕ → Type 0) (b : Bundle) (rs : List ℕ) → All (Result N b) rs → hold_lets (gather (tree b) rs) ≡ false
 unfolding gather holds_let
 gather_plain N b [] h = refl
-gather_plain N b (r ∷ rs) h = or_neither (holds_let (tree b r)) (hold_lets (gather (tree b) rs)) h.0.plain (gather_plain N b rs h.1)
+gather_plain N b (r ∷ rs) h = or_from (holds_let (tree b r)) (hold_lets (gather (tree b) rs)) h.0.plain (gather_plain N b rs h.1)
 
 gather_new : (N : ℕ → Type 0) (b : Bundle) (rs : List ℕ) → All (Result N b) rs → (x : ℕ) → Frees x (gather (tree b) rs) → N x
 unfolding gather

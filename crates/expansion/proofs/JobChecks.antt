@@ -9,11 +9,13 @@ use Prim.Native.Nat.{ℕ, zero, suc, ◌+◌, ◌-◌, ◌≤◌}
 use mathlib.Core.Path.{◌≡◌, refl, ap, ◌∙◌}
 use mathlib.Core.Logic.{◌↔◌}
 use mathlib.Core.Bool.{Bool, true, false, cond, not}
-use mathlib.Core.List.{List, [], ◌∷◌}
+use mathlib.Core.List.{List, []}
 use native.Mathlib.Omega.{arith}
 use lib.ListN.{length, take, replicate}
 use lib.Seq.{drop-append_seam}
 use borrow.Author.Tests.{eqb-true, eq-eqb, leb-true, le-leb}
+use Rattle.std.proofs.lemmas.List.{nil_from_length}
+use Rattle.std.proofs.lemmas.Bool.Decides.{Decides-not}
 use Rattle.bundle.specs.Bundle.{Bundle}
 use Rattle.bundle.specs.Limits.{header_words, Within}
 use Rattle.bundle.specs.File.{bundle_of, own_counts}
@@ -26,7 +28,7 @@ use Rattle.logic.specs.Free.{Free, Closed, free_at}
 use Rattle.logic.specs.WellFormed.{TablesFormed}
 use Rattle.logic.specs.Checks.{header_fault, sections_fault, tables_fault}
 use Rattle.logic.proofs.Tests.{passed_each, all_passed, up_to_lem, up_to_all}
-use Rattle.logic.proofs.Exactly.{not_exactly, number_exactly}
+use Rattle.logic.proofs.Exactly.{number_exactly}
 use Rattle.logic.proofs.Firsts.{next_both, both_next}
 use Rattle.logic.proofs.FreeSettled.{free_at_exactly, free_number}
 use Rattle.logic.proofs.Formed.{tables_exactly}
@@ -69,17 +71,13 @@ long_exactly out words sets = (there, back)
 
 -- ---- 18 and 17
 
-none_of : {A : Type 0} (xs : List A) → length xs ≡ 0 → xs ≡ []
-none_of [] e = refl
-none_of (x ∷ xs) e = absurd (omega arith)
-
 module _ (b : Bundle) where
   pub bare_exactly : (is_bare b ≡ true) ↔ ((b.contexts ≡ []) × (b.steps ≡ []) × (b.right ≡ 0))
   bare_exactly = (
     λ e.
         let t = passed_each _ e in (
-          none_of b.contexts (eqb-true (length b.contexts) 0 t.0),
-          none_of b.steps (eqb-true (length b.steps) 0 t.1.0),
+          nil_from_length b.contexts (eqb-true (length b.contexts) 0 t.0),
+          nil_from_length b.steps (eqb-true (length b.steps) 0 t.1.0),
           eqb-true b.right 0 t.1.1.0,
         ),
     λ h.
@@ -96,7 +94,7 @@ module _ (b : Bundle) where
   )
     where
       here : (x : ℕ) → (not (free_at b b.left x) ≡ true) ↔ (Free x (tree b b.left) → ⊥)
-      here x = not_exactly (free_at b b.left x) (free_at_exactly b formed b.left x)
+      here x = Decides-not (free_at b b.left x) (free_at_exactly b formed b.left x)
 
 -- ---- all checks
 

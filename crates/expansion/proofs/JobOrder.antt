@@ -5,13 +5,14 @@ use Prim.Native.Nat.{ℕ}
 use mathlib.Core.Path.{◌≡◌, refl, subst}
 use mathlib.Core.List.{List}
 use lib.ListN.{length}
+use Rattle.logic.proofs.Firsts.{next_nested}
 use Rattle.bundle.specs.Bundle.{Bundle}
 use Rattle.bundle.specs.File.{bundle_of}
 use Rattle.logic.specs.Tests.{Fault}
 use Rattle.logic.specs.Tests.{first_failing, fault, or_else, or_next}
 use Rattle.logic.specs.Checks.{header_tests, header_fault, link_tests, links_fault, symbol_tests, symbols_fault, variable_tests, variables_fault, term_tests, terms_fault}
 use Rattle.judgement.specs.Order.{checks_of}
-use Rattle.judgement.proofs.Order.{next_nested, Finds, finds_next, finds_tests, finds_section}
+use Rattle.judgement.proofs.Order.{Finds, finds_next, finds_tests, finds_section}
 use Rattle.expansion.specs.Expansion.{long_enough, job_tests, job_fault}
 use Rattle.expansion.specs.JobOrder.{last_checks, all_job_checks}
 

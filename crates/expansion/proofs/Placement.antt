@@ -6,7 +6,6 @@
 --     no_equal                             a new term has no equal
 --     placed_as                            THE LAW, for any lookup, lists and record
 --     variable_placed, application_placed, binder_placed, let_placed     the kinds of terms
---     fresh_none                           the term of a new variable is never found
 use mathlib.Core.Path.{◌≡◌, refl, sym, ap, ap₂, ◌∙◌}
 use Prim.Native.Nat.{ℕ, zero, suc, ◌<◌}
 use mathlib.Core.Bool.{Bool, true, false, cond, ◌&&◌, false≢true}
@@ -15,6 +14,7 @@ use native.Mathlib.Omega.{arith}
 use lib.ListN.{length, get_or, length-append}
 use lib.Dec.{eqb}
 use borrow.Author.Tests.{eqb-true, eq-eqb}
+use Rattle.std.proofs.lemmas.Bool.{and_from}
 use Rattle.bundle.specs.Bundle.{Bundle, TermRecord, no_term, term_of}
 use Rattle.bundle.specs.Links.{items}
 use Rattle.bundle.specs.Lists.{same_list}
@@ -27,17 +27,15 @@ use Rattle.logic.specs.Terms.{number_of}
 use Rattle.logic.specs.WellFormed.{sort_of_term, ListsFormed, TermFormed, a_variable, an_application, a_binder, a_let, number, list, Fields, fields_as, fields_of}
 use Rattle.logic.specs.WellFormed.{TablesFormed}
 use Rattle.logic.specs.Longer.{Longer, with_terms, add_list, list_start}
-use Rattle.logic.proofs.Tests.{and_left, and_right, and_both, same_list_lem, list_same}
+use Rattle.logic.proofs.Tests.{and_left, and_right, same_list_lem, list_same}
 use Rattle.logic.proofs.TermKinds.{number_kind, binder_number}
 use Rattle.logic.proofs.Formed.{tree_variable, tree_application, tree_binder, tree_let}
-use Rattle.logic.proofs.FreeSettled.{free_number}
 use Rattle.logic.proofs.TermNumbers.{of_kind}
 use Rattle.logic.proofs.Longer.{longer_refl, longer_trans, list_longer, list_added, terms_longer, term_added}
 use Rattle.logic.proofs.Kept.{signature_kept, sorts_kept, tree_kept, sort_tree_kept}
 use Rattle.logic.proofs.FormedKept.{lists_formed_kept, fields_kept}
 use Rattle.logic.specs.Lookup.{after, seek, same_variable, same_application, same_binder, same_let}
 use Rattle.expansion.specs.Placed.{PlacedTerm, placed, place_variable, place_application, place_binder, place_let}
-use Rattle.expansion.specs.Visit.{new_variable}
 use Rattle.expansion.proofs.Grown.{lists_longer}
 use Rattle.expansion.proofs.AppendedChecked.{Checked, list_checked, list_start_lem, term_checked}
 
@@ -234,23 +232,7 @@ variable_placed b y old n =
     complete x e =
         let k : x.kind ≡ 1 = same_kind b B x r e in
         let same : plain_fields b x ≡ plain_fields B r = sym (variable_fields b x k) ∙ e ∙ variable_fields B r refl in
-        and_both (eqb x.kind 1) (eqb x.a y) (eq-eqb x.kind 1 k) (eq-eqb x.a y (number_same (ap (λ (f : Fields). f.first) same)))
-
--- The term of a new variable is never found: so code may append it unasked.
-pub fresh_none : (b : Bundle) → Checked b → seek (same_variable (new_variable b)) b.terms ≡ 0
-unfolding same_variable
-fresh_none b old = go (seek (same_variable (new_variable b)) b.terms) refl
-  where
-    go : (n : ℕ) → seek (same_variable (new_variable b)) b.terms ≡ n → n ≡ 0
-    go zero e = refl
-    go (suc n) e =
-        let x : TermRecord = term_of b (suc n) in
-        let (here, holds) = seek_found (same_variable (new_variable b)) b.terms n e in
-        let k : x.kind ≡ 1 = eqb-true x.kind 1 (and_left (eqb x.kind 1) (eqb x.a (new_variable b)) holds) in
-        let y : x.a ≡ new_variable b = eqb-true x.a (new_variable b) (and_right (eqb x.kind 1) (eqb x.a (new_variable b)) holds) in
-        let is : tree b (suc n) ≡ var (new_variable b) = tree_variable b old.formed.tables (suc n) (of_kind b old.formed.tables (suc n) k) ∙ ap var y in
-        let old-one = free_number b old.formed.tables (suc n) (new_variable b) (rw is refl) in
-        absurd (omega (arith, old-one.1))
+        and_from (eqb x.kind 1) (eqb x.a y) (eq-eqb x.kind 1 k) (eq-eqb x.a y (number_same (ap (λ (f : Fields). f.first) same)))
 
 -- ---- applications
 
@@ -314,8 +296,8 @@ application_placed b f ts old known are sorts =
     complete x e =
         let k : x.kind ≡ 2 = same_kind b B x r e in
         let same = sym (application_fields b x k) ∙ e ∙ application_fields B r refl in
-        and_both (eqb x.kind 2) (eqb x.a f && same_list (items b x.b) ts) (eq-eqb x.kind 2 k)
-        (and_both (eqb x.a f) (same_list (items b x.b) ts) (eq-eqb x.a f (number_same (ap (λ (f : Fields). f.first) same)))
+        and_from (eqb x.kind 2) (eqb x.a f && same_list (items b x.b) ts) (eq-eqb x.kind 2 k)
+        (and_from (eqb x.a f) (same_list (items b x.b) ts) (eq-eqb x.a f (number_same (ap (λ (f : Fields). f.first) same)))
         (list_same (items b x.b) ts (list_same_field (ap (λ (f : Fields). f.second) same) ∙ li)))
 
 -- ---- binders
@@ -371,8 +353,8 @@ binder_placed b q y t old ny nt sorted =
     complete x e =
         let k : x.kind ≡ number_of (binder q) = same_kind b B x r e in
         let same : plain_fields b x ≡ plain_fields B r = sym (binder_fields b q x k) ∙ e ∙ binder_fields B q r refl in
-        and_both (eqb x.kind (number_of (binder q))) (eqb x.a y && eqb x.b t) (eq-eqb x.kind (number_of (binder q)) k)
-        (and_both (eqb x.a y) (eqb x.b t) (eq-eqb x.a y (number_same (ap (λ (f : Fields). f.first) same)))
+        and_from (eqb x.kind (number_of (binder q))) (eqb x.a y && eqb x.b t) (eq-eqb x.kind (number_of (binder q)) k)
+        (and_from (eqb x.a y) (eqb x.b t) (eq-eqb x.a y (number_same (ap (λ (f : Fields). f.first) same)))
         (eq-eqb x.b t (number_same (ap (λ (f : Fields). f.second) same))))
 
 -- ---- lets
@@ -447,9 +429,9 @@ let_placed b vs ts t old nv nt n lists =
     complete x e =
         let k : x.kind ≡ 5 = same_kind b B x r e in
         let same = sym (let_fields b x k) ∙ e ∙ let_fields B r refl in
-        and_both (eqb x.kind 5) (same_list (items b x.a) vs && (same_list (items b x.b) ts && eqb x.c t)) (eq-eqb x.kind 5 k)
-        (and_both (same_list (items b x.a) vs) (same_list (items b x.b) ts && eqb x.c t)
+        and_from (eqb x.kind 5) (same_list (items b x.a) vs && (same_list (items b x.b) ts && eqb x.c t)) (eq-eqb x.kind 5 k)
+        (and_from (same_list (items b x.a) vs) (same_list (items b x.b) ts && eqb x.c t)
         (list_same (items b x.a) vs (list_same_field (ap (λ (f : Fields). f.first) same) ∙ let_variables b vs ts t))
-        (and_both (same_list (items b x.b) ts) (eqb x.c t)
+        (and_from (same_list (items b x.b) ts) (eqb x.c t)
         (list_same (items b x.b) ts (list_same_field (ap (λ (f : Fields). f.second) same) ∙ let_terms b vs ts t))
         (eq-eqb x.c t (number_same (ap (λ (f : Fields). f.third) same)))))

@@ -1,6 +1,6 @@
 // Sections copied from a file into the scratch, and stored from the scratch into a file. Places and a count, where slices of just the section would say
 // both ends of both places at each call, as in `&file[4 * from..4 * (from + count)]` and `&mut words[to..to + count]`.
-ghost use Rattle.std.specs.Prelude.{◌≡◌, [], ◌∷◌, ◌+◌, ◌*◌, ◌/◌, ◌%◌, ◌≤◌, length, take, drop};
+ghost use Rattle.std.specs.Prelude.{◌≡◌, [], ◌∷◌, ◌+◌, ◌*◌, ◌≤◌, length, take, drop};
 ghost use Rattle.files.specs.Copies.{copied};
 ghost use Rattle.files.specs.Stores.{WordsStored};
 

@@ -8,7 +8,7 @@ ghost use Rattle.expansion.specs.File.{file_of};
 
 use super::sections::store_section;
 use bundle::{Bundle, Counts};
-use scratch::Scratch;
+use scratch::View;
 
 // The words of the header: version, counts, claim.
 fn header(c: Counts, left: usize, right: usize) -> [u32; Bundle::HEADER]
@@ -30,7 +30,7 @@ fn header(c: Counts, left: usize, right: usize) -> [u32; Bundle::HEADER]
 
 // Stores the file of the bundle in the scratch, with the claim that `left` is `right`, at the start of the output. Its length in bytes.
 // The walk over the sections is that of `copy_job`, turned round (see there).
-pub fn store_file(scratch: &Scratch<'_>, left: usize, right: usize, out: &mut [u8]) -> usize
+pub fn store_file(scratch: &View<'_>, left: usize, right: usize, out: &mut [u8]) -> usize
     requires { (left ≤ largest_word) × (right ≤ largest_word) × (bytes_of limits ≤ length out.old)
         × (scratch.now.version ≤ largest_word) }
     ensures { (length out.new ≡ length out.old) × Within (own_counts scratch.now) × (result ≡ bytes_of (own_counts scratch.now))

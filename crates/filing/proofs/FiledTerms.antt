@@ -23,6 +23,7 @@ use Rattle.bundle.specs.Bundle.{Bundle, TermRecord, term_of}
 use Rattle.bundle.specs.Limits.{limits}
 use Rattle.bundle.specs.Links.{items}
 use Rattle.bundle.specs.Lists.{same_list}
+use Rattle.bundle.proofs.LinkNotes.{zeros}
 use Rattle.bundle.specs.Filed.{digests, mix, Filed}
 use Rattle.bundle.proofs.Filed.{mix_small, Sought, sought_lowest}
 use Rattle.bundle.proofs.Filed.{filed_none as none-filed, filed_on as on-filed}
@@ -134,12 +135,7 @@ abbrev places : ℕ
 places = digests + limits.terms + 1
 
 pub filed_none : (b : Bundle) → FiledTo b (replicate places 0) 0
-filed_none b = record { long = length-replicate {A = ℕ} places 0; held = λ B more. none-filed _ _ _ (zero_at places) (λ j. zero_at places (digests + j)) }
-  where
-    zero_at : (n d : ℕ) → ◌≡◌ {A = ℕ} (get_or (replicate n 0) d 0) 0
-    zero_at zero d = refl
-    zero_at (suc n) zero = refl
-    zero_at (suc n) (suc d) = zero_at n d
+filed_none b = record { long = length-replicate {A = ℕ} places 0; held = λ B more. none-filed _ _ _ (zeros places).zero (λ j. (zeros places).zero (digests + j)) }
 
 module _ (b : Bundle) (ix : List ℕ) (n d : ℕ) (filed : FiledTo b ix n) (t n' : ℕ) (next : t ≡ suc n) (last : n' ≡ t)
     (own : (B : Bundle) → Longer b B → lookup_digest B (term_of B t) ≡ d) (room : t ≤ limits.terms) where

@@ -7,7 +7,7 @@ ghost use Rattle.filing.specs.Filing.{mix_all, root_digest, let_digest, lookup_d
 
 use bundle::digests::Digest;
 use logic::kinds::Kind;
-use scratch::Scratch;
+use scratch::View;
 use scratch::pairs::half;
 
 // The digest of a kind and a first field. The kind by number: a term's record may have any.
@@ -30,7 +30,7 @@ pub fn mixed_halves(d: Digest, pairs: &[u64], upper: bool) -> Digest
 }
 
 // A digest and the items of a list.
-fn mixed_items(scratch: &Scratch<'_>, d: Digest, list: usize) -> Digest
+fn mixed_items(scratch: &View<'_>, d: Digest, list: usize) -> Digest
     ensures { result ≡ mix_all d (items scratch.now list) }
 {
     let mut sum = d;
@@ -41,7 +41,7 @@ fn mixed_items(scratch: &Scratch<'_>, d: Digest, list: usize) -> Digest
 }
 
 // The digest of a let, by its lists of variables and of bound terms and its body.
-fn let_digest(scratch: &Scratch<'_>, variables: usize, bound: usize, body: usize) -> Digest
+fn let_digest(scratch: &View<'_>, variables: usize, bound: usize, body: usize) -> Digest
     ensures { result ≡ let_digest (items scratch.now variables) (items scratch.now bound) body }
 {
     let d = Digest::empty().mixed(Kind::Let.number());
@@ -62,7 +62,7 @@ pub fn pairs_digest(body: usize, pairs: &[u64]) -> Digest
 }
 
 // The digest of the record of term t.
-pub fn digest(scratch: &Scratch<'_>, t: usize) -> Digest
+pub fn digest(scratch: &View<'_>, t: usize) -> Digest
     ensures { result ≡ lookup_digest scratch.now (term_of scratch.now t) }
 {
     let term = scratch.term_words(t);

@@ -18,13 +18,13 @@ use bundle::records::{ContextWords, StepWords, TermWords};
 use bundle::{Bundle, Counts};
 use digests::digest;
 use logic::Image;
-use scratch::Scratch;
 use scratch::appends::Appends;
+use scratch::{Scratch, View};
 use std::marker::Model;
 
 // The places of an index: for each digest its newest term, then, from place DIGESTS on, for each term the one before it with its digest; 0 for none, which is no
 // term's number. One array, as the definition of the index has it.
-const PLACES: usize = DIGESTS + Bundle::TERMS + 1;
+pub const PLACES: usize = DIGESTS + Bundle::TERMS + 1;
 
 // A scratch of which all terms are filed by a digest, made of what terms are looked up by. A clause sees the bundle.
 #[derive(Drop)]
@@ -44,8 +44,36 @@ impl<'a> Model for Filed<'a> {
     ghost invariant = { λ f. Indexed f.scratch f.index };
 }
 
+// The same, lent for reading alone: terms are looked up in it. A type beside `Filed`, as `View` beside `Scratch`.
+#[derive(Drop)]
+pub struct FiledView<'a> {
+    scratch: View<'a>,
+    index: &'a [u16; PLACES],
+}
+
+impl<'a> Model for FiledView<'a> {
+    ghost use Rattle.bundle.specs.Bundle.{Bundle};
+    ghost use Rattle.filing.specs.Filing.{Indexed};
+
+    ghost Value = { Bundle };
+
+    ghost view = { λ f. f.scratch };
+
+    ghost invariant = { λ f. Indexed f.scratch f.index.now };
+}
+
+impl<'a> FiledView<'a> {
+    // A scratch with the index of its terms.
+    pub fn of(scratch: View<'a>, index: &'a [u16; PLACES]) -> FiledView<'a>
+        requires { Indexed scratch index.now }
+        ensures { result ≡ scratch.entry }
+    {
+        FiledView { scratch, index }
+    }
+}
+
 // Files term t, whose digest is d.
-fn file_term(index: &mut [u16; PLACES], d: Digest, t: usize)
+pub fn file_term(index: &mut [u16; PLACES], d: Digest, t: usize)
     requires { (1 ≤ t) × (t ≤ limits.terms) }
     ensures { index.new ≡ set (set index.old (digests + t) (get_or index.old d 0)) d t }
 {
@@ -54,11 +82,11 @@ fn file_term(index: &mut [u16; PLACES], d: Digest, t: usize)
 }
 
 // Files all terms, where none is filed yet.
-fn file_terms(scratch: &Scratch<'_>, index: &mut [u16; PLACES])
+pub fn file_terms(scratch: &View<'_>, index: &mut [u16; PLACES])
     requires { TablesFormed scratch.now × (index.old ≡ replicate (digests + limits.terms + 1) 0) }
     ensures { Indexed scratch.now index.new }
 {
-    for t in 1..scratch.terms() + 1 {
+    for t in 1..scratch.counts().terms + 1 {
         file_term(index, digest(scratch, t), t);
     }
 }
@@ -70,7 +98,15 @@ impl<'a> Filed<'a> {
         ensures { result ≡ scratch.entry }
     {
         let mut index = [0u16; PLACES];
-        file_terms(&scratch, &mut index);
+        file_terms(&scratch.view(), &mut index);
+        Filed::with(scratch, index)
+    }
+
+    // A scratch with the index of its terms, which is at hand.
+    pub fn with(scratch: Scratch<'a>, index: [u16; PLACES]) -> Filed<'a>
+        requires { Indexed scratch index }
+        ensures { result ≡ scratch.entry }
+    {
         Filed { scratch, index }
     }
 
@@ -78,6 +114,27 @@ impl<'a> Filed<'a> {
         ensures { result.now ≡ self.now }
     {
         &self.scratch
+    }
+
+    // The index lent on: it holds all terms.
+    pub fn index(&self) -> &[u16; PLACES]
+        ensures { Indexed self.now result.now }
+    {
+        &self.index
+    }
+
+    // The scratch given back.
+    pub fn into_scratch(self) -> Scratch<'a>
+        ensures { result ≡ self.entry }
+    {
+        self.scratch
+    }
+
+    // The scratch and its index lent on, for reading.
+    pub fn view(&self) -> FiledView<'_>
+        ensures { result ≡ self.now }
+    {
+        FiledView::of(self.scratch.view(), &self.index)
     }
 
     // ---- One record appended to a section that has room: as the scratch does, and a term is filed.

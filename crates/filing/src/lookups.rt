@@ -8,15 +8,15 @@ ghost use Rattle.logic.specs.Lookup.{seek, same_variable, same_application, same
 ghost use Rattle.scratch.specs.Stack.{halves_of};
 ghost use Rattle.filing.specs.Filing.{mix_all, root_digest, let_digest, lookup_digest, found};
 
-use super::Filed;
+use super::FiledView;
 use bundle::Bundle;
 use bundle::digests::{DIGESTS, Digest};
 use logic::kinds::Kind;
-use scratch::Scratch;
+use scratch::View;
 use scratch::lists::same_halves;
 
-// Whether term t is the variable y.
-fn is_variable(scratch: &Scratch<'_>, t: usize, y: usize) -> bool
+// Whether term t is the variable y. Alike to that of `images`, which reads a file.
+fn is_variable(scratch: &View<'_>, t: usize, y: usize) -> bool
     ensures { result ≡ same_variable y (term_of scratch.now t) }
 {
     let term = scratch.term_words(t);
@@ -24,7 +24,7 @@ fn is_variable(scratch: &Scratch<'_>, t: usize, y: usize) -> bool
 }
 
 // Whether term t is the symbol at the upper halves of pairs.
-fn is_application(scratch: &Scratch<'_>, t: usize, symbol: usize, arguments: &[u64]) -> bool
+fn is_application(scratch: &View<'_>, t: usize, symbol: usize, arguments: &[u64]) -> bool
     ensures { result ≡ same_application scratch.now symbol (halves_of true arguments.now) (term_of scratch.now t) }
 {
     let term = scratch.term_words(t);
@@ -38,7 +38,7 @@ fn is_application(scratch: &Scratch<'_>, t: usize, symbol: usize, arguments: &[u
 }
 
 // Whether term t has this kind, which is a binder's, this variable and this body.
-fn same_binder(scratch: &Scratch<'_>, t: usize, kind: usize, y: usize, body: usize) -> bool
+fn same_binder(scratch: &View<'_>, t: usize, kind: usize, y: usize, body: usize) -> bool
     ensures { (q : Binder) → kind ≡ number_of (binder q) → result ≡ same_binder q y body (term_of scratch.now t) }
 {
     let term = scratch.term_words(t);
@@ -46,7 +46,7 @@ fn same_binder(scratch: &Scratch<'_>, t: usize, kind: usize, y: usize, body: usi
 }
 
 // Whether term t is the let, in the term `body`, of pairs: a pair has a variable in its lower half and the variable's bound term in its upper.
-fn is_let(scratch: &Scratch<'_>, t: usize, body: usize, pairs: &[u64]) -> bool
+fn is_let(scratch: &View<'_>, t: usize, body: usize, pairs: &[u64]) -> bool
     ensures { result ≡ same_let scratch.now (halves_of false pairs.now) (halves_of true pairs.now) body (term_of scratch.now t) }
 {
     let term = scratch.term_words(t);
@@ -58,7 +58,7 @@ fn is_let(scratch: &Scratch<'_>, t: usize, body: usize, pairs: &[u64]) -> bool
     named & (bound & (term.third == body))
 }
 
-impl<'a> Filed<'a> {
+impl<'a> FiledView<'a> {
     // The lowest term that passes a test, where all that pass have the digest d.
     fn lowest<F: Fn(usize) -> bool>(&self, d: Digest, same: F) -> Option<usize>
         requires { F.IsAlwaysCallable same }
@@ -67,7 +67,7 @@ impl<'a> Filed<'a> {
             → result ≡ found (seek p self.now.terms) }
     {
         // So each place that the chain names is in the index.
-        prove!(self.scratch.terms() <= Bundle::TERMS);
+        prove!(self.scratch.counts().terms <= Bundle::TERMS);
         let mut lowest = None;
         let mut t = usize::from(self.index[d.place()]);
         // No `for`: this follows the chain of a digest through the index.
@@ -87,7 +87,7 @@ impl<'a> Filed<'a> {
         requires { d ≡ root_digest 1 y }
         ensures { result ≡ found (seek (same_variable y) self.now.terms) }
     {
-        let scratch = self.scratch();
+        let scratch = &self.scratch;
         self.lowest(d, |t| is_variable(scratch, t, y))
     }
 
@@ -96,7 +96,7 @@ impl<'a> Filed<'a> {
         requires { d ≡ mix_all (root_digest 2 symbol) (halves_of true arguments.now) }
         ensures { result ≡ found (seek (same_application self.now symbol (halves_of true arguments.now)) self.now.terms) }
     {
-        let scratch = self.scratch();
+        let scratch = &self.scratch;
         self.lowest(d, |t| is_application(scratch, t, symbol, arguments))
     }
 
@@ -105,7 +105,7 @@ impl<'a> Filed<'a> {
         requires { d ≡ root_digest kind y }
         ensures { (q : Binder) → kind ≡ number_of (binder q) → result ≡ found (seek (same_binder q y body) self.now.terms) }
     {
-        let scratch = self.scratch();
+        let scratch = &self.scratch;
         self.lowest(d, |t| same_binder(scratch, t, kind, y, body))
     }
 
@@ -114,7 +114,7 @@ impl<'a> Filed<'a> {
         requires { d ≡ let_digest (halves_of false pairs.now) (halves_of true pairs.now) body }
         ensures { result ≡ found (seek (same_let self.now (halves_of false pairs.now) (halves_of true pairs.now) body) self.now.terms) }
     {
-        let scratch = self.scratch();
+        let scratch = &self.scratch;
         self.lowest(d, |t| is_let(scratch, t, body, pairs))
     }
 }

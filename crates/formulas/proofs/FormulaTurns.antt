@@ -7,7 +7,7 @@
 --     word_reads                                     a word alone
 --     applied, applied_none, application_reads       an application
 --     quantifier_reads, let_reads                    a quantifier and a let, from inside
---     nothing_reads, deep_reads                      no formula; no level left
+--     deep_reads                                     no level left
 --     last_quantified, next_quantified, no_quantified, ..     the variables of a quantifier
 --     later_leaves                                   from a shorter text
 use Prim.Native.Nat.{ℕ, suc, ◌≤◌, ◌<◌}
@@ -38,7 +38,6 @@ use Rattle.heads.specs.declared.Headed.{Headed}
 use Rattle.heads.specs.declared.Item.{Item}
 use Rattle.heads.specs.HeadSymbols.{variable_for, symbol_for}
 use Rattle.heads.specs.Places.{after_part, arguments, pairs, Opening, alone, application, quantifying, binding, head_in, HeadInside, HeadAt, VariableAt, PartEnd}
-use Rattle.heads.proofs.LexemeLaws.{no_head}
 use Rattle.endings.specs.declared.ReadTerm.{ReadTerm}
 use Rattle.endings.specs.declared.ReadParts.{ReadParts}
 use Rattle.endings.specs.ReadOutcomes.{TermOutcome, TermFits}
@@ -183,10 +182,6 @@ same_application e = cc
 
 same_quantifying : {p q : Binder} → quantifying p ≡ quantifying q → p ≡ q
 same_quantifying e = cc
-
--- where no head is found, no formula stands there
-pub nothing_reads : (D : Bundle) {text : List ℕ} {b : Bundle} {h n : ℕ} {b' : Bundle} → HeadAt text None → Reads D text b h n b' None
-nothing_reads D at φ rest l = absurd (no_head at φ rest l)
 
 module _ {text : List ℕ} {r : Headed} (at : HeadAt text (Some r)) where
   inside_only : {k : ℕ} → number (head_in r.head) ≡ k → 1 ≤ k → (P : Formula → List Lexeme → Type 0)

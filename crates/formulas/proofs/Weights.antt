@@ -14,9 +14,9 @@ use Rattle.bundle.specs.File.{bundle_of}
 use Rattle.logic.specs.Lists.{All, Number}
 use Rattle.logic.specs.Terms.{Term, Terms, var, app, bind, let_in, none, more, gather, tree}
 use Rattle.logic.specs.WellFormed.{Lower, TablesFormed}
-use Rattle.logic.specs.Longer.{Longer, with_terms, add_list, consecutive}
+use Rattle.logic.specs.Longer.{Longer, with_terms, add_list}
 use Rattle.logic.specs.Lookup.{seek, same_variable, same_application, same_binder, same_let}
-use Rattle.logic.proofs.Longer.{longer_refl, longer_trans, list_longer, terms_longer, consecutive_length}
+use Rattle.logic.proofs.Longer.{longer_refl, longer_trans, list_longer, terms_longer, list_length}
 use Rattle.logic.proofs.Kept.{tree_kept}
 use Rattle.logic.proofs.Shapes.{Shape, var_shape, app_shape, bind_shape, let_shape, shape}
 use Rattle.expansion.specs.Placed.{PlacedTerm, placed}
@@ -113,31 +113,26 @@ placed_light b b' r zero τ longer same links formed p light =
     record { light = subst (λ (n : ℕ). weight B n ≤ length b'.links) (sym one) sum }
 placed_light b b' r (suc n) τ longer same links formed p light = light
 
-list_links : (b : Bundle) (vs : List ℕ) → length (add_list b vs).links ≡ length b.links + length vs
-list_links b vs =
-    length-append b.links (consecutive (suc (length b.links)) vs) ∙ ap (λ (n : ℕ). length b.links + n) (consecutive_length (suc (length
-    b.links)) vs)
-
 module _ (b₀ : Bundle) (formed : TablesFormed b₀) where
   mutual
     unfolding file arity
 
     file_light : (τ : Term) (b : Bundle) → Longer b₀ b → Checked b → TermSorted b₀ τ → Light b → Light (file τ b).bundle
     file_light (var x) b l old h light =
-        placed_light b (add_list b []) _ (seek (same_variable x) b.terms) (var x) (list_longer b []) refl (omega (arith, list_links b []))
+        placed_light b (add_list b []) _ (seek (same_variable x) b.terms) (var x) (list_longer b []) refl (omega (arith, list_length b []))
         old.formed.tables (filed b₀ formed (var x) b l old h).placed light
     file_light (app f ts) b l old h light =
         let p : PlacedTerms = file_all ts b in
         let a : AllFiled b ts p = all_filed b₀ formed ts b l old h.2 in
         let n : count ts ≡ length p.terms = ap count (sym a.stand) ∙ count_gather (tree p.bundle) p.terms in
         placed_light p.bundle (add_list p.bundle p.terms) _ (seek (same_application p.bundle f p.terms) p.bundle.terms) (app f ts)
-        (list_longer p.bundle p.terms) refl (omega (arith, n, list_links p.bundle p.terms)) a.checked.formed.tables
+        (list_longer p.bundle p.terms) refl (omega (arith, n, list_length p.bundle p.terms)) a.checked.formed.tables
         (filed b₀ formed (app f ts) b l old h).placed (all_light ts b l old h.2 light)
     file_light (bind q x t) b l old h light =
         let p : PlacedTerm = file t b in
         let a : FiledAs b t p = filed b₀ formed t b l old h.2 in
         placed_light p.bundle (add_list p.bundle []) _ (seek (same_binder q x p.term) p.bundle.terms) (bind q x t)
-        (list_longer p.bundle []) refl (omega (arith, list_links p.bundle [])) a.placed.checked.formed.tables
+        (list_longer p.bundle []) refl (omega (arith, list_length p.bundle [])) a.placed.checked.formed.tables
         (filed b₀ formed (bind q x t) b l old h).placed (file_light t b l old h.2 light)
     file_light (let_in vs ts t) b l old h light =
         let p : PlacedTerms = file_all ts b in
@@ -147,7 +142,7 @@ module _ (b₀ : Bundle) (formed : TablesFormed b₀) where
         let c : FiledAs p.bundle t r = filed b₀ formed t p.bundle l₁ a.checked h.5 in
         let n : count ts ≡ length p.terms = ap count (sym a.stand) ∙ count_gather (tree p.bundle) p.terms in
         let links : length r.bundle.links + arity (let_in vs ts t) ≤ length (add_list (add_list r.bundle vs) p.terms).links =
-        omega (arith, n, list_links r.bundle vs, list_links (add_list r.bundle vs) p.terms) in
+        omega (arith, n, list_length r.bundle vs, list_length (add_list r.bundle vs) p.terms) in
         placed_light r.bundle (add_list (add_list r.bundle vs) p.terms) _ (seek (same_let r.bundle vs p.terms r.term) r.bundle.terms)
         (let_in vs ts t) (lists_longer r.bundle vs p.terms) refl links c.placed.checked.formed.tables
         (filed b₀ formed (let_in vs ts t) b l old h).placed

@@ -1,7 +1,10 @@
 // A formula of a text read, part by part, into the records of its term: four functions that call on each other. Each call has less text left than its
 // caller's, or as much and is nearer to a formula. `left` is how many levels of terms may still be opened.
-// The stack is a slice with a height: `read_parts` alone writes it, in one place, for which a struct would be no plainer.
-ghost use Rattle.std.specs.Prelude.{None, ◌≡◌, ◌≤◌};
+// The stack is a slice with a height: what is known of it (`StackKept`) is said of slices, and `read_parts` alone writes it, in one place. The pass has a
+// `Stack`, in a crate of its own.
+// The declarations and the stack as a struct, as the pass has them: tried, and the proof did not close: after `&self.stack[..]` was lent to `apply_parts`, the
+// stack in the clause was not shown to be the one that `read_parts` left.
+ghost use Rattle.std.specs.Prelude.{None};
 ghost use Rattle.logic.specs.Named.{binder_in};
 ghost use Rattle.formulas.specs.ReadGives.{Asks, Leaves, LeavesParts, Reads, ReadsQuantified, ReadsLet, ReadsParts};
 
@@ -96,7 +99,7 @@ fn read_let<'a>(
 }
 
 // Parts up to the closing bracket of their list: arguments, or pairs where they are bound. A pair for each is left on the stack, from `height` on: its
-// term above, its variable below.
+// term above, its variable below. `bound` as the definitions have it: parts with or without a variable.
 #[cycle(read_formula_read_let_read_parts_read_quantified)]
 fn read_parts<'a>(
     bundle: &Bundle,

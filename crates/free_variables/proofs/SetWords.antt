@@ -1,7 +1,7 @@
 -- Sets as words, and the area of all free sets as a list.
 --     bits_lt, bits_at    the number whose bits are a set's: below 2 ^ n, and its bit k says whether v + k is in the set
 --     area_is             words that hold all free sets, with zeros after them, are `free_area`
---     area_set_word       a word of a term's set in `free_area`; `term_below`: the term that a word belongs to
+--     area_set_word       a word of a term's set in `free_area`
 --     area_member         a member of a term's set in `free_area` is a free variable
 --     area_word           a word of `free_area` is below 2 ^ 64
 --     area_rest           a word after the sets is zero
@@ -10,13 +10,14 @@ use mathlib.Core.Logic.{inl}
 use mathlib.Core.Bool.{Bool, true, false, cond}
 use mathlib.Core.List.{List}
 use Prim.Native.Nat.{ℕ, zero, suc, ◌+◌, ◌*◌, ◌-◌, ◌/◌, ◌%◌, ◌^◌, ◌≤◌, ◌<◌}
-use native.Mathlib.Nat.{mod-lt, mod-eq_of_lt, div-eq_of_lt, div-one, div-add-mod, div-lt_iff_lt-mul, mul-add-div, mul-add-mod_self_left, mul_comm, pow-succ'}
+use native.Mathlib.Nat.{mod-lt, mod-eq_of_lt, div-eq_of_lt, div-one, div-add-mod, mul-add-div, mul-add-mod_self_left, mul_comm, pow-succ'}
 use native.Mathlib.Omega.{arith}
 use native.Mathlib.Decide.{dec_lt}
 use lib.ListN.{length, get_or}
 use lib.Seq.{ext_get_or}
 use lib.Dec.{ltb}
 use borrow.Author.Tests.{ltb-true, ltb-false, lt-ltb, le-ltb}
+use Rattle.std.proofs.lemmas.Nat.{div_below}
 use Rattle.bundle.specs.Bundle.{Bundle}
 use Rattle.bundle.specs.File.{tab}
 use Rattle.bundle.proofs.Tab.{tab_length, tab_at, tab_none}
@@ -63,10 +64,6 @@ word_is s k x small same =
 
 -- ---- the whole area
 
--- the term, counted from 0, that word j belongs to
-pub term_below : (n terms j : ℕ) → 1 ≤ n → j < n * terms → j / n < terms
-term_below n terms j one h = (div-lt_iff_lt-mul one).1 (rw mul_comm h)
-
 module _ (b : Bundle) (n m : ℕ) (one : 1 ≤ n) where
   abbrev word_of : ℕ → ℕ
   word_of j = cond (ltb j (n * length b.terms)) (set_word (free_at b (suc (j / n))) (j % n)) 0
@@ -95,7 +92,7 @@ module _ (b : Bundle) (n m : ℕ) (one : 1 ≤ n) where
 
       word : (j : ℕ) → j < length w → (p : Bool) → ltb j (n * length b.terms) ≡ p → get_or v j 0 ≡ cond p (set_word (free_at b (suc (j / n))) (j % n)) 0
       word j h true e =
-          let low : j / n < terms = rw count at (term_below n (length b.terms) j one (ltb-true j (n * length b.terms) e)) in
+          let low : j / n < terms = rw count at (div_below j n (length b.terms) one (rw mul_comm (ltb-true j (n * length b.terms) e))) in
           word_is (free_at b (suc (j / n))) (j % n) (get_or v j 0) (words j) (λ i l.
           ap (λ (x : ℕ). bit_at (get_or v x 0) i) (sym (div-add-mod j n))
           ∙ sym (member_bit v (n * (j / n)) n (j % n) i (mod-lt j one) l)

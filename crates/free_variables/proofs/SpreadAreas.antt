@@ -5,17 +5,18 @@ use mathlib.Core.Path.{◌≡◌, refl, sym, ap, ◌∙◌}
 use mathlib.Core.Bool.{Bool, true, false}
 use mathlib.Core.List.{List}
 use native.Mathlib.Omega.{arith}
-use native.Mathlib.Nat.{mod-lt, div-add-mod, mul-le-mul_right}
+use native.Mathlib.Nat.{mod-lt, div-add-mod, mul-le-mul_right, mul_comm}
 use native.Mathlib.Decide.{dec_lt}
 use lib.ListN.{length, get_or}
 use lib.Seq.{ext_get_or}
+use Rattle.std.proofs.lemmas.Nat.{div_below}
 use Rattle.bundle.specs.Bundle.{Bundle}
 use Rattle.bundle.proofs.Tab.{tab_length}
 use Rattle.logic.specs.Free.{free_at, bits_from, set_word, free_area}
 use Rattle.logic.proofs.Tests.{numbers_of_lem}
 use Rattle.logic.proofs.Trees.{free_known}
 use Rattle.free_variables.specs.Spread.{Spread}
-use Rattle.free_variables.proofs.SetWords.{term_below, area_set_word, area_rest}
+use Rattle.free_variables.proofs.SetWords.{area_set_word, area_rest}
 
 -- a word of a set that has none of its numbers is zero
 bits_none : (s : ℕ → Bool) (n v : ℕ) → ((x : ℕ) → v ≤ x → s x ≡ false) → bits_from s v n ≡ 0
@@ -61,7 +62,7 @@ module _ (b : Bundle) (n m size : ℕ) (w v : List ℕ) (one : 1 ≤ n) (words-f
           let q : ℕ = j / m in
           let k : ℕ = j % m in
           let at : m * q + k ≡ j = div-add-mod j m in
-          let low : q < terms = term_below m terms j (omega arith) l in
+          let low : q < terms = div_below j m terms (omega arith) (rw mul_comm l) in
           let here : k < m = mod-lt j (omega arith) in
           rw (← at) (word q k low here (dec_lt k n) ∙ sym (area_set_word b m size (omega arith) q k low here room))
       go j (no l) =

@@ -65,14 +65,16 @@ fn free_own(bundle: &Bundle, area: &mut [u64], n: usize, t: usize, at: usize) ->
     }
 }
 
-// Writes the free set of term t, from those of the terms below it.
-fn free_term(bundle: &Bundle, area: &mut [u64], n: usize, t: usize, uniting: &mut Uniting)
-    requires { SetRoom area.old n t (n * (t - 1)) × (length bundle.now.variables ≤ 64 * n) × SetsBelow area.old n t bundle.now
-        × (uniting.old ≡ record { bundle = bundle.now; n = n; t = t }) }
-    ensures { Put area.old area.new n (n * (t - 1)) (free_by bundle.now (set_below area.old n t) (term_of bundle.now t)) × (uniting.new ≡ uniting.old) }
+// Writes the free set of the term that `uniting` is at, from those of the terms below it.
+fn free_term(area: &mut [u64], uniting: &mut Uniting)
+    requires { let u = uniting.old in SetRoom area.old u.n u.t (u.n * (u.t - 1)) × (length u.bundle.variables ≤ 64 * u.n) × SetsBelow area.old u.n u.t u.bundle }
+    ensures { let u = uniting.old in Put area.old area.new u.n (u.n * (u.t - 1)) (free_by u.bundle (set_below area.old u.n u.t) (term_of u.bundle u.t))
+        × (uniting.new ≡ u) }
 {
+    let n = uniting.n();
+    let t = uniting.t();
     let at = n * (t - 1);
-    let list = free_own(bundle, area, n, t, at);
+    let list = free_own(uniting.bundle(), area, n, t, at);
     uniting.unite_list(area, at, list);
 }
 
@@ -85,33 +87,49 @@ fn free_terms(bundle: &Bundle, area: &mut [u64], n: usize, lists: &mut [u64], ma
 {
     let terms = bundle.terms();
     let mut uniting = Uniting::of(bundle, n, 1, lists, marks);
-    for t in 1..terms + 1 {
-        free_term(bundle, area, n, t, &mut uniting);
+    for _ in 0..terms {
+        free_term(area, &mut uniting);
         uniting.next();
     }
 }
 
-// The same, with room for the unions of the lists, for files with many variables. Two places call this: so the compiler keeps it, and its room, apart.
+// The same, with room of its own for the unions of the lists: for WORDS words of them, and for fewer than MARKS links.
+fn fitted<const WORDS: usize, const MARKS: usize>(bundle: &Bundle, area: &mut [u64], n: usize)
+    requires { (1 ≤ n) × (n * length bundle.now.terms ≤ length area.old) × (length bundle.now.variables ≤ 64 * n)
+        × (n * (length bundle.now.links + 1) ≤ WORDS) × (WORDS ≤ set_words * (limits.links + 1)) × (length bundle.now.links < MARKS) × (MARKS ≤ limits.links + 1) }
+    ensures { (length area.new ≡ length area.old)
+        × SetsBelow area.new n (length bundle.now.terms + 1) bundle.now }
+{
+    let mut lists = [0u64; WORDS];
+    let mut marks = [0u16; MARKS];
+    free_terms(bundle, area, n, &mut lists, &mut marks);
+}
+
+// Words for 512 links, for 1024, and for all that a file can have, where each set has as many words as a set may have.
+const FEW_WORDS: usize = Bundle::SET_WORDS * 513;
+
+const SOME_WORDS: usize = Bundle::SET_WORDS * 1025;
+
+const ALL_WORDS: usize = Bundle::SET_WORDS * (Bundle::LINKS + 1);
+
+const ALL_MARKS: usize = Bundle::LINKS + 1;
+
+// The same with room of one of three sizes, for files with many variables. Two places call this: so the compiler keeps it, and its room, apart.
 fn fitting_wide(bundle: &Bundle, area: &mut [u64], n: usize)
     requires { (1 ≤ n) × (n ≤ set_words) × (n * length bundle.now.terms ≤ length area.old) × (length bundle.now.variables ≤ 64 * n) }
     ensures { (length area.new ≡ length area.old)
         × SetsBelow area.new n (length bundle.now.terms + 1) bundle.now }
 {
-    if bundle.links() <= 512 {
-        let mut few_lists = [0u64; Bundle::SET_WORDS * 513];
-        let mut few_marks = [0u16; 513];
-        free_terms(bundle, area, n, &mut few_lists, &mut few_marks);
+    let links = bundle.links();
+    if links <= 512 {
+        fitted::<FEW_WORDS, 513>(bundle, area, n);
         return;
     }
-    if bundle.links() <= 1024 {
-        let mut some_lists = [0u64; Bundle::SET_WORDS * 1025];
-        let mut some_marks = [0u16; 1025];
-        free_terms(bundle, area, n, &mut some_lists, &mut some_marks);
+    if links <= 1024 {
+        fitted::<SOME_WORDS, 1025>(bundle, area, n);
         return;
     }
-    let mut lists = [0u64; Bundle::SET_WORDS * (Bundle::LINKS + 1)];
-    let mut marks = [0u16; Bundle::LINKS + 1];
-    free_terms(bundle, area, n, &mut lists, &mut marks);
+    fitted::<ALL_WORDS, ALL_MARKS>(bundle, area, n);
 }
 
 // The same with room of one of three sizes, or as above: small files ask for little room, since all of it is cleared.
@@ -122,15 +140,11 @@ fn fitting(bundle: &Bundle, area: &mut [u64], n: usize)
 {
     let words = n * (bundle.links() + 1);
     if words <= 65 {
-        let mut few_lists = [0u64; 65];
-        let mut few_marks = [0u16; 65];
-        free_terms(bundle, area, n, &mut few_lists, &mut few_marks);
+        fitted::<65, 65>(bundle, area, n);
         return;
     }
     if words <= 513 {
-        let mut some_lists = [0u64; 513];
-        let mut some_marks = [0u16; 513];
-        free_terms(bundle, area, n, &mut some_lists, &mut some_marks);
+        fitted::<513, 513>(bundle, area, n);
         return;
     }
     if n > 1 {
@@ -138,9 +152,7 @@ fn fitting(bundle: &Bundle, area: &mut [u64], n: usize)
         return;
     }
     if words <= 2049 {
-        let mut more_lists = [0u64; 2049];
-        let mut more_marks = [0u16; 2049];
-        free_terms(bundle, area, n, &mut more_lists, &mut more_marks);
+        fitted::<2049, 2049>(bundle, area, n);
         return;
     }
     fitting_wide(bundle, area, n);

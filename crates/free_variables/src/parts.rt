@@ -17,7 +17,8 @@ pub fn is_free(terms: usize, words: &[u64], n: usize, t: usize, v: usize) -> boo
     sets::member(words, n * (t - 1), n, v)
 }
 
-// Whether term t is settled where the set at `at` is that of the moved variables: it has none of them free.
+// Whether term t is settled where the set at `at` is that of the moved variables: it has none of them free. Alike to `is_free`,
+// which asks of one variable: a number that is no term's has none free, and is settled.
 pub fn is_settled(terms: usize, words: &[u64], n: usize, moved: &[u64], at: usize, t: usize) -> bool
     requires { (n * terms ≤ length words.now) × (at + n ≤ length moved.now) }
     ensures { result ≡ settled_among terms words.now n moved.now at t }

@@ -7,12 +7,13 @@ use mathlib.Core.Path.{◌≡◌, refl, sym, ◌∙◌}
 use mathlib.Core.Bool.{Bool, true, false, cond, true≢false}
 use mathlib.Core.List.{List, [], ◌∷◌, ◌++◌}
 use mathlib.Core.Option.{Option, none, some}
+use Rattle.std.proofs.lemmas.Bool.{or_parts}
 use Rattle.grammar.specs.Bytes.{Class, space, lineEnd, semicolon, opening, closing, digit, symbol, other, class_of, word_of, bytes}
 use Rattle.grammar.specs.Grammar.{Lexeme, word, Mode, between, comment, within, ends, onwards, last, lexemes_from}
 use Rattle.grammar.specs.Parser.{Due, formula, formulas, inside, opener, closer, sorted, sorteds, bound, bounds, variable, sortName, Fill}
 use Rattle.grammar.specs.Parser.{Stack, and_then, advance, takes, feed, complete, run, starts, may_grow, viable, State, enter, step, steps}
 use Rattle.grammar.specs.Parser.{finish}
-use Rattle.grammar.proofs.Words.{or_false, not_sort, grown}
+use Rattle.grammar.proofs.Words.{not_sort, grown}
 
 pub then_then : {B C D : Type 0} (o : Option B) (f : B → Option C) (g : C → Option D) → and_then (and_then o f) g ≡ and_then o (λ b. and_then (f b) g)
 unfolding and_then
@@ -60,7 +61,7 @@ module _ {A : Type 0} where
   refuses w (bounds ∷ σ) k e = refl
   refuses w (variable ∷ σ) k e = absurd (true≢false e)
   refuses w (sortName ∷ σ) k e =
-      let h = or_false (starts w (bytes "Bool")) (starts w (bytes "Item")) e in
+      let h = or_parts (starts w (bytes "Bool")) (starts w (bytes "Item")) e in
       rw (not_sort w h.0 h.1)
 
   refused : (cs : List ℕ) (w : List ℕ) (σ : List Due) (k : Fill σ → A) → may_grow w σ ≡ false

@@ -3,11 +3,13 @@
 --     grows_name     a run that ends in '~' is a name
 --     not_sort       a run that starts neither "Bool" nor "Item" is no sort
 use Prim.Native.Nat.{ℕ}
-use mathlib.Core.Path.{◌≡◌, refl, sym, ◌∙◌}
-use mathlib.Core.Bool.{Bool, true, false, cond, ◌&&◌, ◌||◌, true≢false, false≢true}
+use mathlib.Core.Path.{◌≡◌, refl, sym}
+use mathlib.Core.Bool.{Bool, true, false, cond, ◌&&◌, true≢false, false≢true}
 use mathlib.Core.List.{List, [], ◌∷◌, ◌++◌}
 use mathlib.Core.Option.{none}
 use lib.Dec.{eqb}
+use Rattle.std.proofs.lemmas.Bool.{or_parts}
+use borrow.Author.Tests.{both_ways}
 use Rattle.bundle.specs.Lists.{same_list, has}
 use Rattle.grammar.specs.Bytes.{bytes, Word, Reserved, name, twelve, word_among, word_of}
 use Rattle.grammar.specs.Parser.{Due, formula, formulas, inside, opener, closer, sorted, sorteds, bound, bounds, variable, sortName}
@@ -29,20 +31,16 @@ module _ (P : Word → Type 0) (w : List ℕ) (other : P (name w)) where
 
 -- ---- a run that ends in '~' is a name
 
-pub or_false : (p q : Bool) → (p || q) ≡ false → (p ≡ false) × (q ≡ false)
-or_false true q e = absurd (true≢false e)
-or_false false q e = (refl, e)
-
 tilde : (w v : List ℕ) → has 126 v ≡ false → same_list (w ++ (126 ∷ [])) v ≡ true → false ≡ true
 unfolding same_list has
 tilde [] [] h e = e
-tilde [] (y ∷ v) h e = go (eqb 126 y) (or_false (eqb 126 y) (has 126 v) h).0 e
+tilde [] (y ∷ v) h e = go (eqb 126 y) (or_parts (eqb 126 y) (has 126 v) h).0 e
   where
     go : (b : Bool) → b ≡ false → (b && same_list [] v) ≡ true → false ≡ true
     go true h e = sym h
     go false h e = e
 tilde (x ∷ w) [] h e = e
-tilde (x ∷ w) (y ∷ v) h e = go (eqb x y) (tilde w v (or_false (eqb 126 y) (has 126 v) h).1) e
+tilde (x ∷ w) (y ∷ v) h e = go (eqb x y) (tilde w v (or_parts (eqb 126 y) (has 126 v) h).1) e
   where
     go : (b : Bool) → (same_list (w ++ (126 ∷ [])) v ≡ true → false ≡ true) → (b && same_list (w ++ (126 ∷ [])) v) ≡ true → false ≡ true
     go true f e = f e
@@ -85,9 +83,6 @@ same_starts (x ∷ w) (y ∷ v) e = go (eqb x y) (same_starts w v) e
     go true f e = f e
     go false f e = e
 
-clash : (p : Bool) → p ≡ true → p ≡ false → false ≡ true
-clash p h e = sym e ∙ h
-
 pub not_sort : (w : List ℕ) → starts w (bytes "Bool") ≡ false → starts w (bytes "Item") ≡ false → on_sort (word_of w) ≡ none
 unfolding word_of twelve on_sort bytes
 not_sort w b i =
@@ -112,8 +107,8 @@ not_sort w b i =
                       (
                         λ e. refl,
                         (
-                          λ e. absurd (false≢true (clash _ (same_starts w (bytes "Bool") e) b)),
-                          (λ e. absurd (false≢true (clash _ (same_starts w (bytes "Item") e) i)), tt),
+                          λ e. absurd (both_ways _ b (same_starts w (bytes "Bool") e)),
+                          (λ e. absurd (both_ways _ i (same_starts w (bytes "Item") e)), tt),
                         ),
                       ),
                     ),
@@ -152,5 +147,5 @@ grown w c (bound ∷ σ) e = refl
 grown w c (bounds ∷ σ) e = refl
 grown w c (variable ∷ σ) e = e
 grown w c (sortName ∷ σ) e =
-    let h = or_false (starts w (bytes "Bool")) (starts w (bytes "Item")) e in
+    let h = or_parts (starts w (bytes "Bool")) (starts w (bytes "Item")) e in
     rw (starts_longer w (bytes "Bool") c h.0) (starts_longer w (bytes "Item") c h.1)

@@ -25,7 +25,7 @@ use Rattle.grammar.specs.Grammar.{Formulas, no_formula, and_formula, Bindings, n
 use Rattle.grammar.specs.Grammar.{spell, spell_bracketed, spell_variable, spell_variables, spell_formulas, spell_bindings}
 use Rattle.lexing.specs.Counted.{Numbered}
 use Rattle.lexing.specs.Words.{word_in, lexeme_in}
-use Rattle.lexing.specs.Lexes.{lexemes_of, Tail, Found, rest_of, Leaves}
+use Rattle.lexing.specs.Lexes.{lexemes_of, Tail, Stands, Found, rest_of, Leaves}
 use Rattle.lexing.specs.declared.lexemes.Lexed.{Lexed}
 use Rattle.lexing.specs.declared.lexemes.Lexeme.{Lexeme as Read}
 use Rattle.lexing.specs.declared.words.Word.{Word}
@@ -38,8 +38,8 @@ use Rattle.heads.specs.declared.Item.{Item}
 use Rattle.heads.specs.HeadSymbols.{variable_for}
 use Rattle.heads.proofs.WordNumbers.{variable_le}
 use Rattle.heads.specs.Places as P
-use Rattle.heads.specs.Places.{Part, after_part, spell_part, spell_parts, arguments, pairs, head_in, Starts, HeadInside, HeadOf, HeadAt, BracketedAt}
-use Rattle.heads.specs.Places.{ListedAt, Ends, GoesOn, VariableOf, PartOf, ItemAt, NamedAt, VariableAt, PartAt, PartEnd}
+use Rattle.heads.specs.Places.{Part, after_part, spell_parts, arguments, pairs, Opening, head_in, HeadStands, Starts, HeadInside, HeadOf, HeadAt, BracketedAt}
+use Rattle.heads.specs.Places.{ListedAt, VariableOf, PartOf, ItemAt, NamedAt, VariableAt, PartAt, PartEnd}
 
 -- ---- the next lexeme
 
@@ -84,10 +84,20 @@ spell_pairs (and_binding x φ xs) rest =
 
 -- ---- heads
 
+-- what stands in what is left of a text stands in the text
+stands_behind : {a b : List ℕ} {w : _} {rest : List ℕ} → Tail a b → Stands b w rest → Stands a w rest
+stands_behind t (run, some, is, u) = (run, some, is, tail_after t u)
+
+head_behind : {a b : List ℕ} (k : Opening) (rest : List ℕ) → Tail a b → HeadStands b k rest → HeadStands a k rest
+head_behind (P.alone w) rest t s = stands_behind t s
+head_behind (P.application w) rest t s = stands_behind t s
+head_behind (P.quantifying q) rest t (inside, s, u) = (inside, stands_behind t s, u)
+head_behind P.binding rest t (inside, s, u) = (inside, stands_behind t s, u)
+
 module _ {text : List ℕ} {first : Lexed} (h : Found text first) where
   pub alone_at : (w : Word) → lexeme_in first.lexeme ≡ word (word_in w) → HeadAt text (Some (record { head = Head.Alone w; rest = first.rest }))
   unfolding spell
-  alone_at w is = record { tail = h.tail; fewer = h.fewer; means = means }
+  alone_at w is = record { tail = h.tail; run = h.run (word_in w) is; fewer = h.fewer; means = means }
     where
       means : (φ : Formula) (rest : List Lexeme) → lexemes_of text ≡ spell φ rest → HeadOf (Some (record { head = Head.Alone w; rest = first.rest })) φ rest
       means (called v) rest e = let k = next_is h (word (name v)) rest e in (ap P.alone (word_same (sym is ∙ k.lexeme)), k.after)
@@ -96,11 +106,16 @@ module _ {text : List ℕ} {first : Lexed} (h : Found text first) where
 
   pub bracket_at : {r : Option Headed} → lexeme_in first.lexeme ≡ opens → BracketedAt first.rest.now r → HeadAt text r
   unfolding spell
-  bracket_at {r} is b = record { tail = tail r b.tail; fewer = fewer r b.fewer; means = means }
+  bracket_at {r} is b = record { tail = tail r b.tail; run = run r b.run; fewer = fewer r b.fewer; means = means }
     where
       tail : (r : Option Headed) → IfSome r (λ x. Tail first.rest.now x.rest.now) → IfSome r (λ x. Tail text x.rest.now)
       tail None t = tt
       tail (Some x) t = tail_after h.tail t
+
+      run : (r : Option Headed) → IfSome r (λ x. HeadStands first.rest.now (head_in x.head) x.rest.now)
+          → IfSome r (λ x. HeadStands text (head_in x.head) x.rest.now)
+      run None s = tt
+      run (Some x) s = head_behind (head_in x.head) x.rest.now h.tail s
 
       fewer : (r : Option Headed) → IfSome r (λ x. length x.rest.now < length first.rest.now) → IfSome r (λ x. length x.rest.now < length text)
       fewer None l = tt
@@ -114,7 +129,7 @@ module _ {text : List ℕ} {first : Lexed} (h : Found text first) where
   -- no formula starts with another lexeme
   pub none_at : (l : Lexeme) → lexeme_in first.lexeme ≡ l → (l ≡ opens → ⊥) → ((w : _) → l ≡ word w → ⊥) → HeadAt text None
   unfolding spell
-  none_at l is other noWord = record { tail = tt; fewer = tt; means = means }
+  none_at l is other noWord = record { tail = tt; run = tt; fewer = tt; means = means }
     where
       means : (φ : Formula) (rest : List Lexeme) → lexemes_of text ≡ spell φ rest → HeadOf None φ rest
       means (called v) rest e = noWord (name v) (sym is ∙ (next_is h (word (name v)) rest e).lexeme)
@@ -123,7 +138,7 @@ module _ {text : List ℕ} {first : Lexed} (h : Found text first) where
 
 pub over_at : {text : List ℕ} → lexemes_of text ≡ [] → HeadAt text None
 unfolding spell
-over_at {text} over = record { tail = tt; fewer = tt; means = means }
+over_at {text} over = record { tail = tt; run = tt; fewer = tt; means = means }
   where
     means : (φ : Formula) (rest : List Lexeme) → lexemes_of text ≡ spell φ rest → HeadOf None φ rest
     means (called v) rest e = none_next over e
@@ -168,7 +183,7 @@ module _ {text : List ℕ} {next : Lexed} (h : Found text next) where
   pub application_at : (w : Word) → lexeme_in next.lexeme ≡ word (word_in w) → ((b : BinderName) → w ≡ Word.Quantifier b → ⊥) → (w ≡ Word.Let → ⊥)
       → BracketedAt text (Some (record { head = Head.Application w; rest = next.rest }))
   unfolding spell spell_parts
-  application_at w is noQuantifier noLet = record { tail = h.tail; fewer = h.fewer; means = means }
+  application_at w is noQuantifier noLet = record { tail = h.tail; run = h.run (word_in w) is; fewer = h.fewer; means = means }
     where
       means : (φ : Bracketed) (rest : List Lexeme) → lexemes_of text ≡ spell_bracketed φ rest
           → HeadInside (Some (record { head = Head.Application w; rest = next.rest })) φ rest
@@ -184,6 +199,12 @@ module _ {text : List ℕ} {next : Lexed} (h : Found text next) where
   tail None t = tt
   tail (Some x) t = tail_after h.tail t
 
+  -- a head that a list follows
+  run : (k : Opening) (r : Option Headed) → IfSome r (λ x. head_in x.head ≡ k) → IfSome r (λ x. Tail next.rest.now x.rest.now)
+      → ((rest : List ℕ) → Tail next.rest.now rest → HeadStands text k rest) → IfSome r (λ x. HeadStands text (head_in x.head) x.rest.now)
+  run k None e t f = tt
+  run k (Some x) e t f = rw e (f x.rest.now t)
+
   fewer : (r : Option Headed) → IfSome r (λ x. length x.rest.now < length next.rest.now) → IfSome r (λ x. length x.rest.now < length text)
   fewer None l = tt
   fewer (Some x) l = omega (arith, l, h.fewer)
@@ -191,7 +212,7 @@ module _ {text : List ℕ} {next : Lexed} (h : Found text next) where
   pub quantifier_at : {r : Option Headed} (q : Binder) → lexeme_in next.lexeme ≡ word (quantifier q) → ListedAt next.rest.now (P.quantifying q) r
       → BracketedAt text r
   unfolding spell spell_variables
-  quantifier_at {r} q is b = record { tail = tail r b.tail; fewer = fewer r b.fewer; means = means }
+  quantifier_at {r} q is b = record { tail = tail r b.tail; run = run (P.quantifying q) r b.head b.tail (λ l u. (next.rest.now, h.run (quantifier q) is, u)); fewer = fewer r b.fewer; means = means }
     where
       means : (φ : Bracketed) (rest : List Lexeme) → lexemes_of text ≡ spell_bracketed φ rest → HeadInside r φ rest
       means (denies φ) rest e = absurd (other (sym is ∙ (next_is h _ _ e).lexeme))
@@ -220,7 +241,7 @@ module _ {text : List ℕ} {next : Lexed} (h : Found text next) where
 
   pub let_at : {r : Option Headed} → lexeme_in next.lexeme ≡ word letting → ListedAt next.rest.now P.binding r → BracketedAt text r
   unfolding spell spell_parts
-  let_at {r} is b = record { tail = tail r b.tail; fewer = fewer r b.fewer; means = means }
+  let_at {r} is b = record { tail = tail r b.tail; run = run P.binding r b.head b.tail (λ l u. (next.rest.now, h.run letting is, u)); fewer = fewer r b.fewer; means = means }
     where
       means : (φ : Bracketed) (rest : List Lexeme) → lexemes_of text ≡ spell_bracketed φ rest → HeadInside r φ rest
       means (denies φ) rest e = absurd (other (sym is ∙ (next_is h _ _ e).lexeme))
@@ -246,7 +267,7 @@ module _ {text : List ℕ} {next : Lexed} (h : Found text next) where
   -- no word
   pub no_word_at : ((w : _) → lexeme_in next.lexeme ≡ word w → ⊥) → BracketedAt text None
   unfolding spell
-  no_word_at other = record { tail = tt; fewer = tt; means = means }
+  no_word_at other = record { tail = tt; run = tt; fewer = tt; means = means }
     where
       means : (φ : Bracketed) (rest : List Lexeme) → lexemes_of text ≡ spell_bracketed φ rest → HeadInside None φ rest
       means (denies φ) rest e = other _ (next_is h _ _ e).lexeme
@@ -257,7 +278,7 @@ module _ {text : List ℕ} {next : Lexed} (h : Found text next) where
 
 pub over_inside : {text : List ℕ} → lexemes_of text ≡ [] → BracketedAt text None
 unfolding spell
-over_inside {text} over = record { tail = tt; fewer = tt; means = means }
+over_inside {text} over = record { tail = tt; run = tt; fewer = tt; means = means }
   where
     means : (φ : Bracketed) (rest : List Lexeme) → lexemes_of text ≡ spell_bracketed φ rest → HeadInside None φ rest
     means (denies φ) rest e = none_next over e

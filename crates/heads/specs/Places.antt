@@ -2,12 +2,12 @@
 use Rattle.std.specs.Prelude.{IfSome, ℕ, ◌≤◌, ◌<◌, ◌≡◌, Bool, true, false, cond, Option, Some, None, List, [], ◌∷◌, length}
 use Rattle.logic.specs.Terms.{Binder}
 use Rattle.logic.specs.Named.{binder_in}
-use Rattle.grammar.specs.Bytes.{Word, constant, negation, connective, name}
+use Rattle.grammar.specs.Bytes.{Word, constant, negation, connective, quantifier, letting, name}
 use Rattle.grammar.specs.Grammar.{SortedVariable, declares, Formula, called, truth, bracketed, Bracketed, denies, connects, applies, quantifies, lets}
 use Rattle.grammar.specs.Grammar.{Formulas, no_formula, and_formula, Bindings, no_binding, and_binding, Lexeme, opens, closes, word}
 use Rattle.grammar.specs.Grammar.{spell, spell_bracketed, spell_variables}
 use Rattle.lexing.specs.Counted.{variable_among}
-use Rattle.lexing.specs.Lexes.{lexemes_of, Tail}
+use Rattle.lexing.specs.Lexes.{lexemes_of, Tail, Stands}
 use Rattle.lexing.specs.Words.{word_in}
 use Rattle.heads.specs.declared.Head.{Head}
 use Rattle.heads.specs.declared.Headed.{Headed}
@@ -58,6 +58,16 @@ head_in (Head.Application w) = application (word_in w)
 head_in (Head.Quantifier q) = quantifying (binder_in q)
 head_in Head.Let = binding
 
+-- the word of a head is a run of the text's bytes: `rest` stands directly behind it, or, behind the opening bracket of a list, in what does
+abbrev pub StandsBefore : List ℕ → Word → List ℕ → Type 0
+StandsBefore text w rest = (behind : List ℕ) × Stands text w behind × Tail behind rest
+
+abbrev pub HeadStands : List ℕ → Opening → List ℕ → Type 0
+HeadStands text (alone w) rest = Stands text w rest
+HeadStands text (application w) rest = Stands text w rest
+HeadStands text (quantifying q) rest = StandsBefore text (quantifier q) rest
+HeadStands text binding rest = StandsBefore text letting rest
+
 -- there is a head: it is k, and behind it these lexemes follow
 abbrev pub Starts : Option Headed → Opening → List Lexeme → Type 0
 Starts None k ls = ⊥
@@ -76,20 +86,23 @@ HeadOf r (called w) rest = Starts r (alone (name w)) rest
 HeadOf r (truth v) rest = Starts r (alone (constant v)) rest
 HeadOf r (bracketed φ) rest = HeadInside r φ rest
 
--- The head of a formula, and behind it the text from some byte on; `None` where none starts.
+-- The head of a formula, whose word is a run of the text, and behind it the text from some byte on; `None` where none starts.
 pub record HeadAt (text : List ℕ) (r : Option Headed) : Type 0 where
   pub tail : IfSome r (λ h. Tail text h.rest.now)
+  pub run : IfSome r (λ h. HeadStands text (head_in h.head) h.rest.now)
   pub fewer : IfSome r (λ h. length h.rest.now < length text)
   pub means : (φ : Formula) (rest : List Lexeme) → lexemes_of text ≡ spell φ rest → HeadOf r φ rest
 
 -- The same behind an opening bracket.
 pub record BracketedAt (text : List ℕ) (r : Option Headed) : Type 0 where
   pub tail : IfSome r (λ h. Tail text h.rest.now)
+  pub run : IfSome r (λ h. HeadStands text (head_in h.head) h.rest.now)
   pub fewer : IfSome r (λ h. length h.rest.now < length text)
   pub means : (φ : Bracketed) (rest : List Lexeme) → lexemes_of text ≡ spell_bracketed φ rest → HeadInside r φ rest
 
 -- The head k and a lexeme, the opening bracket of its list.
 pub record ListedAt (text : List ℕ) (k : Opening) (r : Option Headed) : Type 0 where
+  pub head : IfSome r (λ h. head_in h.head ≡ k)
   pub tail : IfSome r (λ h. Tail text h.rest.now)
   pub fewer : IfSome r (λ h. length h.rest.now < length text)
   pub means : (l : Lexeme) (ls : List Lexeme) → lexemes_of text ≡ l ∷ ls → Starts r k ls

@@ -1,5 +1,5 @@
 // What stands at the start of a text: the head of a formula, an item of a list.
-ghost use Rattle.std.specs.Prelude.{◌≡◌, ◌≤◌};
+ghost use Rattle.std.specs.Prelude.{◌≤◌};
 ghost use Rattle.bundle.specs.Limits.{limits};
 ghost use Rattle.heads.specs.Places.{head_in, HeadAt, BracketedAt, ListedAt, NamedAt, VariableAt, PartAt, PartEnd};
 
@@ -100,7 +100,8 @@ pub fn variable_at<'a>(text: &'a [u8], variables: usize) -> Item<'a>
     }
 }
 
-// The first part: where it is bound, its variable, with the text that its formula starts; or the list's end.
+// The first part: where it is bound, its variable, with the text that its formula starts; or the list's end. `bound` as the definitions have it: a let's
+// pair or an argument.
 pub fn part_at<'a>(text: &'a [u8], variables: usize, bound: bool) -> Item<'a>
     requires { variables ≤ limits.variables }
     ensures { PartAt text.now variables bound result }
@@ -126,7 +127,7 @@ pub fn part_at<'a>(text: &'a [u8], variables: usize, bound: bool) -> Item<'a>
     }
 }
 
-// What is left behind a part, from the text behind its formula.
+// What is left behind a part, from the text behind its formula. `bound` as in `part_at`.
 pub fn part_end<'a>(text: &'a [u8], bound: bool) -> &'a [u8]
     ensures { PartEnd bound text.now result.now }
 {

@@ -19,7 +19,7 @@ pub fn variable_for(variables: usize, word: Word<'_>) -> Option<usize>
     }
 }
 
-// The symbol of a connective, where the first argument has this sort.
+// The symbol of a connective, where the first argument has this sort. Numbers, as records have them: the symbol is placed as it is.
 fn connective_symbol(connective: Connective, sort: usize) -> usize
     ensures { (result ≡ connective_symbol (connective_in connective) sort) × (result ≤ 8) }
 {

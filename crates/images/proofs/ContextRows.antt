@@ -3,8 +3,7 @@
 --     mention_zero, mention_past, mention_some     a place of a row, and numbers that have none
 --     as_absent, as_fixed, as_replaced       what a place says
 --     images_none, scopes_none               zeros are what is known of the empty context
---     untouched_refl, untouched_trans        what stays while one context is written
---     record_below                           a record ends before a later one starts
+--     untouched_trans                        what stays while one context is written
 --     row_kept, moves_kept, mentions_kept    so the rows and sets of lower contexts do
 --     entered_place                          one place written
 --     told_place                             what is written says something
@@ -18,17 +17,19 @@ use mathlib.Core.Path.{◌≡◌, refl, sym, ap, ◌∙◌}
 use mathlib.Core.Bool.{Bool, true, false, cond, not, ◌&&◌, ◌||◌, false≢true}
 use mathlib.Core.Logic.{◌⊎◌, inl, inr}
 use mathlib.Core.List.{List, [], ◌∷◌}
-use Prim.Native.Nat.{ℕ, zero, suc, ◌+◌, ◌*◌, ◌-◌, ◌/◌, ◌%◌, ◌^◌, ◌≤◌, ◌<◌}
+use Prim.Native.Nat.{ℕ, ◌+◌, ◌*◌, ◌-◌, ◌/◌, ◌%◌, ◌^◌, ◌≤◌, ◌<◌}
 use native.Mathlib.Omega.{arith}
 use native.Mathlib.Decide.{ℕ_discrete, dec_le}
 use lib.ListN.{length, get_or, set, replicate, length-set, length-replicate}
 use lib.Seq.{get_or-set_same, get_or-set_other}
 use lib.Dec.{eqb}
-use borrow.Author.Tests.{eqb-true, eq-eqb, ne_eqb}
+use borrow.Author.Tests.{eq-eqb, ne_eqb}
 use Rattle.std.specs.List.{CopiedTo, SameBelow}
+use Rattle.std.specs.Cmp.{both_ways}
+use Rattle.std.proofs.lemmas.Nat.{column_fits}
+use Rattle.bundle.proofs.LinkNotes.{zeros}
 use Rattle.bundle.specs.Bundle.{Bundle}
 use Rattle.bundle.specs.Lists.{numbers, has, different}
-use Rattle.bundle.proofs.Fields.{record_within}
 use Rattle.sets.specs.Sets.{bit_at, holds, member, with_bit, without_bit, inserted, removed, disjoint_of, subset_of}
 use Rattle.sets.proofs.Digits.{bit_none}
 use Rattle.sets.proofs.Members.{holds_small, member_inserted, member_removed, member_same, member_moved, changed_length, changed_out}
@@ -42,7 +43,7 @@ use Rattle.logic.specs.Free.{free_at}
 use Rattle.logic.specs.Contexts.{lookup, or_above, found, as_image, moved_by, moved, settled_for, settled, mentioned_by, mentioned, in_scope}
 use Rattle.logic.proofs.Found.{image_found, found_empty}
 use Rattle.logic.proofs.Trees.{free_known}
-use Rattle.logic.proofs.Tests.{numbers_in, numbers_of_lem, and_left, and_right, both_ways, up_to_lem, up_to_all}
+use Rattle.logic.proofs.Tests.{numbers_in, numbers_of_lem, and_left, and_right, up_to_lem, up_to_all}
 use Rattle.free_variables.specs.TermSets.{moved_at, mentioned_at}
 use Rattle.free_variables.proofs.FreeWords.{numbers_past}
 use Rattle.images.specs.ContextRows.{fixed_place, as_mention, mention_at, mention_in, Images, Scopes, Rows, RowRoom, Untouched, SetsCopied, Agrees, Entered}
@@ -99,12 +100,6 @@ same_place b w v k j x same = go (numbers (length b.variables) x) refl
     go true e = let h = numbers_of_lem (length b.variables) x e in ap as_mention (same h.0 h.1)
     go false e = refl
 
--- zeros: nothing is mentioned in the empty context, and nothing is moved
-zero_at : (n j : ℕ) → ◌≡◌ {A = ℕ} (get_or (replicate n 0) j 0) 0
-zero_at zero j = refl
-zero_at (suc n) zero = refl
-zero_at (suc n) (suc j) = zero_at n j
-
 pub images_none : (b : Bundle) (m : ℕ) → length b.variables ≤ m → Images b (replicate m 0) 1
 unfolding mention_at
 images_none b m h = record {
@@ -113,7 +108,7 @@ images_none b m h = record {
 }
   where
     go : (x : ℕ) (p : Bool) → cond p (as_mention (get_or (replicate m 0) (length b.variables * 0 + (x - 1)) 0)) Absent ≡ Absent
-    go x true = as_absent (get_or (replicate m 0) (length b.variables * 0 + (x - 1)) 0) (zero_at m (length b.variables * 0 + (x - 1)))
+    go x true = as_absent (get_or (replicate m 0) (length b.variables * 0 + (x - 1)) 0) ((zeros m).zero (length b.variables * 0 + (x - 1)))
     go x false = refl
 
 pub scopes_none : (b : Bundle) (n m : ℕ) → 2 * n ≤ m → Scopes b (replicate m 0) n 1
@@ -129,7 +124,7 @@ scopes_none b n m h = record {
     still x = moved_found b 0 x ∙ ap (λ (m : Mention). moved_by b (as_image m) x) (found_empty b x)
 
     go : (at x : ℕ) (p : Bool) → cond p (bit_at (get_or (replicate m 0) (at + (x - 1) / 64) 0) ((x - 1) % 64)) false ≡ false
-    go at x true = ap (λ (y : ℕ). bit_at y ((x - 1) % 64)) (zero_at m (at + (x - 1) / 64)) ∙ bit_none ((x - 1) % 64)
+    go at x true = ap (λ (y : ℕ). bit_at y ((x - 1) % 64)) ((zeros m).zero (at + (x - 1) / 64)) ∙ bit_none ((x - 1) % 64)
     go at x false = refl
 
 -- the row of k copied from that of j
@@ -137,16 +132,7 @@ row_copied : (b : Bundle) (w v : List ℕ) (k j count : ℕ) → length b.variab
     → ((y : ℕ) → y < count → get_or w (count * k + y) 0 ≡ get_or v (count * j + y) 0) → (x : ℕ) → mention_in b w k x ≡ mention_in b v j x
 row_copied b w v k j count e same x = same_place b w v k j x (λ one few. rw e (same (x - 1) (omega (arith, e))))
 
--- record j, counted from 0, ends before record k starts, where each has n places
-pub record_below : (n j k : ℕ) → j < k → n * j + n ≤ n * k
-record_below n j k h =
-    let p : suc j - 1 ≡ j = omega arith in
-    rw p at (record_within n k (suc j) (λ z. omega arith) h)
-
 -- ---- what stays
-
-pub untouched_refl : (r : Rows) (k : ℕ) → Untouched r r k
-untouched_refl r k = record { bundle = refl; n = refl; long_row = refl; long_set = refl; row = λ j h. refl; words = λ j h. refl }
 
 pub untouched_trans : (r r' r'' : Rows) (k : ℕ) → Untouched r r' k → Untouched r' r'' k → Untouched r r'' k
 untouched_trans r r' r'' k p q = record {
@@ -165,26 +151,22 @@ module _ (r r' : Rows) (k : ℕ) (kept : Untouched r r' k) where
   pub row_kept : (j x : ℕ) → j < k → mention_in r.bundle r'.images j x ≡ mention_in r.bundle r.images j x
   row_kept j x h =
       let last : ℕ = length r.bundle.variables in
-      same_place r.bundle r'.images r.images j j x (λ one low. kept.row (last * j + (x - 1)) (omega (arith, record_below last j k h)))
+      same_place r.bundle r'.images r.images j j x (λ one low. kept.row (last * j + (x - 1)) (omega (arith, column_fits last j last k h (omega arith))))
 
   -- both sets of context j stand below those of context k
   set_kept : (at : ℕ) → at + r.n ≤ 2 * r.n * k → (x : ℕ) → member r'.scopes at r.n x ≡ member r.scopes at r.n x
   set_kept at fits x = member_same r'.scopes r.scopes at r.n (λ i l. kept.words (at + i) (omega (arith, fits))) x
 
   pub moves_kept : (j x : ℕ) → j < k → member r'.scopes (moved_at r.n j) r.n x ≡ member r.scopes (moved_at r.n j) r.n x
-  moves_kept j x h = set_kept (moved_at r.n j) (omega (arith, record_below r.n j k h)) x
+  moves_kept j x h = set_kept (moved_at r.n j) (omega (arith, column_fits r.n j r.n k h (omega arith))) x
 
   pub mentions_kept : (j x : ℕ) → j < k → member r'.scopes (mentioned_at r.n j) r.n x ≡ member r.scopes (mentioned_at r.n j) r.n x
-  mentions_kept j x h = set_kept (mentioned_at r.n j) (omega (arith, record_below r.n j k h)) x
+  mentions_kept j x h = set_kept (mentioned_at r.n j) (omega (arith, column_fits r.n j r.n k h (omega arith))) x
 
 -- ---- one place written
 
 abbrev pub with_words : Rows → List ℕ → List ℕ → Rows
 with_words r w m = record { bundle = r.bundle; images = w; scopes = m; n = r.n }
-
-cond_eqb : (x y : ℕ) (p : Bool) → eqb x y ≡ p → Dec (x ≡ y)
-cond_eqb x y true e = yes (eqb-true x y e)
-cond_eqb x y false e = no (λ q. false≢true (sym e ∙ eq-eqb x y q))
 
 module _ (r : Rows) (k x t : ℕ) (one : 1 ≤ x) (few : x ≤ length r.bundle.variables) (room : RowRoom r k) where
   abbrev place : ℕ

@@ -11,7 +11,7 @@ use logic::{Image, Mention};
 // mentions: numbers, since the table is lent words. `mention_of` gives them names.
 pub const FIXED: usize = 65535;
 
-// What the entries of a context say of variable x, of so many.
+// What the entries of a context say of variable x, of so many. By the count and the lent words: these may hold anything, and no bundle is asked.
 pub fn mention_of(variables: usize, images: &[u16], context: usize, x: usize) -> Mention
     requires { variables * (context + 1) ≤ length images.now }
     ensures { result ≡ mention_at variables images.now context x }
@@ -32,7 +32,7 @@ pub fn mention_of(variables: usize, images: &[u16], context: usize, x: usize) ->
     Mention::Replaced(t)
 }
 
-// The image of variable x in a context, of so many variables.
+// The image of variable x in a context, of so many variables: asked as `mention_of` is.
 pub fn image_of(variables: usize, images: &[u16], context: usize, x: usize) -> Image
     requires { variables * (context + 1) ≤ length images.now }
     ensures { result ≡ image_at variables images.now context x }

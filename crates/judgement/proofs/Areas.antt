@@ -11,6 +11,7 @@ use mathlib.Core.List.{List}
 use native.Mathlib.Omega.{arith}
 use lib.ListN.{length, get_or}
 use lib.Dec.{leb}
+use Rattle.std.proofs.lemmas.Bool.Decides.{Decides-eqb}
 use Rattle.bundle.specs.Bundle.{Bundle}
 use Rattle.bundle.specs.Limits.{set_words}
 use Rattle.bundle.proofs.Tab.{tab_length}
@@ -21,7 +22,6 @@ use Rattle.logic.specs.Terms.{tree}
 use Rattle.logic.specs.Free.{Free, free_area}
 use Rattle.logic.specs.Checks.{tables_fault}
 use Rattle.logic.specs.WellFormed.{TablesFormed}
-use Rattle.logic.proofs.Exactly.{eq_exactly}
 use Rattle.logic.proofs.FreeSettled.{free_at_exactly}
 use Rattle.free_variables.proofs.SetWords.{area_member, area_word, area_rest}
 use Rattle.judgement.specs.Judge.{required, lent_for}
@@ -46,7 +46,7 @@ unfolding member
 area_bit b n m formed one long i v term small =
     let has : holds n v ≡ true = holds_small n v small.0 small.1 in
     let same = rw has at (area_member b n m one i v term.0 term.1 long has) in
-    Iff.trans (Iff.symm (eq_exactly _ 1)) (rw same (free_at_exactly b formed i v))
+    Iff.trans (Iff.symm (Decides-eqb _ 1)) (rw same (free_at_exactly b formed i v))
 
 pub sets_left : (b : Bundle) (m : ℕ) → TablesFormed b → set_words * length b.terms ≤ m → FreeSetsLeft b m (free_area b set_words m)
 unfolding free_area

@@ -3,7 +3,6 @@
 --     first_append                   of two lists, it is the first one's, or else the second one's
 --     first_fails, fails_first       it is the fault n, i exactly where the check of number n and record i is the first that fails
 --     none_fails, all_hold           it has the number 0 exactly where all hold
---     next_nested                    a fault, or else a second, or else a third
 --     Finds                          a list of numbered checks, and its first failing one
 --     failing_number                 a check that fails has a number that is not 0
 --     finds_next, finds_tests, finds_section     of two lists, of the tests of one record, of a section
@@ -25,7 +24,7 @@ use Rattle.logic.specs.Checks.{header_tests, header_fault, link_tests, links_fau
 use Rattle.logic.specs.Contexts.{context_tests}
 use Rattle.logic.specs.Rules.{step_tests}
 use Rattle.logic.proofs.Tests.{and_left, and_right, numbered}
-use Rattle.logic.proofs.Firsts.{or_else_here}
+use Rattle.logic.proofs.Firsts.{or_else_here, next_nested}
 use Rattle.judgement.specs.Judge.{required, claim_tests, late_fault, fault_of}
 use Rattle.judgement.specs.Order.{Check, checks_of, section_checks, all_checks, Holds, FirstFailing}
 
@@ -111,11 +110,6 @@ all_hold (c ∷ cs) n e = go c.holds refl e (all_hold cs n.1)
     go false q e later = let l : 1 ≤ c.number = n.0 in absurd (omega arith)
 
 -- ---- faults in a row
-
-pub next_nested : (n i : ℕ) (second third : Fault) → or_next (or_else n i second) third ≡ or_else n i (or_next second third)
-unfolding or_else
-next_nested zero i second third = refl
-next_nested (suc n) i second third = refl
 
 -- ---- a list of numbered checks, and the fault that it finds
 

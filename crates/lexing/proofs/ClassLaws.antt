@@ -1,10 +1,12 @@
 -- Laws of the numbers of classes.
 --     letter_class, .., byte_class     the class of a byte by ranges, as code tests them
 --     class_small, is_class            there are eight; a class by its number
+--     class_by, symbol_or              the class of a byte by its number
+--     coded, not_coded                 the number of a byte's class, by the class as code names it
 use Prim.Native.Nat.{ℕ, suc, ◌-◌, ◌≤◌, ◌<◌}
 use native.Mathlib.Omega.{arith}
 use mathlib.Core.Path.{◌≡◌, refl, sym, ap, ◌∙◌}
-use mathlib.Core.Bool.{Bool, true, cond, not, ◌&&◌, ◌||◌}
+use mathlib.Core.Bool.{Bool, true, false, cond, not, ◌&&◌, ◌||◌}
 use mathlib.Core.List.{[], ◌∷◌}
 use lib.ListN.{get_or}
 use lib.Dec.{eqb, ltb}
@@ -13,8 +15,10 @@ use Rattle.logic.specs.Tests.{up_to}
 use Rattle.logic.proofs.Tests.{up_to_lem}
 use Rattle.grammar.specs.Bytes.{Class, space, lineEnd, semicolon, opening, closing, digit, symbol, other, class_of}
 use Rattle.lexing.specs.Codes.{class_code}
+use Rattle.lexing.specs.Words.{class_in}
+use Rattle.lexing.specs.declared.runs.Class.{Class as Named}
 
--- ---- the classes of all bytes, as `runs::class_code` and `runs::low_code` test for them
+-- ---- the classes of all bytes, as `runs::class_of` and `runs::low_class` test for them
 
 abbrev pub letter_like : ℕ → Bool
 letter_like x = ltb x 123 || eqb x 126
@@ -95,3 +99,33 @@ code_class other = refl
 
 pub is_class : (k : Class) (n : ℕ) → class_code k ≡ n → k ≡ numbered n
 is_class k n e = sym (code_class k) ∙ ap numbered e
+
+-- the class of a byte, by its number
+pub class_by : (x k : ℕ) → k ≡ class_code (class_of x) → numbered k ≡ class_of x
+class_by x k e = sym (is_class (class_of x) k (sym e))
+
+pub symbol_or : (x : ℕ) (p : Bool) → cond p 6 7 ≡ class_code (class_of x) → cond p symbol other ≡ class_of x
+symbol_or x true e = class_by x 6 e
+symbol_or x false e = class_by x 7 e
+
+-- ---- classes as code names them
+
+named : ℕ → Named
+named n = get_or (Named.Space ∷ Named.LineEnd ∷ Named.Semicolon ∷ Named.Opening ∷ Named.Closing ∷ Named.Digit ∷ Named.Symbol ∷ Named.Other ∷ []) n Named.Other
+
+code_named : (k : Named) → named (class_code (class_in k)) ≡ k
+unfolding class_code named
+code_named Named.Space = refl
+code_named Named.LineEnd = refl
+code_named Named.Semicolon = refl
+code_named Named.Opening = refl
+code_named Named.Closing = refl
+code_named Named.Digit = refl
+code_named Named.Symbol = refl
+code_named Named.Other = refl
+
+pub coded : {c : Class} (k n : Named) → class_in k ≡ c → k ≡ n → class_code c ≡ class_code (class_in n)
+coded k n is e = ap class_code (sym is ∙ ap class_in e)
+
+pub not_coded : {c : Class} (k n : Named) → class_in k ≡ c → (k ≡ n → ⊥) → class_code c ≡ class_code (class_in n) → ⊥
+not_coded k n is not_n e = not_n (sym (code_named k) ∙ ap named (ap class_code is ∙ e) ∙ code_named n)

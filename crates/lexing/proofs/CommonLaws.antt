@@ -1,13 +1,15 @@
 -- Laws of runs compared with words.
---     shared_start, shared_on, shared_differ, shared_other, shared_run     the loop of `runs::in_common`
+--     shared_on, shared_differ, shared_other, shared_run     the loop of `runs::in_common`
 --     same_common, starts_common     sameness and starts, by what is in common
+--     starts_pointwise     starts, as `starts_with` has it
 use Prim.Native.Nat.{ℕ, suc, ◌+◌, ◌≤◌, ◌<◌}
 use native.Mathlib.Omega.{arith}
 use native.Mathlib.Numerals.{add-one}
-use mathlib.Core.Path.{◌≡◌, refl, ap₂, ◌∙◌}
+use mathlib.Core.Path.{◌≡◌, refl, ap, ap₂, ◌∙◌}
 use mathlib.Core.Bool.{Bool, true, false, cond, ◌&&◌}
 use mathlib.Core.List.{List, [], ◌∷◌}
-use lib.ListN.{length, get_or, drop, drop_of_length-le}
+use lib.ListN.{length, get_or, take, drop, drop_of_length-le}
+use lib.Pointwise.{pointwise}
 use lib.Seq.{drop-cons}
 use lib.Dec.{eqb, eqb-suc-suc, eqb-zero-suc}
 use borrow.Author.Tests.{eq-eqb, ne_eqb}
@@ -20,9 +22,6 @@ pub record Shared (u v : List ℕ) (j : ℕ) : Type 0 where
   pub in_run : j ≤ length u
   pub in_other : j ≤ length v
   pub rest : common u v ≡ j + common (drop j u) (drop j v)
-
-pub shared_start : (u v : List ℕ) → Shared u v 0
-shared_start u v = record { in_run = omega arith; in_other = omega arith; rest = omega arith }
 
 common_nil : (u : List ℕ) → common u [] ≡ 0
 unfolding common
@@ -64,6 +63,12 @@ starts_common (x ∷ u) (y ∷ v) = go (eqb x y) (starts_common u v)
     go : (b : Bool) → eqb (common u v) (length u) ≡ starts u v → eqb (cond b (suc (common u v)) 0) (suc (length u)) ≡ (b && starts u v)
     go true h = eqb-suc-suc (common u v) (length u) ∙ h
     go false h = eqb-zero-suc (length u)
+
+pub starts_pointwise : (u v : List ℕ) → pointwise eqb u (take (length u) v) ≡ starts u v
+unfolding starts
+starts_pointwise [] v = refl
+starts_pointwise (x ∷ u) [] = refl
+starts_pointwise (x ∷ u) (y ∷ v) = ap (λ p. eqb x y && p) (starts_pointwise u v)
 
 pub same_common : (u v : List ℕ) → (eqb (common u v) (length u) && eqb (length u) (length v)) ≡ same_list u v
 unfolding common same_list

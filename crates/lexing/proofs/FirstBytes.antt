@@ -1,7 +1,7 @@
 -- The word that a run is, by its first byte: at most two words start with it.
 --     word_true to word_item     by each of the ten first bytes
 --     word_none, word_other      no byte, and any other byte
-use Prim.Native.Nat.{ℕ, suc, ◌<◌}
+use Prim.Native.Nat.{ℕ}
 use native.Mathlib.Omega.{arith}
 use mathlib.Core.Path.{◌≡◌, refl}
 use mathlib.Core.Bool.{true, false, cond}
@@ -14,12 +14,9 @@ use Rattle.logic.specs.Terms.{forAll, exists}
 use Rattle.grammar.specs.Bytes.{bool, item, conjunction, disjunction, implication, equality, Word, constant, negation, connective, quantifier}
 use Rattle.grammar.specs.Bytes.{letting, sort, name, bytes, twelve, word_among, word_of}
 
-some_byte : (w : List ℕ) → (length w ≡ 0 → ⊥) → 0 < length w
-some_byte w l = omega arith
-
 -- a run with its first byte written out
 first : (P : List ℕ → Type 0) (w : List ℕ) (k : ℕ) → (length w ≡ 0 → ⊥) → get_or w 0 0 ≡ k → ((u : List ℕ) → P (k ∷ u)) → P w
-first P w k l e f = rw (drop-cons w 0 0 (some_byte w l), e) (f (drop 1 w))
+first P w k l e f = rw (drop-cons w 0 0 (omega arith), e) (f (drop 1 w))
 
 -- a run that is this word or a name; that is one of these two words or a name
 abbrev pub One : List ℕ → List ℕ → Word → Type 0
@@ -37,10 +34,7 @@ two_second w v x v' x' h e = rw e at h
 pub word_none : (w : List ℕ) → length w ≡ 0 → name w ≡ word_of w
 unfolding word_of word_among twelve bytes same_list
 word_none [] e = refl
-word_none (x ∷ w) e = absurd (no_zero (length w) e)
-  where
-    no_zero : (n : ℕ) → suc n ≡ 0 → ⊥
-    no_zero n e = omega arith
+word_none (x ∷ w) e = absurd (omega (arith, e))
 
 module _ (w : List ℕ) (l : length w ≡ 0 → ⊥) where
   pub word_true : get_or w 0 0 ≡ 116 → One w (bytes "true") (constant true)
@@ -90,7 +84,7 @@ module _ (w : List ℕ) (l : length w ≡ 0 → ⊥) where
   word_other n116 n102 n110 n97 n111 n61 n101 n108 n66 n73 =
       let x = get_or w 0 0 in
       rw (
-        drop-cons w 0 0 (some_byte w l),
+        drop-cons w 0 0 (omega arith),
         ne_eqb x 116 n116,
         ne_eqb x 102 n102,
         ne_eqb x 110 n110,

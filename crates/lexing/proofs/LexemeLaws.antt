@@ -1,24 +1,25 @@
 -- Laws of the next lexeme.
 --     word_small                                      the numbers of words
---     over, word_same, no_word, found_one, found      the answers of `lexemes::next_lexeme`: the text's end, a byte that is a lexeme
+--     over, word_same, no_word, one_other, found_one, found      the answers of `lexemes::next_lexeme`: the text's end, a byte that is a lexeme
 --     leaves_all, leaves_next                         those of `lexemes::after_lexeme`
-use Prim.Native.Nat.{ℕ, suc, ◌-◌, ◌≤◌, ◌<◌}
+use Prim.Native.Nat.{ℕ, ◌-◌, ◌≤◌, ◌<◌}
 use native.Mathlib.Omega.{arith}
 use mathlib.Core.Path.{◌≡◌, refl, sym, ap, ◌∙◌}
 use mathlib.Core.Bool.{Bool, true, false, cond}
 use mathlib.Core.List.{List, [], ◌∷◌, ◌++◌}
 use lib.ListN.{length, get_or, take, drop, length-drop}
 use lib.Dec.{eqb}
-use Rattle.std.proofs.lemmas.List.{take-append-drop, length-take-le}
+use Rattle.std.proofs.lemmas.List.{take-append-drop, length-take-le, take_rest}
 use Rattle.grammar.specs.Bytes.{Class, space, lineEnd, semicolon, opening, closing, digit, symbol, other, Word, constant, negation, connective}
 use Rattle.grammar.specs.Bytes.{quantifier, letting, sort, name, class_of, word_of}
 use Rattle.grammar.specs.Grammar.{Lexeme, opens, closes, word, stray, between, bracket, ends, outside, onwards, last, lexemes_from}
 use Rattle.lexing.specs.Codes.{word_code, class_code}
-use Rattle.lexing.specs.Words.{lexeme_in}
+use Rattle.lexing.specs.Words.{class_in, lexeme_in}
 use Rattle.lexing.specs.Lexes.{lexemes_of, Skipped, Found, rest_of, Leaves}
 use Rattle.lexing.specs.declared.lexemes.Lexed.{Lexed}
+use Rattle.lexing.specs.declared.runs.Class.{Class as Named}
 use Rattle.lexing.proofs.Tails.{tail_self, tail_at, tail_after}
-use Rattle.lexing.proofs.SkipLaws.{step, rest_all}
+use Rattle.lexing.proofs.SkipLaws.{step}
 
 pub word_small : (w : Word) → (3 ≤ word_code w) × (word_code w < 10)
 unfolding word_code
@@ -34,10 +35,7 @@ word_small (name w) = (omega arith, omega arith)
 pub over : (text rest : List ℕ) → Skipped text rest → length rest ≡ 0 → lexemes_of text ≡ []
 unfolding lexemes_from last
 over text [] h e = h.same
-over text (c ∷ rest) h e = absurd (some (length rest) e)
-  where
-    some : (n : ℕ) → suc n ≡ 0 → ⊥
-    some n e = omega arith
+over text (c ∷ rest) h e = absurd (omega (arith, e))
 
 pub word_same : {v w : Word} → word v ≡ word w → v ≡ w
 word_same e = cc
@@ -53,6 +51,17 @@ no_word k w e = go (eqb k 3) (eqb k 4) e
     go true q e = absurd (cc)
     go false true e = absurd (cc)
     go false false e = absurd (cc)
+
+pub one_other : (k : Named) → (k ≡ Named.Opening → ⊥) → (k ≡ Named.Closing → ⊥) → stray ≡ one_lexeme (class_code (class_in k))
+unfolding class_code
+one_other Named.Space a b = refl
+one_other Named.LineEnd a b = refl
+one_other Named.Semicolon a b = refl
+one_other Named.Opening a b = absurd (a refl)
+one_other Named.Closing a b = absurd (b refl)
+one_other Named.Digit a b = refl
+one_other Named.Symbol a b = refl
+one_other Named.Other a b = refl
 
 module _ (text rest : List ℕ) (h : Skipped text rest) where
   pub found_one : 0 < length rest → (k : ℕ) → k ≡ class_code (class_of (get_or rest 0 0)) → (k ≡ 6 → ⊥)
@@ -76,7 +85,7 @@ module _ (text rest : List ℕ) (h : Skipped text rest) where
       → lexemes_of text ≡ lexeme_in l.lexeme ∷ lexemes_of (drop e rest)
       → ((w : Word) → lexeme_in l.lexeme ≡ word w → w ≡ word_of (take e rest)) → Found text l
   found l e some le is next spells =
-      let same : l.rest.now ≡ drop e rest = is ∙ rest_all rest e in
+      let same : l.rest.now ≡ drop e rest = is ∙ take_rest rest e in
       let few : length l.rest.now ≡ length rest - e = ap length same ∙ length-drop e rest in
       let whole : take e rest ++ l.rest.now ≡ rest = ap (λ r. take e rest ++ r) same ∙ take-append-drop e rest in
       record {

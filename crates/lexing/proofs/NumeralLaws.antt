@@ -12,7 +12,7 @@ use Prim.Native.Nat.{ℕ, suc, ◌+◌, ◌-◌, ◌*◌, ◌≤◌, ◌<◌}
 use native.Mathlib.Omega.{arith}
 use native.Mathlib.Numerals.{add-one}
 use mathlib.Core.Path.{◌≡◌, refl, sym, ap, ◌∙◌}
-use mathlib.Core.Bool.{Bool, true, false, cond, ◌&&◌, ◌||◌}
+use mathlib.Core.Bool.{Bool, true, false, cond, ◌&&◌, ◌||◌, and-false}
 use mathlib.Core.List.{List, [], ◌∷◌}
 use lib.ListN.{length, get_or, take, drop, drop_of_length-le}
 use lib.Seq.{drop-cons, get_or-take, get_or-drop}
@@ -23,10 +23,6 @@ use Rattle.bundle.specs.Lists.{each}
 use Rattle.grammar.specs.Names.{Place, either, symbolOnly, variableOnly}
 use Rattle.reading.specs.Called.{decimal, is_digit, is_numeral, number_after, variable_called, symbol_called, known_as}
 use Rattle.lexing.specs.Counted.{number_within, variable_among, symbol_among, place_of, known_among, Numbered, CountsSuffice}
-
-and_false : (p : Bool) → (p && false) ≡ false
-and_false true = refl
-and_false false = refl
 
 cond_same : (p : Bool) (n : ℕ) → cond p n n ≡ n
 cond_same true n = refl
@@ -57,16 +53,13 @@ module _ (letter low high : ℕ) where
 
   too_high : (w : List ℕ) → high < number_after letter w → 0 ≡ number_within letter low high w
   unfolding number_within
-  too_high w l = rw (lt-leb (number_after letter w) high l, and_false (leb low (number_after letter w)))
+  too_high w l = rw (lt-leb (number_after letter w) high l, and-false (leb low (number_after letter w)))
 
   pub nothing_short : (w : List ℕ) → length w < 2 → 0 ≡ number_within letter low high w
   unfolding number_after is_numeral
   nothing_short [] l = nothing [] refl
-  nothing_short (c ∷ []) l = nothing (c ∷ []) (rw (and_false (eqb c letter)))
-  nothing_short (c ∷ d ∷ w) l = absurd (long (length w) l)
-    where
-      long : (n : ℕ) → suc (suc n) < 2 → ⊥
-      long n l = omega arith
+  nothing_short (c ∷ []) l = nothing (c ∷ []) (rw (and-false (eqb c letter)))
+  nothing_short (c ∷ d ∷ w) l = absurd (omega (arith, l))
 
   pub nothing_letter : (w : List ℕ) → (get_or w 0 0 ≡ letter → ⊥) → 0 ≡ number_within letter low high w
   unfolding number_after
@@ -76,8 +69,8 @@ module _ (letter low high : ℕ) where
   pub nothing_zero : (w : List ℕ) → get_or w 1 0 ≡ 48 → 0 ≡ number_within letter low high w
   unfolding number_after is_numeral
   nothing_zero [] e = nothing [] refl
-  nothing_zero (c ∷ []) e = nothing (c ∷ []) (rw (and_false (eqb c letter)))
-  nothing_zero (c ∷ d ∷ w) e = nothing (c ∷ d ∷ w) (rw (eq-eqb d 48 e, and_false (eqb c letter)))
+  nothing_zero (c ∷ []) e = nothing (c ∷ []) (rw (and-false (eqb c letter)))
+  nothing_zero (c ∷ d ∷ w) e = nothing (c ∷ d ∷ w) (rw (eq-eqb d 48 e, and-false (eqb c letter)))
 
   pub counting_start : (w : List ℕ) → 2 ≤ length w → get_or w 0 0 ≡ letter → (get_or w 1 0 ≡ 48 → ⊥) → Counting w 0 1
   unfolding number_after is_numeral
@@ -96,7 +89,7 @@ module _ (letter low high : ℕ) where
       nothing_below k = nothing w (rw (lt-leb 48 c k) at next)
 
       pub nothing_above : 57 < c → 0 ≡ number_within letter low high w
-      nothing_above k = nothing w (rw (lt-leb c 57 k, and_false (leb 48 c)) at next)
+      nothing_above k = nothing w (rw (lt-leb c 57 k, and-false (leb 48 c)) at next)
 
       digits : 48 ≤ c → c ≤ 57 → number_after letter w ≡ cond (each is_digit (drop (suc j) w)) (decimal (10 * n + (c - 48)) (drop (suc j) w)) 0
       digits k m = rw (le-leb 48 c k, le-leb c 57 m) at next

@@ -1,22 +1,23 @@
 -- Laws of the search for a lexeme, byte by byte.
 --     step, past                                        one byte; the text's end
 --     skip_start, skip_on, skip_here, skip_end          white space and comments, as `lexemes::skipped` goes over them
---     run_start, run_on, run_low, run_other, run_past   a run of symbol characters, as `lexemes::run_end` goes over it
+--     run_start, run_on, run_stopped, run_past   a run of symbol characters, as `lexemes::run_end` goes over it
 --     part_more, grows, stops                           one byte more in a run; one that ends it
---     rest_all                                          the slice from a byte on
 use Prim.Native.Nat.{ℕ, zero, suc, ◌+◌, ◌-◌, ◌*◌, ◌≤◌, ◌<◌}
 use native.Mathlib.Omega.{arith}
 use native.Mathlib.Numerals.{add-one}
 use mathlib.Core.Path.{◌≡◌, refl, sym, ap, ◌∙◌}
-use mathlib.Core.Bool.{Bool, true, false, cond}
+use mathlib.Core.Bool.{Bool, true, false, cond, ◌||◌, true≢false, false≢true}
 use mathlib.Core.Logic.{◌⊎◌, inl, inr}
 use mathlib.Core.List.{List, [], ◌∷◌, ◌++◌}
 use lib.ListN.{length, get_or, take, drop, length-drop, drop_of_length-le}
-use lib.Seq.{drop-cons, take-suc, take-length, get_or-drop}
+use lib.Seq.{drop-cons, take-suc, get_or-drop}
 use lib.Dec.{eqb}
 use Rattle.grammar.specs.Bytes.{Class, space, lineEnd, semicolon, opening, closing, digit, symbol, other, class_of, word_of}
 use Rattle.grammar.specs.Grammar.{word, Mode, between, comment, within, bracket, ends, outside, onwards, last, lexemes_from}
 use Rattle.lexing.specs.Codes.{class_code}
+use Rattle.lexing.specs.Words.{class_in}
+use Rattle.lexing.specs.declared.runs.Class.{Class as Named}
 use Rattle.lexing.specs.Lexes.{lexemes_of, part, Skipped, RunEnds, skips}
 use Rattle.lexing.proofs.ClassLaws.{class_small, is_class}
 use Rattle.lexing.proofs.Tails.{tail_at}
@@ -72,10 +73,7 @@ goes_on_lem (suc zero) c closing cs l ne = refl
 goes_on_lem (suc zero) c digit cs l ne = refl
 goes_on_lem (suc zero) c symbol cs l ne = refl
 goes_on_lem (suc zero) c other cs l ne = refl
-goes_on_lem (suc (suc m)) c k cs l ne = absurd (off m l)
-  where
-    off : (m : ℕ) → suc (suc m) < 2 → ⊥
-    off m l = omega arith
+goes_on_lem (suc (suc m)) c k cs l ne = absurd (omega (arith, l))
 
 -- the table has 0, 1 and 2
 mode_small : (m : ℕ) (k : Class) → m < 2 → (mode_after m k ≡ 2 → ⊥) → mode_after m k < 2
@@ -119,13 +117,6 @@ starts_here (suc zero) symbol l e = absurd (omega arith)
 starts_here (suc zero) other l e = absurd (omega arith)
 starts_here (suc (suc m)) k l e = absurd (omega arith)
 
--- the slice from byte j on
-pub rest_all : (text : List ℕ) (j : ℕ) → take (length text - j) (drop j text) ≡ drop j text
-rest_all text j = ap (λ n. take n (drop j text)) (sym (length-drop j text)) ∙ take-length (drop j text)
-
-rest_fewer : (text : List ℕ) (j : ℕ) → length (drop j text) ≤ length text
-rest_fewer text j = omega (arith, length-drop j text)
-
 rest_first : (text : List ℕ) (j : ℕ) → get_or (drop j text) 0 0 ≡ get_or text j 0
 rest_first text j = let e : j + 0 ≡ j = omega arith in get_or-drop j text 0 0 ∙ ap (λ k. get_or text k 0) e
 
@@ -152,7 +143,7 @@ module _ (text : List ℕ) (m j : ℕ) (h : Skipping text m j) where
         let f = starts_here m (class_of (get_or text j 0)) h.mode (sym mode_is ∙ e) in
         record {
           tail = tail_at text j h.inside;
-          fewer = rest_fewer text j;
+          fewer = omega (arith, length-drop j text);
           same = rw f.0 at h.same;
           starts = λ x. omega (arith, f.1, ap (λ c. class_code (class_of c)) (rest_first text j));
         }
@@ -228,33 +219,51 @@ stops w c symbol cs (inl l) = absurd (omega arith)
 stops w c symbol cs (inr e) = absurd (omega arith)
 stops w c other cs h = refl
 
+-- the same by the test that code makes
+goes : (k : Class) → (eqb (class_code k) 5 || eqb (class_code k) 6) ≡ true → (5 ≤ class_code k) × (class_code k ≡ 7 → ⊥)
+unfolding class_code
+goes space g = absurd (false≢true g)
+goes lineEnd g = absurd (false≢true g)
+goes semicolon g = absurd (false≢true g)
+goes opening g = absurd (false≢true g)
+goes closing g = absurd (false≢true g)
+goes digit g = (omega arith, λ e. omega arith)
+goes symbol g = (omega arith, λ e. omega arith)
+goes other g = absurd (false≢true g)
+
+halts : (k : Class) → (eqb (class_code k) 5 || eqb (class_code k) 6) ≡ false → (class_code k < 5) ⊎ (class_code k ≡ 7)
+unfolding class_code
+halts space f = inl (omega arith)
+halts lineEnd f = inl (omega arith)
+halts semicolon f = inl (omega arith)
+halts opening f = inl (omega arith)
+halts closing f = inl (omega arith)
+halts digit f = absurd (true≢false f)
+halts symbol f = absurd (true≢false f)
+halts other f = inr refl
+
 module _ (text : List ℕ) (j : ℕ) (h : Running text j) where
-  module _ (l : j < length text) (k : ℕ) (isClass : k ≡ class_code (class_of (get_or text j 0))) where
-    pub run_on : 5 ≤ k → (k ≡ 7 → ⊥) → Running text (j + 1)
-    run_on g ne =
+  module _ (l : j < length text) (k : Named) (isClass : class_in k ≡ class_of (get_or text j 0)) where
+    pub run_on : (eqb (class_code (class_in k)) 5 || eqb (class_code (class_in k)) 6) ≡ true → Running text (j + 1)
+    run_on g =
         rw (add-one j) (record {
           some = omega arith;
           inside = l;
           same =
               h.same ∙ step text j l (within (take j text))
-              ∙ grows (take j text) (get_or text j 0) (class_of (get_or text j 0)) (drop (suc j) text) (omega arith) (λ e. ne (isClass ∙ e))
+              ∙ grows (take j text) (get_or text j 0) (class_of (get_or text j 0)) (drop (suc j) text) (goes (class_of (get_or text j 0)) (rw isClass at g)).0 (goes (class_of (get_or text j 0)) (rw isClass at g)).1
               ∙ ap (λ w. lexemes_from (within w) (drop (suc j) text)) (sym (take-suc text j 0 l));
         })
 
-    run_stops : (class_code (class_of (get_or text j 0)) < 5) ⊎ (class_code (class_of (get_or text j 0)) ≡ 7) → RunEnds text j
-    run_stops f = record {
+    pub run_stopped : (eqb (class_code (class_in k)) 5 || eqb (class_code (class_in k)) 6) ≡ false → RunEnds text j
+    run_stopped f = record {
       some = h.some;
       inside = h.inside;
       whole =
-          h.same ∙ step text j l (within (take j text)) ∙ stops (take j text) (get_or text j 0) (class_of (get_or text j 0)) (drop (suc j) text) f
+          h.same ∙ step text j l (within (take j text))
+          ∙ stops (take j text) (get_or text j 0) (class_of (get_or text j 0)) (drop (suc j) text) (halts (class_of (get_or text j 0)) (rw isClass at f))
           ∙ ap (λ xs. word (word_of (take j text)) ∷ xs) (sym (step text j l between));
     }
-
-    pub run_low : k < 5 → RunEnds text j
-    run_low f = run_stops (inl (omega arith))
-
-    pub run_other : k ≡ 7 → RunEnds text j
-    run_other f = run_stops (inr (sym isClass ∙ f))
 
   pub run_past : length text ≤ j → RunEnds text j
   unfolding last

@@ -1,7 +1,8 @@
--- Words and lexemes as the code names them.
+-- Words, lexemes and classes of bytes as the code names them.
 use Rattle.logic.specs.Named.{binder_in}
 use Rattle.grammar.specs.Bytes as bytes
 use Rattle.grammar.specs.Grammar as grammar
+use Rattle.lexing.specs.declared.runs.Class.{Class}
 use Rattle.lexing.specs.declared.words.Connective.{Connective}
 use Rattle.lexing.specs.declared.words.SortWord.{SortWord}
 use Rattle.lexing.specs.declared.words.Word.{Word}
@@ -25,6 +26,16 @@ word_in (Word.Quantifier q) = bytes.quantifier (binder_in q)
 word_in Word.Let = bytes.letting
 word_in (Word.Sort s) = bytes.sort (sort_in s)
 word_in (Word.Name w) = bytes.name w.now
+
+abbrev pub class_in : Class → bytes.Class
+class_in Class.Space = bytes.space
+class_in Class.LineEnd = bytes.lineEnd
+class_in Class.Semicolon = bytes.semicolon
+class_in Class.Opening = bytes.opening
+class_in Class.Closing = bytes.closing
+class_in Class.Digit = bytes.digit
+class_in Class.Symbol = bytes.symbol
+class_in Class.Other = bytes.other
 
 abbrev pub lexeme_in : Lexeme → grammar.Lexeme
 lexeme_in Lexeme.Opens = grammar.opens

@@ -4,7 +4,7 @@ ghost use Rattle.grammar.specs.Bytes.{class_of};
 ghost use Rattle.lexing.specs.Codes.{class_code};
 ghost use Rattle.lexing.specs.Lexes.{skips, Skipped, RunEnds, lexemes_of, Found, rest_of, Leaves};
 
-use crate::runs::class_code;
+use crate::runs::{Class, class_code, class_of};
 use crate::words::{Word, word_of};
 
 #[derive(Clone, Copy)]
@@ -32,7 +32,7 @@ fn skip_mode(at: usize) -> u8
     table[at]
 }
 
-// The text behind its white space and comments.
+// The text behind its white space and comments. No `position`: whether a byte is skipped hangs on those before it, which its test would have to keep.
 fn skipped(text: &[u8]) -> &[u8]
     ensures { Skipped text.now result.now }
 {
@@ -47,17 +47,15 @@ fn skipped(text: &[u8]) -> &[u8]
     &text[text.len()..]
 }
 
-// The end of the run of symbol characters at the start of a text.
+// The end of the run of symbol characters at the start of a text. No `position`: it counts from byte 1 and gives `None` for the text's end, so that both
+// would be put back behind it.
 fn run_end(text: &[u8]) -> usize
     requires { (0 < length text.now) × (class_code (class_of (get_or text.now 0 0)) ≡ 6) }
     ensures { RunEnds text.now result }
 {
     for j in 1..text.len() {
-        let class = class_code(text[j]);
-        if class < 5 {
-            return j;
-        }
-        if class == 7 {
+        let class = class_of(text[j]);
+        if !class.goes_on() {
             return j;
         }
     }
@@ -72,20 +70,18 @@ pub fn next_lexeme<'a>(text: &'a [u8]) -> Option<Lexed<'a>>
     if start.len() == 0 {
         return None;
     }
-    let class = class_code(start[0]);
-    if class == 6 {
+    let class = class_of(start[0]);
+    if let Class::Symbol = class {
         let end = run_end(start);
         return Some(Lexed {
             lexeme: Lexeme::Word(word_of(&start[..end])),
             rest: &start[end..],
         });
     }
-    let lexeme = if class == 3 {
-        Lexeme::Opens
-    } else if class == 4 {
-        Lexeme::Closes
-    } else {
-        Lexeme::Stray
+    let lexeme = match class {
+        Class::Opening => Lexeme::Opens,
+        Class::Closing => Lexeme::Closes,
+        _ => Lexeme::Stray,
     };
     Some(Lexed {
         lexeme,

@@ -53,6 +53,7 @@ pub fn symbol_called(symbols: usize, run: &[u8]) -> Option<usize>
 }
 
 // Whether a name is a declared one of the kind due: 0 either, 1 a symbol, 2 a variable. A number, since that is what the table of spots has for it.
+// By two counts, as a scan has them.
 pub fn known_as(symbols: usize, variables: usize, place: usize, run: &[u8]) -> bool
     requires { (symbols ≤ 4294967295) × (variables ≤ 4294967295) }
     ensures { result ≡ known_among symbols variables (place_of place) run.now }

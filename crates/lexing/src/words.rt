@@ -17,7 +17,7 @@ pub enum Connective {
     Equal,
 }
 
-// A word for a sort.
+// A word for a sort: two things by name, and nothing that may be missing.
 #[derive(Clone, Copy, Debug, PartialEq, Eq)]
 pub enum SortWord {
     Bool,

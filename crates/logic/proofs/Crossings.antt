@@ -11,27 +11,22 @@ use mathlib.Core.Bool.{Bool, true, false, cond, not, ◌&&◌, ◌||◌}
 use mathlib.Core.Logic.{inl, inr, ◌↔◌}
 use mathlib.Core.List.{List, [], ◌∷◌, ◌++◌, map}
 use native.Mathlib.Omega.{arith}
-use lib.ListN.{length}
+use lib.ListN.{length, length-map}
 use lib.Dec.{eqb}
 use borrow.Author.Tests.{eqb-true, eq-eqb}
+use Rattle.std.proofs.lemmas.Bool.{and_from}
 use Rattle.bundle.specs.Bundle.{Bundle, TermRecord, term_of, sort_of_variable}
 use Rattle.bundle.specs.Links.{items}
 use Rattle.bundle.specs.Lists.{numbers, has}
 use Rattle.logic.specs.Lists.{Among, All, Different, Number}
 use Rattle.logic.specs.Terms.{Binder, Term, Terms, var, app, bind, let_in, none, more, kind_of, application, binder, letting}
-use Rattle.logic.specs.WellFormed.{TermFormed, a_variable, an_application, a_binder, a_let}
+use Rattle.logic.specs.WellFormed.{TermFormed, a_variable, an_application, a_binder, a_let, sort_of_term}
 use Rattle.logic.specs.ReflWalk.{Crossed, lefts, rights, cross_all, meets, sorts_meet, all_sorts_meet}
-use Rattle.logic.proofs.Tests.{and_left, and_right, and_both, numbers_of_lem, numbers_in}
+use Rattle.logic.proofs.Tests.{and_left, and_right, numbers_of_lem, numbers_in}
 use Rattle.logic.proofs.Exactly.{has_exactly}
 use Rattle.logic.proofs.Meets.{zero_one, pair_up, VariableMeets, Meets, MeetsAll}
 
 -- ---- the variables that a term binds
-
-map_lengths : {A B : Type 0} (f : A → ℕ) (g : B → ℕ) (xs : List A) (ys : List B) → map f xs ≡ map g ys → length ys ≡ length xs
-map_lengths f g [] [] e = refl
-map_lengths f g [] (y ∷ ys) e = zero_one cc
-map_lengths f g (x ∷ xs) [] e = zero_one cc
-map_lengths f g (x ∷ xs) (y ∷ ys) e = let h : length ys ≡ length xs = map_lengths f g xs ys cc in omega arith
 
 module _ (b : Bundle) where
   -- those of a let: variables, all different, as many as its bound terms
@@ -63,7 +58,7 @@ module _ (b : Bundle) where
       all = record {
         variables = nv;
         different = lists.different;
-        as_many = map_lengths (sort_of_variable b) _ (items b vs) (items b ts) lists.sorts;
+        as_many = omega (arith, ap (length {A = ℕ}) lists.sorts, length-map (items b vs) (sort_of_variable b), length-map (items b ts) (sort_of_term b));
       }
 
   -- ---- sorts
@@ -83,8 +78,8 @@ module _ (b : Bundle) where
   pub sorts_met : (x y : ℕ) → Number V' x → Number V' y → sort_of_variable b x ≡ sort_of_variable b y → sorts_meet b x y ≡ true
   unfolding sorts_meet
   sorts_met x y nx ny e =
-      and_both (numbers V' x && numbers V' y) (eqb (sort_of_variable b x) (sort_of_variable b y))
-      (and_both (numbers V' x) (numbers V' y) (numbers_in V' x nx.0 nx.1) (numbers_in V' y ny.0 ny.1))
+      and_from (numbers V' x && numbers V' y) (eqb (sort_of_variable b x) (sort_of_variable b y))
+      (and_from (numbers V' x) (numbers V' y) (numbers_in V' x nx.0 nx.1) (numbers_in V' y ny.0 ny.1))
       (eq-eqb (sort_of_variable b x) (sort_of_variable b y) e)
 
   pub all_sorts_meet_lem : (xs ys : List ℕ) → all_sorts_meet b xs ys ≡ true → map (sort_of_variable b) xs ≡ map (sort_of_variable b) ys
@@ -103,7 +98,7 @@ module _ (b : Bundle) where
   all_sorts_met [] (y ∷ ys) nx ny e = zero_one cc
   all_sorts_met (x ∷ xs) [] nx ny e = zero_one cc
   all_sorts_met (x ∷ xs) (y ∷ ys) nx ny e =
-      and_both (sorts_meet b x y) (all_sorts_meet b xs ys) (sorts_met x y nx.0 ny.0 cc) (all_sorts_met xs ys nx.1 ny.1 cc)
+      and_from (sorts_meet b x y) (all_sorts_meet b xs ys) (sorts_met x y nx.0 ny.0 cc) (all_sorts_met xs ys nx.1 ny.1 cc)
 
 -- ---- crossed binders under which the same terms meet
 

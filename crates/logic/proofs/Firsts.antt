@@ -1,6 +1,7 @@
 -- Laws of the first fault of a section, for a loop that counts i up from 1 to n and returns at the first record that is bad.
 -- `rest_fault f n i` is the first fault from record i on. A loop's invariant says that the first fault of all is that one.
 --     or_else_on, or_else_here     nothing is wrong: the rest says; something is: it is that
+--     next_nested                  faults in a row
 --     rest_start, rest_on, rest_here, rest_end     a loop's start, a good record, a bad one, no record left
 --     none_bad, none_bad_first     nothing is wrong in a section exactly where nothing is wrong with each record
 --     next_both, both_next         nothing is wrong in two sections exactly where nothing is wrong in each
@@ -20,6 +21,12 @@ pub or_else_on : (m i : ℕ) (rest : Fault) → m ≡ 0 → or_else m i rest ≡
 unfolding or_else
 or_else_on zero i rest e = refl
 or_else_on (suc m) i rest e = absurd (omega arith)
+
+-- a fault, or else a second, or else a third
+pub next_nested : (n i : ℕ) (second third : Fault) → or_next (or_else n i second) third ≡ or_else n i (or_next second third)
+unfolding or_else
+next_nested zero i second third = refl
+next_nested (suc n) i second third = refl
 
 pub or_else_here : (m i : ℕ) (rest : Fault) → (m ≡ 0 → ⊥) → or_else m i rest ≡ fault m i
 unfolding or_else

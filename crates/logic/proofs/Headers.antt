@@ -1,7 +1,6 @@
 -- The tests of the header and of the area, checks 1 to 4, and what they say.
 --     header_exactly              the tests find nothing exactly where the header is well formed and the area is long enough
 --     tables_header               it is so where the checks 1 to 9 find nothing
---     whole_long                  a whole file has a header
 --     bundle_is                   the bundle by counts that are those of the file is the file's
 --     header_is                   the header's fault as the code tests for it
 --     tables_on                   where the header has no fault, the sections say
@@ -10,13 +9,12 @@ use mathlib.Core.Logic.{◌↔◌}
 use mathlib.Core.List.{List}
 use mathlib.Core.Bool.{cond}
 use Prim.Native.Nat.{ℕ, ◌≤◌}
-use native.Mathlib.Omega.{arith}
 use lib.ListN.{length}
 use lib.Dec.{eqb, leb}
 use borrow.Author.Tests.{eqb-true, eq-eqb, leb-true, le-leb}
 use Rattle.bundle.specs.declared.Counts.{Counts}
-use Rattle.bundle.specs.Limits.{header_words, bytes_of, within_of}
-use Rattle.bundle.specs.File.{Whole, counts_of, bundle_at, bundle_of}
+use Rattle.bundle.specs.Limits.{bytes_of, within_of}
+use Rattle.bundle.specs.File.{counts_of, bundle_at, bundle_of}
 use Rattle.bundle.proofs.Limits.{within_all, within_true}
 use Rattle.logic.specs.Tests.{fault}
 use Rattle.logic.specs.WellFormed.{HeaderFormed}
@@ -54,10 +52,6 @@ header_exactly f m n = (λ e. there (failing_none (header_tests f m n) refl e), 
 pub tables_header : (f : List ℕ) (m n : ℕ) → (tables_fault f m n).number ≡ 0 → HeaderFormed f × (n ≤ m)
 unfolding tables_fault
 tables_header f m n e = (header_exactly f m n).0 (next_both (fault (header_fault f m n) 0) (sections_fault (bundle_of f)) e).0
-
-pub whole_long : (f : List ℕ) (c : Counts) → Whole f c → 36 ≤ length f
-unfolding header_words
-whole_long f c w = omega arith
 
 -- ---- the counts that the code has read, which are those of the file
 

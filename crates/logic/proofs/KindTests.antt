@@ -2,16 +2,14 @@
 --     kind_binder      the number of a binder
 --     kind_rest        a number that is neither 2, 5 nor a binder's is a variable's or no kind
 --     kind_other       a number that is neither 1, 2, 5 nor a binder's is no kind
---     kind_none, kind_let     a number that has no list of terms, and one that has and is not 2
 --     record_is        a record is its four fields
-use mathlib.Core.Path.{◌≡◌, refl, sym, ◌∙◌}
-use mathlib.Core.Bool.{Bool, true, false, cond, not, ◌&&◌, false≢true}
+use mathlib.Core.Path.{◌≡◌, sym, ◌∙◌}
+use mathlib.Core.Bool.{true, false, cond, false≢true}
 use Prim.Native.Nat.{ℕ}
 use lib.Dec.{eqb}
-use borrow.Author.Tests.{eqb-true, eqb-false, ne_eqb, not-true}
+use borrow.Author.Tests.{ne_eqb}
+use Rattle.std.proofs.lemmas.Bool.{or_parts}
 use Rattle.bundle.specs.Bundle.{TermRecord}
-use Rattle.bundle.proofs.Walks.{or_none}
-use Rattle.logic.proofs.Tests.{and_left, and_right}
 use Rattle.logic.proofs.TermKinds.{is_binder_exactly, is_binder_numbers}
 use Rattle.logic.specs.Terms.{Binder, kind_of, is_binder, variable, binder, other}
 
@@ -22,7 +20,7 @@ module _ (k : ℕ) (not2 : k ≡ 2 → ⊥) (no_binder : is_binder k ≡ false) 
   pub kind_rest : kind_of k ≡ cond (eqb k 1) variable other
   unfolding kind_of
   kind_rest =
-      let none = or_none (eqb k 3) (eqb k 4) (sym (is_binder_numbers k) ∙ no_binder) in
+      let none = or_parts (eqb k 3) (eqb k 4) (sym (is_binder_numbers k) ∙ no_binder) in
       rw (ne_eqb k 2 not2, none.0, none.1, ne_eqb k 5 not5)
 
   pub kind_other : (k ≡ 1 → ⊥) → kind_of k ≡ other
@@ -32,19 +30,6 @@ module _ (k : ℕ) (not2 : k ≡ 2 → ⊥) (no_binder : is_binder k ≡ false) 
 pub binder_no_list : (k : ℕ) → is_binder k ≡ true → (k ≡ 2 → ⊥) × (k ≡ 5 → ⊥)
 unfolding is_binder
 binder_no_list k e = (λ z. false≢true (rw z at e), λ z. false≢true (rw z at e))
-
--- the code's test of a kind with a list of terms: neither 2 nor 5, or one of them
-pub kind_none : (k : ℕ) → (k ≡ 1 → ⊥) → is_binder k ≡ false → (not (eqb k 2) && not (eqb k 5)) ≡ true → kind_of k ≡ other
-kind_none k not1 no_binder neither =
-    kind_other k (eqb-false k 2 (not-true (eqb k 2) (and_left (not (eqb k 2)) (not (eqb k 5)) neither))) no_binder
-    (eqb-false k 5 (not-true (eqb k 5) (and_right (not (eqb k 2)) (not (eqb k 5)) neither))) not1
-
-pub kind_let : (k : ℕ) → (k ≡ 2 → ⊥) → (not (eqb k 2) && not (eqb k 5)) ≡ false → k ≡ 5
-kind_let k not2 either = go (eqb k 5) refl either
-  where
-    go : (p : Bool) → eqb k 5 ≡ p → (not (eqb k 2) && not p) ≡ false → k ≡ 5
-    go true e h = eqb-true k 5 e
-    go false e h = absurd (false≢true (sym (rw (ne_eqb k 2 not2) at h)))
 
 abbrev pub term_record : ℕ → ℕ → ℕ → ℕ → TermRecord
 term_record k x y z = record { kind = k; a = x; b = y; c = z }

@@ -5,9 +5,9 @@ use mathlib.Core.Path.{◌≡◌, refl}
 use mathlib.Core.Bool.{true, false≢true}
 use mathlib.Core.Logic.{inl, inr}
 use mathlib.Core.List.{List}
+use Rattle.std.proofs.lemmas.Bool.{or_cases, or_left, or_right}
 use Rattle.logic.specs.Terms.{Term, Terms, var, app, bind, let_in, none, more}
 use Rattle.logic.specs.Lets.{holds_let, hold_lets, OccursIn, OccursInSome, LetOccurs, HoldsLetExactly}
-use Rattle.logic.proofs.Tests.{or_cases, or_left, or_right}
 
 -- some let occurs in a term of a list
 record SomeLet (ts : Terms) : Type 0 where

@@ -2,7 +2,6 @@
 --     Tables           tables that grow: a cell is what its record builds from the cells below it
 --     Firsts           first faults, for loops over a section
 --     Tests            tests put together and taken apart
---     UpTo             a test of every lower number, for a loop that counts down
 --     CheckNumbers     a check has a number
 --     Entries          the kind of a context as code tests it, and its number
 --     RuleNumbers      the numbers of rules
@@ -53,7 +52,6 @@
 pub mod Tables
 pub mod Firsts
 pub mod Tests
-pub mod UpTo
 pub mod CheckNumbers
 pub mod Entries
 pub mod RuleNumbers

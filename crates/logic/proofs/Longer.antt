@@ -5,7 +5,7 @@
 --     symbol_added ..                      the record just appended, as every longer bundle has it
 --     chain_link, chain_kept               lists of links in order, which stay as they are
 --     consecutive, start_of, add_list        a list of values as new links, one after another; its first link
---     list_longer, list_added              the list just appended, as every longer bundle has it
+--     list_length, list_longer, list_added              the list just appended, as every longer bundle has it
 use mathlib.Core.Path.{◌≡◌, refl, sym, ap, ◌∙◌, subst}
 use Prim.Native.Nat.{ℕ, zero, suc, ◌+◌, ◌≤◌, ◌<◌}
 use mathlib.Core.Bool.{Bool, true, false, cond, ◌&&◌}
@@ -251,6 +251,12 @@ pub consecutive_length : (m : ℕ) (vs : List ℕ) → length (consecutive m vs)
 unfolding consecutive
 consecutive_length m [] = refl
 consecutive_length m (v ∷ vs) = ap suc (consecutive_length (suc m) vs)
+
+-- how many links there are with a list appended
+pub list_length : (b : Bundle) (vs : List ℕ) → length (add_list b vs).links ≡ length b.links + length vs
+list_length b vs =
+    length-append b.links (consecutive (suc (length b.links)) vs)
+    ∙ ap (λ (n : ℕ). length b.links + n) (consecutive_length (suc (length b.links)) vs)
 
 pub list_longer : (b : Bundle) (vs : List ℕ) → Longer b (add_list b vs)
 list_longer b vs = links_longer b (consecutive (suc (length b.links)) vs)

@@ -14,7 +14,9 @@ use native.Mathlib.Omega.{arith}
 use native.Mathlib.Decide.{dec_le}
 use lib.ListN.{length}
 use lib.Dec.{eqb, leb}
-use borrow.Author.Tests.{eqb-true, le-leb, lt-leb}
+use borrow.Author.Tests.{eqb-true, le-leb, lt-leb, not-true}
+use Rattle.std.proofs.lemmas.Bool.{false_from_ne_true}
+use Rattle.std.proofs.lemmas.Bool.Decides.{Decides-and, Decides-not, Decides-eqb}
 use Rattle.bundle.specs.Bundle.{Bundle, Step, step_of}
 use Rattle.logic.specs.Terms.{tree}
 use Rattle.logic.specs.Free.{free_at}
@@ -26,7 +28,6 @@ use Rattle.logic.specs.Instance.{ReflForm}
 use Rattle.logic.specs.Statements.{Spent, SpentExactly, WalkedExactly, LastWalked, no_walk, last_walk, LastPairs, LastPairsAtMost}
 use Rattle.logic.proofs.Tests.{and_left, and_right, failing_none}
 use Rattle.logic.proofs.Firsts.{none_bad}
-use Rattle.logic.proofs.Exactly.{eq_exactly, not_exactly, and_exactly}
 use Rattle.logic.proofs.ReflWalk.{walk_some}
 use Rattle.logic.proofs.ReflStep.{form_exactly}
 use Rattle.logic.proofs.Instances.{refers_exactly}
@@ -80,10 +81,6 @@ false_suffices b s r is no_form over =
     ∙ ap (λ (p : Bool). p || leb (refl_walk b s).pairs pair_limit) no_form
     ∙ lt-leb (refl_walk b s).pairs pair_limit over
 
-not_held : (p : Bool) {A : Type 0} → (p ≡ true) ↔ A → (A → ⊥) → p ≡ false
-not_held true h out = absurd (out (h.0 refl))
-not_held false h out = refl
-
 -- ---- 21
 
 pub spent_exactly : SpentExactly
@@ -111,15 +108,14 @@ spent_exactly b well k = (λ e. there (step_refers b k) refl (scoped b k) refl (
 
     back : Spent b k → fault (step_refers b k) (scoped b k) (suffices b k) (matches b k) (sides b k) ≡ 21
     back h =
-        rw (h.refers, (scoped_exactly b well s).1 h.scope, false_suffices b s s.rule h.is_refl (not_held (refl_holds b s) (forms h.refers) h.no_form) h.over)
+        rw (h.refers, (scoped_exactly b well s).1 h.scope, false_suffices b s s.rule h.is_refl (false_from_ne_true (refl_holds b s) (λ e. h.no_form ((forms h.refers).0 e))) h.over)
 
 -- ---- the last REFL walked
 
 pub walked_exactly : WalkedExactly
 unfolding walked refl_holds
 walked_exactly b well k left right =
-    and_exactly (eqb (step_of b k).rule 1) (eq_exactly (step_of b k).rule 1) (not (refl_holds b (step_of b k)))
-    (not_exactly (refl_holds b (step_of b k)) (form_exactly b well (step_of b k) left right))
+    Decides-and (eqb (step_of b k).rule 1) (not (refl_holds b (step_of b k))) (Decides-eqb (step_of b k).rule 1) (Decides-not (refl_holds b (step_of b k)) (form_exactly b well (step_of b k) left right))
 
 pairs_walked : (b : Bundle) (k : ℕ) → walked b k ≡ true → walked_pairs b k ≡ (refl_walk b (step_of b k)).pairs
 unfolding walked_pairs walked
@@ -180,11 +176,7 @@ last_pairs_at_most b e = go (last_pairs_lem b (length b.steps))
         is_walked : (eqb s.rule 1 ≡ true) × (not (refl_holds b s) ≡ true)
         is_walked = (and_left (eqb s.rule 1) (not (refl_holds b s)) w, and_right (eqb s.rule 1) (not (refl_holds b s)) w)
 
-        not_false : (p : Bool) → not p ≡ true → p ≡ false
-        not_false true h = absurd (false≢true h)
-        not_false false h = refl
-
         within : Dec ((refl_walk b s).pairs ≤ pair_limit) → p ≤ pair_limit
         within (yes le) = omega (arith, is)
         within (no over) =
-            absurd (false≢true (sym (false_suffices b s s.rule (eqb-true s.rule 1 is_walked.0) (not_false (refl_holds b s) is_walked.1) (omega arith)) ∙ enough))
+            absurd (false≢true (sym (false_suffices b s s.rule (eqb-true s.rule 1 is_walked.0) (not-true (refl_holds b s) is_walked.1) (omega arith)) ∙ enough))

@@ -13,6 +13,8 @@ use native.Mathlib.Omega.{arith}
 use lib.ListN.{length}
 use lib.Dec.{eqb}
 use borrow.Author.Tests.{eqb-true, eq-eqb}
+use Rattle.std.proofs.lemmas.Bool.{and_from}
+use Rattle.std.proofs.lemmas.Bool.Decides.{Decides-and, Decides-not}
 use Rattle.bundle.specs.Bundle.{Bundle, TermRecord, term_of, sort_of_variable}
 use Rattle.bundle.specs.Links.{items}
 use Rattle.bundle.specs.Lists.{each, has}
@@ -26,9 +28,9 @@ use Rattle.logic.specs.Distinct.{Distinct}
 use Rattle.logic.specs.WellFormed.{Lower, TermFormed, a_variable, an_application, a_binder, a_let, TablesFormed, WellFormed}
 use Rattle.logic.specs.ReflWalk.{Crossed, lefts, rights, cross_all, meets, sorts_meet, all_sorts_meet, bound_meets, image_is, free_meets, variable_meets, application_meets, binder_meets, let_meets, PairWalk, pair_then, and_then, lists_walk, pair_walk_as, pair_walk_of, pair_walk}
 use Rattle.logic.specs.Statements.{PairWalkExactly}
-use Rattle.logic.proofs.Tests.{and_left, and_right, and_both}
+use Rattle.logic.proofs.Tests.{and_left, and_right}
 use Rattle.logic.proofs.TermKinds.{binder_kind}
-use Rattle.logic.proofs.Exactly.{not_exactly, and_exactly, each_exactly}
+use Rattle.logic.proofs.Exactly.{each_exactly}
 use Rattle.logic.proofs.FreeSettled.{is_variable_exactly, free_at_exactly}
 use Rattle.logic.proofs.Formed.{tables_formed_distinct, tree_variable, tree_application, tree_binder, tree_let}
 use Rattle.logic.proofs.TermNumbers.{IsTerm, same, of_kind, app_args, bind_body, let_parts, app_fields, bind_fields, let_fields, ImageTerm, image_term_lem}
@@ -89,10 +91,8 @@ module _ (b : Bundle) (well : WellFormed b) (c : ℕ) where
       → (free_meets (free_at b) (image b c) b ps x r ≡ true) ↔ ((tree b r ≡ image_tree b c x) × ((y : ℕ) → Among y (rights ps) → Free y (tree b r) → ⊥))
   unfolding free_meets image_tree
   free_meets_exactly ps x r n =
-      and_exactly (image_is b (image b c x) x r) (image_is_exactly (image b c x) x r (image_term_lem b well c x) n)
-      (each (λ y. not (free_at b r y)) (rights ps))
-      (Iff.trans
-      (each_exactly (λ y. not (free_at b r y)) (λ y. Free y (tree b r) → ⊥) (λ y. not_exactly (free_at b r y) (free_at_exactly b formed r y)) (rights ps))
+      Decides-and (image_is b (image b c x) x r) (each (λ y. not (free_at b r y)) (rights ps)) (image_is_exactly (image b c x) x r (image_term_lem b well c x) n) (Iff.trans
+      (each_exactly (λ y. not (free_at b r y)) (λ y. Free y (tree b r) → ⊥) (λ y. Decides-not (free_at b r y) (free_at_exactly b formed r y)) (rights ps))
       (among_all (λ y. Free y (tree b r) → ⊥) (rights ps), all_among (λ y. Free y (tree b r) → ⊥) (rights ps)))
 
   bound_meets_exactly : (ps : Crossed) (x r : ℕ) → (bound_meets b ps x r ≡ true) ↔ ((z : ℕ) × (tree b r ≡ var z) × (meets ps x z ≡ true))
@@ -106,7 +106,7 @@ module _ (b : Bundle) (well : WellFormed b) (c : ℕ) where
       there e = (
         s.a,
         (is_variable_exactly b r s.a).0
-            (and_both (eqb s.kind 1) (eqb s.a s.a) (and_left (eqb s.kind 1) (meets ps x s.a) e) (eq-eqb s.a s.a refl)),
+            (and_from (eqb s.kind 1) (eqb s.a s.a) (and_left (eqb s.kind 1) (meets ps x s.a) e) (eq-eqb s.a s.a refl)),
         and_right (eqb s.kind 1) (meets ps x s.a) e,
       )
 
@@ -114,7 +114,7 @@ module _ (b : Bundle) (well : WellFormed b) (c : ℕ) where
       back (z, e, m) =
           let is : (eqb s.kind 1 && eqb s.a z) ≡ true = (is_variable_exactly b r z).1 e in
           let z-is : s.a ≡ z = eqb-true s.a z (and_right (eqb s.kind 1) (eqb s.a z) is) in
-          and_both (eqb s.kind 1) (meets ps x s.a) (and_left (eqb s.kind 1) (eqb s.a z) is) (ap (meets ps x) z-is ∙ m)
+          and_from (eqb s.kind 1) (meets ps x s.a) (and_left (eqb s.kind 1) (eqb s.a z) is) (ap (meets ps x) z-is ∙ m)
 
   variable_exactly : (ps : Crossed) (x r : ℕ) → IsTerm b r → (variable_meets (free_at b) (image b c) b ps x r ≡ true) ↔ VariableMeets b (image_tree b c) ps x (tree b r)
   unfolding variable_meets
@@ -200,7 +200,7 @@ module _ (b : Bundle) (well : WellFormed b) (c : ℕ) where
       back (us, e, ms) =
           let (k, f-is, args) = app_fields b formed r f us n e in
           (pair_same met parts).1 (
-            and_both (eqb o.kind 2) (eqb f o.a) (eq-eqb o.kind 2 k) (eq-eqb f o.a (sym f-is)),
+            and_from (eqb o.kind 2) (eqb f o.a) (eq-eqb o.kind 2 k) (eq-eqb f o.a (sym f-is)),
             (lists_exactly ps (items b s) (items b o.b) h (app_args b formed r n k)).1 (rw args ms),
           )
 
@@ -237,7 +237,7 @@ module _ (b : Bundle) (well : WellFormed b) (c : ℕ) where
       back (y, u, e, s, m) =
           let (o_is, y-is, u-is) = bind_fields b formed r q y u e in
           (pair_same (kinds && sorts) body).1 (
-            and_both kinds sorts (eq-eqb o.kind k (binder_kind o.kind q o_is ∙ sym (binder_kind k q is)))
+            and_from kinds sorts (eq-eqb o.kind k (binder_kind o.kind q o_is ∙ sym (binder_kind k q is)))
                 (sorts_met b x o.a nx ((bound_variables b r (formed.terms r n)).0 q o_is) (s ∙ ap (sort_of_variable b) (sym y-is))),
             (h ((x, o.a) ∷ ps) o.b (bind_body b formed r q n o_is)).1 (rw (y-is, u-is) m),
           )
@@ -297,8 +297,8 @@ module _ (b : Bundle) (well : WellFormed b) (c : ℕ) where
           let (nb, ns) = let_parts b formed r n k in
           let right : LetBinds b (term_of b r) = (bound_variables b r (formed.terms r n)).1 k in
           (pair_same ((kinds && sorts) && many) (and_then parts body)).1 (
-            and_both (kinds && sorts) many
-                (and_both kinds sorts (eq-eqb o.kind 5 k)
+            and_from (kinds && sorts) many
+                (and_from kinds sorts (eq-eqb o.kind 5 k)
                 (all_sorts_met b (items b vs) (items b o.a) binds.variables right.variables (s ∙ ap (map (sort_of_variable b)) (sym ys-is))))
                 (eq-eqb (length (items b ts)) (length (items b vs)) binds.as_many),
             (then_same parts body).1 (

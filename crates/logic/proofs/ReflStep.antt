@@ -9,6 +9,7 @@ use mathlib.Core.Bool.{Bool, true, ◌&&◌, ◌||◌}
 use mathlib.Core.Logic.{◌⊎◌, inl, inr, ◌↔◌}
 use lib.Dec.{eqb, leb}
 use borrow.Author.Tests.{eqb-true, eq-eqb, leb-true, le-leb}
+use Rattle.std.proofs.lemmas.Bool.{or_cases, and_from, or_left, or_right}
 use Rattle.bundle.specs.Bundle.{Bundle, TermRecord, Step, term_of}
 use Rattle.logic.specs.declared.Image.{Image}
 use Rattle.logic.specs.declared.Image.TheVariants.{Own, Gives}
@@ -21,7 +22,7 @@ use Rattle.logic.specs.Replacement.{Replacement}
 use Rattle.logic.specs.ReflWalk.{refl_walk, pair_limit}
 use Rattle.logic.specs.Instance.{ReflForm}
 use Rattle.logic.specs.Statements.{ReflForms}
-use Rattle.logic.proofs.Tests.{or_cases, or_left, or_right, and_left, and_right, and_both}
+use Rattle.logic.proofs.Tests.{and_left, and_right}
 use Rattle.logic.proofs.FreeSettled.{is_variable_exactly, settled_exactly}
 use Rattle.logic.proofs.Formed.{tables_formed_distinct}
 use Rattle.logic.proofs.TermNumbers.{IsTerm, same, ImageTerm, image_term_lem}
@@ -73,13 +74,13 @@ module _ (b : Bundle) (well : WellFormed b) (s : Step) (left : IsTerm b s.left) 
           let r : TermRecord = term_of b s.left in
           let k : eqb r.kind 1 ≡ true = and_left (eqb r.kind 1) (its_image r.a) e in
           let v : tree b s.left ≡ var r.a =
-          (is_variable_exactly b s.left r.a).0 (and_both (eqb r.kind 1) (eqb r.a r.a) k (eq-eqb r.a r.a refl)) in
+          (is_variable_exactly b s.left r.a).0 (and_from (eqb r.kind 1) (eqb r.a r.a) k (eq-eqb r.a r.a refl)) in
           inr (r.a, v, by_image r.a (image b s.context r.a) (and_right (eqb r.kind 1) (its_image r.a) e) v)
 
       back : Form → (same_settled || variable_image) ≡ true
       back (inl (e, h)) =
           or_left same_settled variable_image
-          (and_both (eqb s.left s.right) (settled b s.context s.left)
+          (and_from (eqb s.left s.right) (settled b s.context s.left)
           (eq-eqb s.left s.right (same b own s.left s.right left right e))
           ((settled_exactly b well.tables s.context s.left).1 h))
       back (inr (x, v, e)) =
@@ -87,7 +88,7 @@ module _ (b : Bundle) (well : WellFormed b) (s : Step) (left : IsTerm b s.left) 
           let is : (eqb r.kind 1 && eqb r.a x) ≡ true = (is_variable_exactly b s.left x).1 v in
           let x-is : r.a ≡ x = eqb-true r.a x (and_right (eqb r.kind 1) (eqb r.a x) is) in
           or_right same_settled variable_image
-          (and_both (eqb r.kind 1) (its_image r.a) (and_left (eqb r.kind 1) (eqb r.a x) is)
+          (and_from (eqb r.kind 1) (its_image r.a) (and_left (eqb r.kind 1) (eqb r.a x) is)
           (ap its_image x-is ∙ image_by_lem x (image b s.context x) (image_term_lem b well s.context x) v e))
 
   pub refl_matches_exactly : (refl_matches b s ≡ true) ↔ Replacement b (image_tree b s.context) (tree b s.left) (tree b s.right)

@@ -1,6 +1,6 @@
 -- The walk of whole-term REFL, one number at a time, and with pairs left.
 --     limit_fits, limit_over              a walk within its pairs, and one that visits more
---     limit_same, limit_different, limit_spent     what an answer says of the number of pairs
+--     limit_same, limit_different         what an answer says of the number of pairs
 --     limit_one, limit_pair, limit_then   with pairs left: one pair, a pair and what follows, a walk and then another
 --     pair_walk_limited                   THE LAW: the walk with n pairs left is spent exactly where the walk visits more than n
 --     within_below                        what the walk with pairs left does at a number, from those at lower numbers: for code
@@ -65,18 +65,6 @@ limit_different n w m e = go (dec_le w.pairs n) w.same refl
     go (no h) p q =
         let is : Spent ≡ Different m = sym (limit_over n w (omega arith)) ∙ e in
         absurd (let z : ◌≡◌ {A = ℕ} 0 1 = cc in omega arith)
-
-pub limit_spent : (n : ℕ) (w : PairWalk) → limit n w ≡ Spent → n < w.pairs
-limit_spent n w e = go (dec_le w.pairs n) w.same refl
-  where
-    go : Dec (w.pairs ≤ n) → (p : Bool) → w.same ≡ p → n < w.pairs
-    go (yes h) true q =
-        let is : ended true (n - w.pairs) ≡ Spent = ap (λ (o : Bool). ended o (n - w.pairs)) (sym q) ∙ sym (limit_fits n w h) ∙ e in
-        absurd (let z : ◌≡◌ {A = ℕ} 0 1 = cc in omega arith)
-    go (yes h) false q =
-        let is : ended false (n - w.pairs) ≡ Spent = ap (λ (o : Bool). ended o (n - w.pairs)) (sym q) ∙ sym (limit_fits n w h) ∙ e in
-        absurd (let z : ◌≡◌ {A = ℕ} 0 1 = cc in omega arith)
-    go (no h) p q = omega arith
 
 pub limit_one : (p : Bool) (n : ℕ) → one_pair_within p n ≡ limit n (one_pair p)
 limit_one p zero = sym (limit_over 0 (one_pair p) (omega arith))

@@ -1,11 +1,10 @@
 -- Rules and their numbers.
 --     number_of_rule      the number that stands for a rule
---     rule_of_number      and the rule that it stands for
-use mathlib.Core.Path.{◌≡◌, refl, sym, ap, ◌∙◌}
+use mathlib.Core.Path.{◌≡◌, sym, ap, ◌∙◌}
 use native.Mathlib.Omega.{arith}
 use Prim.Native.Nat.{ℕ, zero, suc}
 use borrow.Author.Tests.{ne_eqb}
-use Rattle.logic.specs.Rules.{Rule, REFL, CONG, TRANS, BIND, LET, noRule, rule_number, rule_of}
+use Rattle.logic.specs.Rules.{Rule, noRule, rule_number, rule_of}
 
 pub number_of_rule : (n : ℕ) (r : Rule) → rule_of n ≡ r → (r ≡ noRule → ⊥) → n ≡ rule_number r
 unfolding rule_of
@@ -26,12 +25,3 @@ number_of_rule (suc (suc (suc (suc (suc (suc n)))))) r e some =
       ne_eqb m 5 (λ z. omega arith),
     ) in
     absurd (some (sym e ∙ none))
-
-pub rule_of_number : (r : Rule) → rule_of (rule_number r) ≡ r
-unfolding rule_of
-rule_of_number REFL = refl
-rule_of_number CONG = refl
-rule_of_number TRANS = refl
-rule_of_number BIND = refl
-rule_of_number LET = refl
-rule_of_number noRule = refl

@@ -10,6 +10,7 @@ use mathlib.Core.Bool.{Bool, true, false, not, ◌&&◌, ◌||◌, false≢true}
 use mathlib.Core.Logic.{◌⊎◌, inl, inr, ◌↔◌}
 use native.Mathlib.Omega.{arith}
 use lib.ListN.{length}
+use Rattle.std.proofs.lemmas.Bool.Decides.{Decides-and}
 use Rattle.bundle.specs.Bundle.{Bundle, Step, context_of}
 use Rattle.logic.specs.Lists.{Number}
 use Rattle.logic.specs.Tests.{up_to}
@@ -21,7 +22,7 @@ use Rattle.logic.specs.Rules.{scoped_as}
 use Rattle.logic.specs.Instance.{SidesInScope}
 use Rattle.logic.specs.Statements.{ScopeExactly, ClaimClosed}
 use Rattle.logic.proofs.Tests.{up_to_lem, up_to_all}
-use Rattle.logic.proofs.Exactly.{and_exactly, imply_exactly}
+use Rattle.logic.proofs.Exactly.{imply_exactly}
 use Rattle.logic.proofs.FreeSettled.{free_at_exactly, free_number}
 use Rattle.logic.proofs.Found.{mentioned_exactly}
 
@@ -67,8 +68,7 @@ module _ (b : Bundle) (well : WellFormed b) where
   pub scoped_exactly : (s : Step) → (scoped_as b s ≡ true) ↔ SidesInScope b s
   unfolding scoped_as
   scoped_exactly s =
-      and_exactly (in_scope b s.context s.left) (scope_exactly b well s.context s.left) (in_scope b s.context s.right)
-      (scope_exactly b well s.context s.right)
+      Decides-and (in_scope b s.context s.left) (in_scope b s.context s.right) (scope_exactly b well s.context s.left) (scope_exactly b well s.context s.right)
 
   -- ---- a variable that is out of scope
 

@@ -1,32 +1,28 @@
 -- Laws of tests: how they are put together and taken apart.
---     and_left, and_right, and_both, or_cases, or_left, or_right, or_neither, not_of, not_in, both-ways     of truth values
+--     and_left, and_right, not_in     of truth values
 --     numbers_of_lem, numbers_in                 a number 1 to n, as a test and as two facts
 --     passed_each, tested, all_passed        all tests of a list passed: each did (test i too), and the other way round
 --     passed_same                            lists that are the same wherever one passes pass together
 --     up_to_lem, up_to_all, up_to_more           the same of the numbers 1 to n; and where there are more of them, which pass
 --     failing_none, none_failing             no test fails: each holds, and the other way round
 --     same_list_lem, list_same                   lists that are the same, item by item, are equal
---     has_at, at_has                         a member stands at some index
---     each_has, each_at, has_each, at_each   a test of every item, by member and by index
+--     each_has, has_each                     a test of every item, by member
 use mathlib.Core.Path.{◌≡◌, refl, sym, ap, ◌∙◌}
 use Prim.Native.Nat.{ℕ, zero, suc, ◌≤◌, ◌<◌}
-use mathlib.Core.Bool.{Bool, true, false, cond, not, ◌&&◌, ◌||◌, false≢true}
+use mathlib.Core.Bool.{Bool, true, false, cond, not, ◌&&◌, false≢true}
 use mathlib.Core.Logic.{◌⊎◌, inl, inr}
 use mathlib.Core.List.{List, [], ◌∷◌}
-use native.Mathlib.Nat.{not-suc-le-zero, le_of_suc-le-suc}
 use native.Mathlib.Omega.{arith}
 use native.Mathlib.Decide.{ℕ_discrete, dec_le}
 use lib.Dec.{eqb, ltb, leb}
-use lib.ListN.{length, get_or}
+use lib.ListN.{get_or}
 use borrow.Author.Tests.{eqb-true, eq-eqb, ltb-true, leb-true, lt-ltb, le-leb}
+use Rattle.std.proofs.lemmas.Bool.{or_cases, and_from, or_left, or_right}
+use Rattle.std.specs.Cmp.{both_ways}
 use Rattle.bundle.specs.Lists.{same_list, numbers, each, has}
 use Rattle.logic.specs.Tests.{passed_from, passed, up_to, Test, first_failing}
 
 -- ---- truth values
-
-pub or_cases : (p q : Bool) → (p || q) ≡ true → (p ≡ true) ⊎ (q ≡ true)
-or_cases true q e = inl refl
-or_cases false q e = inr e
 
 pub and_left : (p q : Bool) → (p && q) ≡ true → p ≡ true
 and_left true q e = refl
@@ -36,36 +32,10 @@ pub and_right : (p q : Bool) → (p && q) ≡ true → q ≡ true
 and_right true q e = e
 and_right false q e = absurd (false≢true e)
 
-pub and_both : (p q : Bool) → p ≡ true → q ≡ true → (p && q) ≡ true
-and_both true q e f = f
-and_both false q e f = e
-
-pub or_left : (p q : Bool) → p ≡ true → (p || q) ≡ true
-or_left true q e = refl
-or_left false q e = absurd (false≢true e)
-
-pub or_right : (p q : Bool) → q ≡ true → (p || q) ≡ true
-or_right true q e = refl
-or_right false q e = e
-
-pub or_neither : (p q : Bool) → p ≡ false → q ≡ false → (p || q) ≡ false
-or_neither true q e f = e
-or_neither false q e f = f
-
-pub not_of : (p : Bool) → p ≡ false → not p ≡ true
-not_of true e = sym e
-not_of false e = refl
-
 -- a test that fails, and holds
 pub not_in {ℓ} : {A : Type ℓ} (p : Bool) → not p ≡ true → p ≡ true → A
 not_in true n e = absurd (false≢true n)
 not_in false n e = absurd (false≢true e)
-
--- two tests that hold together are the same
-pub both_ways : (p q : Bool) → (p ≡ true → q ≡ true) → (q ≡ true → p ≡ true) → p ≡ q
-both_ways true q f g = sym (f refl)
-both_ways false true f g = g refl
-both_ways false false f g = refl
 
 -- ---- a record's number
 
@@ -73,7 +43,7 @@ pub numbers_of_lem : (n x : ℕ) → numbers n x ≡ true → (1 ≤ x) × (x �
 numbers_of_lem n x e = (ltb-true 0 x (and_left (ltb 0 x) (leb x n) e), leb-true x n (and_right (ltb 0 x) (leb x n) e))
 
 pub numbers_in : (n x : ℕ) → 1 ≤ x → x ≤ n → numbers n x ≡ true
-numbers_in n x a b = and_both (ltb 0 x) (leb x n) (lt-ltb 0 x a) (le-leb x n b)
+numbers_in n x a b = and_from (ltb 0 x) (leb x n) (lt-ltb 0 x a) (le-leb x n b)
 
 -- ---- all tests of a list
 
@@ -100,7 +70,7 @@ passed_each (t ∷ ts) e = (from_first t ts e, from_each t ts e)
 each_from : (p : Bool) (ts : List Bool) → p ≡ true → Each ts → passed_from p ts ≡ true
 unfolding passed_from
 each_from p [] e h = e
-each_from p (t ∷ ts) e h = each_from (p && t) ts (and_both p t e h.0) h.1
+each_from p (t ∷ ts) e h = each_from (p && t) ts (and_from p t e h.0) h.1
 
 pub all_passed : (ts : List Bool) → Each ts → passed ts ≡ true
 unfolding passed
@@ -135,7 +105,7 @@ pub up_to_all : (n : ℕ) (p : ℕ → Bool) → ((x : ℕ) → 1 ≤ x → x �
 unfolding up_to
 up_to_all zero p h = refl
 up_to_all (suc n) p h =
-    and_both (p (suc n)) (up_to n p) (h (suc n) (omega arith) (omega arith)) (up_to_all n p (λ x a b. h x a (omega arith)))
+    and_from (p (suc n)) (up_to n p) (h (suc n) (omega arith) (omega arith)) (up_to_all n p (λ x a b. h x a (omega arith)))
 
 pub up_to_more : (n m : ℕ) (p q : ℕ → Bool) → n ≤ m → ((x : ℕ) → q x ≡ p x) → ((x : ℕ) → n < x → p x ≡ true) → up_to m q ≡ up_to n p
 up_to_more n m p q h same more =
@@ -193,26 +163,9 @@ list_same xs ys e = rw (← e) (self xs)
   where
     self : (xs : List ℕ) → same_list xs xs ≡ true
     self [] = refl
-    self (x ∷ xs) = and_both (eqb x x) (same_list xs xs) (eq-eqb x x refl) (self xs)
+    self (x ∷ xs) = and_from (eqb x x) (same_list xs xs) (eq-eqb x x refl) (self xs)
 
--- a member stands at some index
-pub has_at : (x : ℕ) (xs : List ℕ) → has x xs ≡ true → (i : ℕ) × (i < length xs) × (get_or xs i 0 ≡ x)
-unfolding has
-has_at x [] e = absurd (false≢true e)
-has_at x (y ∷ ys) e = go (or_cases (eqb x y) (has x ys) e) (has_at x ys)
-  where
-    go : (eqb x y ≡ true) ⊎ (has x ys ≡ true) → (has x ys ≡ true → (i : ℕ) × (i < length ys) × (get_or ys i 0 ≡ x))
-        → (i : ℕ) × (i < suc (length ys)) × (get_or (y ∷ ys) i 0 ≡ x)
-    go (inl h) ih = (0, omega arith, sym (eqb-true x y h))
-    go (inr h) ih = let f : (i : ℕ) × (i < length ys) × (get_or ys i 0 ≡ x) = ih h in (suc f.0, omega (arith, f.1), f.2)
-
-pub at_has : (xs : List ℕ) (i : ℕ) → i < length xs → has (get_or xs i 0) xs ≡ true
-unfolding has
-at_has [] i h = absurd (not-suc-le-zero h)
-at_has (x ∷ xs) zero h = or_left (eqb x x) (has x xs) (eq-eqb x x refl)
-at_has (x ∷ xs) (suc i) h = or_right (eqb (get_or xs i 0) x) (has (get_or xs i 0) xs) (at_has xs i (le_of_suc-le-suc h))
-
--- a test of every item, by member and by index
+-- a test of every item, by member
 pub each_has : (p : ℕ → Bool) (xs : List ℕ) → each p xs ≡ true → (x : ℕ) → has x xs ≡ true → p x ≡ true
 unfolding each has
 each_has p [] e x h = absurd (false≢true h)
@@ -222,15 +175,9 @@ each_has p (y ∷ ys) e x h = go (or_cases (eqb x y) (has x ys) h) (each_has p y
     go (inl q) ih = rw (eqb-true x y q) (and_left (p y) (each p ys) e)
     go (inr q) ih = ih q
 
-pub each_at : (p : ℕ → Bool) (xs : List ℕ) → each p xs ≡ true → (i : ℕ) → i < length xs → p (get_or xs i 0) ≡ true
-each_at p xs e i h = each_has p xs e (get_or xs i 0) (at_has xs i h)
-
 pub has_each : (p : ℕ → Bool) (xs : List ℕ) → ((x : ℕ) → has x xs ≡ true → p x ≡ true) → each p xs ≡ true
 unfolding each has
 has_each p [] h = refl
 has_each p (y ∷ ys) h =
-    and_both (p y) (each p ys) (h y (or_left (eqb y y) (has y ys) (eq-eqb y y refl)))
+    and_from (p y) (each p ys) (h y (or_left (eqb y y) (has y ys) (eq-eqb y y refl)))
     (has_each p ys (λ x m. h x (or_right (eqb x y) (has x ys) m)))
-
-pub at_each : (p : ℕ → Bool) (xs : List ℕ) → ((i : ℕ) → i < length xs → p (get_or xs i 0) ≡ true) → each p xs ≡ true
-at_each p xs h = has_each p xs (λ x m. let f : (i : ℕ) × (i < length xs) × (get_or xs i 0 ≡ x) = has_at x xs m in ap p (sym f.2) ∙ h f.0 f.1)

@@ -5,10 +5,11 @@
 use mathlib.Core.Path.{◌≡◌, refl, sym, ap, ◌∙◌, subst}
 use Prim.Native.Nat.{ℕ, zero, suc, ◌+◌, ◌-◌, ◌*◌, ◌^◌, ◌≤◌}
 use mathlib.Core.Bool.{Bool, true, false, false≢true}
-use mathlib.Core.List.{List, [], ◌∷◌, map}
+use mathlib.Core.List.{List, [], ◌∷◌}
 use native.Mathlib.Omega.{arith}
 use native.Mathlib.Nat.{mul-le-mul_right}
-use lib.ListN.{length}
+use lib.ListN.{length, length-map}
+use Rattle.std.proofs.lemmas.Nat.{pow_pos}
 use Rattle.bundle.specs.Bundle.{Bundle, TermRecord, term_of, sort_of_variable}
 use Rattle.bundle.specs.Links.{items}
 use Rattle.logic.specs.Lists.{All}
@@ -25,10 +26,6 @@ use Rattle.logic.proofs.Formed.{formed_pass, tree_variable, tree_application}
 use Rattle.logic.proofs.ReflWalk.{walk_here}
 use Rattle.logic.proofs.ReflExactly.{pair_same, then_same, pair_walk_exactly}
 use Rattle.logic.proofs.Replacements.{Unbound, unbound_apart}
-
-some_power : (n : ℕ) → 1 ≤ 2 ^ n
-some_power zero = omega arith
-some_power (suc n) = omega (arith, some_power n)
 
 -- ---- pairs of the parts
 
@@ -59,12 +56,6 @@ lists_pairs f m ps (l ∷ ls) (r ∷ rs) h =
     let ih : (lists_walk f ps ls rs).pairs ≤ length ls * m = lists_pairs f m ps ls rs h.1 in
     let one : (f l ps r).pairs ≤ m = h.0 ps r in
     omega (arith, then_pairs (f l ps r) (lists_walk f ps ls rs))
-
-same_length : (s t : ℕ → ℕ) (xs ys : List ℕ) → map s xs ≡ map t ys → length xs ≡ length ys
-same_length s t [] [] e = refl
-same_length s t [] (y ∷ ys) e = cc
-same_length s t (x ∷ xs) [] e = cc
-same_length s t (x ∷ xs) (y ∷ ys) e = ap suc (same_length s t xs ys cc)
 
 module _ (b : Bundle) (formed : TablesFormed b) (c : ℕ) where
   here : (l : ℕ) (s : TermRecord) → term_of b l ≡ s → pair_walk b c l ≡ pair_walk_of (free_at b) (image b c) b (pair_walk b c) s
@@ -123,7 +114,7 @@ module _ (b : Bundle) (formed : TablesFormed b) (c : ℕ) where
             let all : parts.pairs ≤ length (items b ts) * m =
             lists_pairs (pair_walk b c) m ps (items b ts) (items b (term_of b r).b) (all_lower l m ih (items b ts) lows) in
             let same : length (items b vs) ≡ length (items b ts) =
-            same_length (sort_of_variable b) (sort_of_term b) (items b vs) (items b ts) lists.sorts in
+            omega (arith, ap (length {A = ℕ}) lists.sorts, length-map (items b vs) (sort_of_variable b), length-map (items b ts) (sort_of_term b)) in
             let most : length (items b ts) * m ≤ 1 * m = mul-le-mul_right m (omega (arith, one)) in
             let last : body.pairs ≤ m = ih t low (let_crossed b o r ps) (term_of b r).c in
             omega (arith, pair_pairs (let_meets b o r) (and_then parts body), then_pairs parts body)
@@ -133,7 +124,7 @@ module _ (b : Bundle) (formed : TablesFormed b) (c : ℕ) where
     up_to_lem (suc n) l le h ps r =
         let most : (pair_walk b c l ps r).pairs ≤ 1 + 2 * (2 ^ n - 1) =
         step l (2 ^ n - 1) h (formed.terms l h) (λ i low. up_to_lem n i (omega arith) (low.0, omega arith)) ps r in
-        omega (arith, some_power n)
+        omega (arith, pow_pos n)
 
 pub pair_walk_bound : PairWalkBound
 pair_walk_bound b formed binary c n h = up_to_lem b formed c binary n n (omega arith) h
@@ -205,7 +196,7 @@ module _ (b : Bundle) (formed : TablesFormed b) (c : ℕ) where
               let (m, w) = (pair_same met (parts (suc n ∷ suc n ∷ []))).0 e in
               let two : (parts (suc n ∷ suc n ∷ [])).pairs ≡ (2 ^ suc n - 1) + (2 ^ suc n - 1) =
               twice (pair_walk b c) (2 ^ suc n - 1) (suc n) ps (items b (term_of b r).b) ih w in
-              omega (arith, pair_all met (parts (suc n ∷ suc n ∷ [])) m, some_power (suc n)))
+              omega (arith, pair_all met (parts (suc n ∷ suc n ∷ [])) m, pow_pos (suc n)))
 
 pub pair_walk_doubled : PairWalkDoubled
 pair_walk_doubled b formed c n h d = doubled b formed c n d h.0

@@ -90,7 +90,7 @@ pub struct Failure {
     pub record: usize,
 }
 
-// A check of the file as a whole is of no record.
+// A check of the file as a whole is of no record. An impl by hand: it is what `?` asks for, and no derive makes it.
 impl From<Check> for Failure {
     ghost from_gives = { λ c f. f ≡ record { check = c; «record» = 0 } };
 

@@ -6,7 +6,7 @@ ghost use Rattle.logic.specs.Named.{binder_in, kind_in, kind_named, entry_in, en
 
 // ---- Terms
 
-// What binds one variable in a body.
+// What binds one variable in a body: two things by name, and nothing that may be missing.
 #[derive(Clone, Copy, Debug, PartialEq, Eq)]
 pub enum Binder {
     ForAll,
@@ -90,7 +90,7 @@ pub fn is_binder(kind: usize) -> bool
 
 // ---- Contexts
 
-// What a context does: it fixes a variable, or it replaces variables.
+// What a context does: it fixes a variable, or it replaces variables. Two things by name, as above.
 #[derive(Clone, Copy, Debug, PartialEq, Eq)]
 pub enum Entry {
     Fixes,

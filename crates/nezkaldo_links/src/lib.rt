@@ -13,7 +13,7 @@ use logic::rules::Rule;
 use premises::Taken;
 use rules::rules::step_walk;
 
-// A check, as its number from bit 32 on.
+// A check, as its number from bit 32 on. `pack` of nezkaldo has a record beside it: one for both would lie in `logic`, which knows nothing of what C is handed.
 fn told(check: Check) -> u64
     ensures { result ≡ 4294967296 * check_number check }
 {

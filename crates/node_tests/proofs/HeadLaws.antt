@@ -11,7 +11,7 @@ use Prim.Native.Nat.{ℕ, ◌+◌, ◌≤◌, ◌<◌}
 use native.Mathlib.Omega.{arith}
 use native.Mathlib.Decide.{ℕ_discrete}
 use mathlib.Core.Path.{◌≡◌, refl, sym, ap, ◌∙◌}
-use mathlib.Core.Bool.{Bool, true, false, cond, not, ◌&&◌, ◌||◌}
+use mathlib.Core.Bool.{Bool, true, false, cond, not, ◌&&◌, ◌||◌, and-false}
 use mathlib.Core.List.{List, [], ◌∷◌}
 use lib.ListN.{length, replicate, length-replicate}
 use lib.Dec.{eqb, ltb}
@@ -189,11 +189,7 @@ module _ {b : Bundle} {text first rest seen : List ℕ} (w : Fresh b text first 
     turn x is = w.same ∙ rw (part_some (bound_from b) (lexemes_of rest) part, ← is)
 
     pub fresh_zero : bound_from b (lexemes_of rest) ≡ 0 → false ≡ all
-    fresh_zero z = sym (turn 0 (sym z) ∙ none (not (member seen 0 set_words 0) && unseen later))
-      where
-        none : (p : Bool) → (p && false) ≡ false
-        none true = refl
-        none false = refl
+    fresh_zero z = sym (turn 0 (sym z) ∙ and-false (not (member seen 0 set_words 0) && unseen later))
 
     module _ {x : ℕ} (is : x ≡ bound_from b (lexemes_of rest)) (some : 1 ≤ bound_from b (lexemes_of rest)) where
       pub fresh_seen : member seen 0 set_words x ≡ true → false ≡ all

@@ -5,7 +5,7 @@
 use Prim.Native.Nat.{ℕ}
 use mathlib.Core.Path.{◌≡◌, refl, sym, ap, ◌∙◌}
 use mathlib.Core.Logic.{◌⊎◌, inl, inr}
-use mathlib.Core.Bool.{Bool, true, false, ◌&&◌}
+use mathlib.Core.Bool.{Bool, true, false, ◌&&◌, and-false}
 use mathlib.Core.List.{List, [], ◌∷◌}
 use borrow.Author.Tests.{ne_eqb}
 use Rattle.bundle.specs.Bundle.{Bundle}
@@ -82,11 +82,7 @@ module _ (b : Bundle) (text : List ℕ) where
   pub judges_not : (s : ℕ) → s ≡ sort_from b (lexemes_of text) → (s ≡ 0 → ⊥) → Judges b text false
   judges_not s e nz φ is known =
       let sort : s ≡ head_sort b φ = e ∙ (ap (sort_from b) (read_off φ is) ∙ (bracket_by_bracket b φ [] known).sort) in
-      sym (rw (← sort, ne_eqb s 0 nz) (none (fine b φ)))
-    where
-      none : (p : Bool) → (p && false) ≡ false
-      none true = refl
-      none false = refl
+      sym (rw (← sort, ne_eqb s 0 nz) (and-false (fine b φ)))
 
   pub judges : (s : ℕ) → s ≡ sort_from b (lexemes_of text) → s ≡ 0 → (r : Bool) → r ≡ fine_from b false (lexemes_of text) → Judges b text r
   unfolding fine_from

@@ -1,10 +1,9 @@
 -- Variables crossed on the way into bodies, item by item.
 --     leaves_length                as many frames more as there are pairs, at most
 --     Along                        what holds on the way along two lists
---     along_start                  before the first
 --     along_here, along_on, along_end     a pair of items, the rest, the end
 --     along_uneven                 the lists end together
-use mathlib.Core.Path.{◌≡◌, refl, ap, ◌∙◌}
+use mathlib.Core.Path.{◌≡◌, ap, ◌∙◌}
 use mathlib.Core.Bool.{true, ◌&&◌, false≢true}
 use mathlib.Core.List.{List, [], ◌∷◌}
 use Prim.Native.Nat.{ℕ, suc, ◌+◌, ◌≤◌, ◌<◌}
@@ -28,9 +27,6 @@ pub record Along (p₀ : Path) (first second : List ℕ) (p : Path) (xs ys : Lis
   pub room : length p.frames + length xs ≤ p₀.most
   pub sorts : all_sorts_meet p₀.sets.bundle xs ys ≡ true
   pub is : leaves xs ys (crossed_by p.frames) p.frames ≡ leaves first second (crossed_by p₀.frames) p₀.frames
-
-pub along_start : (p : Path) (xs ys : List ℕ) → length p.frames + length xs ≤ p.most → all_sorts_meet p.sets.bundle xs ys ≡ true → Along p xs ys p xs ys
-along_start p xs ys room sorts = record { same = refl; room = room; sorts = sorts; is = refl }
 
 module _ {p₀ p : Path} {first second xs ys : List ℕ} (along : Along p₀ first second p xs ys) where
   pub along_end : xs ≡ [] → p ≡ with_frames p₀ (leaves first second (crossed_by p₀.frames) p₀.frames)

@@ -71,9 +71,6 @@ frames_stored : (w w' : List ℕ) (h l r i j e : ℕ) → ((k : ℕ) → k < 5 *
 unfolding frames
 frames_stored w w' h l r i j e same p q s t u = ap₂ ◌∷◌ (rw (p, q, s, t, u)) (frames_same w w' h same)
 
-other : (w : List ℕ) (i k v : ℕ) → (k ≡ i → ⊥) → get_or (set w i v) k 0 ≡ get_or w k 0
-other w i k v ne = get_or-set_other w i k v 0 ne
-
 module _ (w : List ℕ) (h : ℕ) (room : 5 * h + 5 ≤ length w) where
   pub frames_pushed : (l r i j e : ℕ)
       → frames (set (set (set (set (set w (5 * h) l) (5 * h + 1) r) (5 * h + 2) i) (5 * h + 3) j) (5 * h + 4) e) (suc h) ≡ frame_of l r i j e ∷ frames w h
@@ -85,15 +82,15 @@ module _ (w : List ℕ) (h : ℕ) (room : 5 * h + 5 ≤ length w) where
       let w₄ : List ℕ = set w₃ (f + 3) j in
       let w₅ : List ℕ = set w₄ (f + 4) e in
       frames_stored w w₅ h l r i j e
-      (λ k m. other w₄ (f + 4) k e (λ z. omega arith) ∙ other w₃ (f + 3) k j (λ z. omega arith) ∙ other w₂ (f + 2) k i (λ z. omega arith)
-      ∙ other w₁ (f + 1) k r (λ z. omega arith) ∙ other w f k l (λ z. omega arith))
-      (other w₄ (f + 4) f e (λ z. omega arith) ∙ other w₃ (f + 3) f j (λ z. omega arith) ∙ other w₂ (f + 2) f i (λ z. omega arith)
-      ∙ other w₁ (f + 1) f r (λ z. omega arith) ∙ get_or-set_same w f l 0 (omega arith))
-      (other w₄ (f + 4) (f + 1) e (λ z. omega arith) ∙ other w₃ (f + 3) (f + 1) j (λ z. omega arith) ∙ other w₂ (f + 2) (f + 1) i (λ z. omega arith)
+      (λ k m. get_or-set_other w₄ (f + 4) k e 0 (λ z. omega arith) ∙ get_or-set_other w₃ (f + 3) k j 0 (λ z. omega arith) ∙ get_or-set_other w₂ (f + 2) k i 0 (λ z. omega arith)
+      ∙ get_or-set_other w₁ (f + 1) k r 0 (λ z. omega arith) ∙ get_or-set_other w f k l 0 (λ z. omega arith))
+      (get_or-set_other w₄ (f + 4) f e 0 (λ z. omega arith) ∙ get_or-set_other w₃ (f + 3) f j 0 (λ z. omega arith) ∙ get_or-set_other w₂ (f + 2) f i 0 (λ z. omega arith)
+      ∙ get_or-set_other w₁ (f + 1) f r 0 (λ z. omega arith) ∙ get_or-set_same w f l 0 (omega arith))
+      (get_or-set_other w₄ (f + 4) (f + 1) e 0 (λ z. omega arith) ∙ get_or-set_other w₃ (f + 3) (f + 1) j 0 (λ z. omega arith) ∙ get_or-set_other w₂ (f + 2) (f + 1) i 0 (λ z. omega arith)
       ∙ get_or-set_same w₁ (f + 1) r 0 (lt-length-set w f l (omega arith)))
-      (other w₄ (f + 4) (f + 2) e (λ z. omega arith) ∙ other w₃ (f + 3) (f + 2) j (λ z. omega arith)
+      (get_or-set_other w₄ (f + 4) (f + 2) e 0 (λ z. omega arith) ∙ get_or-set_other w₃ (f + 3) (f + 2) j 0 (λ z. omega arith)
       ∙ get_or-set_same w₂ (f + 2) i 0 (lt-length-set w₁ (f + 1) r (lt-length-set w f l (omega arith))))
-      (other w₄ (f + 4) (f + 3) e (λ z. omega arith)
+      (get_or-set_other w₄ (f + 4) (f + 3) e 0 (λ z. omega arith)
       ∙ get_or-set_same w₃ (f + 3) j 0 (lt-length-set w₂ (f + 2) i (lt-length-set w₁ (f + 1) r (lt-length-set w f l (omega arith)))))
       (get_or-set_same w₄ (f + 4) e 0
       (lt-length-set w₃ (f + 3) j (lt-length-set w₂ (f + 2) i (lt-length-set w₁ (f + 1) r (lt-length-set w f l (omega arith))))))
@@ -105,12 +102,12 @@ module _ (w : List ℕ) (h : ℕ) (room : 5 * h + 5 ≤ length w) where
       let w₁ : List ℕ = set w (f + 2) i in
       let w₂ : List ℕ = set w₁ (f + 3) j in
       frames_stored w w₂ h (get_or w f 0) (get_or w (f + 1) 0) i j (get_or w (f + 4) 0)
-      (λ k m. other w₁ (f + 3) k j (λ z. omega arith) ∙ other w (f + 2) k i (λ z. omega arith))
-      (other w₁ (f + 3) f j (λ z. omega arith) ∙ other w (f + 2) f i (λ z. omega arith))
-      (other w₁ (f + 3) (f + 1) j (λ z. omega arith) ∙ other w (f + 2) (f + 1) i (λ z. omega arith))
-      (other w₁ (f + 3) (f + 2) j (λ z. omega arith) ∙ get_or-set_same w (f + 2) i 0 (omega arith))
+      (λ k m. get_or-set_other w₁ (f + 3) k j 0 (λ z. omega arith) ∙ get_or-set_other w (f + 2) k i 0 (λ z. omega arith))
+      (get_or-set_other w₁ (f + 3) f j 0 (λ z. omega arith) ∙ get_or-set_other w (f + 2) f i 0 (λ z. omega arith))
+      (get_or-set_other w₁ (f + 3) (f + 1) j 0 (λ z. omega arith) ∙ get_or-set_other w (f + 2) (f + 1) i 0 (λ z. omega arith))
+      (get_or-set_other w₁ (f + 3) (f + 2) j 0 (λ z. omega arith) ∙ get_or-set_same w (f + 2) i 0 (omega arith))
       (get_or-set_same w₁ (f + 3) j 0 (lt-length-set w (f + 2) i (omega arith)))
-      (other w₁ (f + 3) (f + 4) j (λ z. omega arith) ∙ other w (f + 2) (f + 4) i (λ z. omega arith))
+      (get_or-set_other w₁ (f + 3) (f + 4) j 0 (λ z. omega arith) ∙ get_or-set_other w (f + 2) (f + 4) i 0 (λ z. omega arith))
 
 -- the frame on top, of the words that are read of it
 pub frames_top : (w : List ℕ) (h : ℕ) → frames w (suc h)

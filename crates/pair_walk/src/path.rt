@@ -96,7 +96,7 @@ impl<'s, 'a> Path<'s, 'a> {
         requires { IsPending self.old.frames }
         ensures { self.new ≡ with_frames self.old (rest self.old.frames) }
     {
-        self.height -= 1;
+        self.height -= 1; // no binder is left: `depth` stays
     }
 
     // Puts other links into the frame of a pair on top.

@@ -13,7 +13,8 @@ use mathlib.Core.List.{List, [], ◌∷◌, ◌++◌, map, map-append, append_as
 use lib.ListN.{length, get_or, take, drop, length-drop}
 use lib.Seq.{take-append_seam, drop-append_seam}
 use lib.Dec.{eqb}
-use borrow.Author.Tests.{eqb-true}
+use borrow.Author.Tests.{eqb-true, not-true}
+use Rattle.std.proofs.lemmas.List.{same_from_push}
 use Rattle.bundle.specs.Words.{largest_word}
 use Rattle.bundle.specs.Bundle.{Bundle, sort_of_variable}
 use Rattle.bundle.specs.Lists.{has, different}
@@ -21,7 +22,6 @@ use Rattle.logic.specs.Named.{binder_in}
 use Rattle.logic.specs.Symbols.{truth_sort, signature_of, result_sort}
 use Rattle.logic.specs.Terms.{Binder, Term, var, app, bind, let_in, none}
 use Rattle.logic.specs.declared.kinds.Binder.{Binder as BinderName}
-use Rattle.logic.proofs.Exactly.{not_true_exactly}
 use Rattle.logic.proofs.Tests.{list_same}
 use Rattle.scratch.specs.Stack.{half_of, halves_of}
 use Rattle.expansion.specs.Placed.{PlacedTerm}
@@ -45,7 +45,7 @@ use Rattle.pass_readings.specs.Readings.{PartsAs, PartsSoFar}
 use Rattle.pass_readings.proofs.ReadingLaws.{variable_read, symbol_read, parts_start, part_on, pair_on, PartsEnded, parts_end, under_none, under_more}
 use Rattle.pass_readings.proofs.ReadingLaws.{application_read, quantifier_read, let_read}
 use Rattle.pass_formulas.specs.PassGives.{SymbolIs, Gives, GivesUnder, GivesBound, TextRead}
-use Rattle.pass_formulas.proofs.ListLaws.{different_more, last_same}
+use Rattle.pass_formulas.proofs.ListLaws.{different_more}
 
 -- ---- what is left of a text
 
@@ -66,7 +66,7 @@ equal_on_truth n = go (eqb n 7)
 -- the pair on top, where it is known what was laid last
 module _ {p : PlacedTerm} {s : ℕ} {st st' : List ℕ} {b' : Bundle} (put : PairPut p s st b' st') {pair : ℕ} (t : OnTop st' pair) where
   top_is : (t.below ≡ st) × (pair ≡ put.laid.pair)
-  top_is = last_same t.below st pair put.laid.pair (sym t.stacked ∙ put.laid.stacked)
+  top_is = same_from_push t.below st pair put.laid.pair (sym t.stacked ∙ put.laid.stacked)
 
   top_term : half_of true pair ≡ p.term
   top_term = ap (half_of true) top_is.1 ∙ put.laid.upper
@@ -280,7 +280,7 @@ module _ (D : Bundle) where
         follows = lexemes_of t₁;
         starts = d.listed;
         known = λ z. d.some (sym is ∙ z);
-        new = ap₂ (λ (y : ℕ) (ps : List ℕ). has y (halves_of false ps)) is (sym above) ∙ (not_true_exactly (has x (halves_of false pairs))).0 new;
+        new = ap₂ (λ (y : ℕ) (ps : List ℕ). has y (halves_of false ps)) is (sym above) ∙ not-true (has x (halves_of false pairs)) new;
         term = g.term;
         sort = g.sort;
         read = rw n.closed.closed at g.read;

@@ -6,7 +6,8 @@ ghost use Rattle.logic.specs.Named.{binder_in};
 ghost use Rattle.grammar.specs.Bytes.{Word, letting};
 ghost use Rattle.grammar.specs.Grammar.{Lexeme, opens, word};
 ghost use Rattle.lexing.specs.Lexes.{lexemes_of};
-ghost use Rattle.pass_formulas.specs.PassGives.{SymbolIs, Gives, GivesUnder, GivesBound};
+ghost use Rattle.pass_formulas.specs.PassGives.{SymbolIs};
+ghost use Rattle.pass_formulas.specs.Passes.{Passes, PassesUnder, PassesBound};
 
 use bundle::Bundle;
 use filing::Filed;
@@ -18,149 +19,133 @@ use pass_terms::stack::Stack;
 use pass_tokens::{Meaning, Text};
 use scratch::pairs::half;
 
-// The formula that stands next.
-#[cycle(pass_applied_pass_bound_pass_bracketed_pass_formula_pass_let_pass_quantified)]
-pub fn pass_formula(
-    bundle: &Bundle,
-    text: &mut Text<'_>,
-    filed: &mut Filed<'_>,
-    stack: &mut Stack,
-    left: usize,
-) -> Option<()>
-    ensures { IfSome result (λ _. Gives bundle.now text.old filed.old stack.old (lexemes_of text.old) text.new filed.new stack.new) }
-{
-    if text.first() == b'(' {
-        text.skip();
-        return pass_bracketed(bundle, text, filed, stack, left);
-    }
-    let meaning = word_in(bundle, text)?;
-    place_alone(bundle, filed, stack, meaning)
+// What the cycle hands on: the declarations, what is left of the text, and the terms that wait for the formula that they are parts of. The records are
+// no part of it: tried, and the proof did not close, as the borrow checker does not cover the call of `formula` in `pass_text` then.
+#[derive(Drop)]
+pub struct Pass<'p, 'b, 't> {
+    pub bundle: &'p Bundle<'b>,
+    pub text: Text<'t>,
+    pub stack: Stack,
 }
 
-// The formula whose opening bracket has been read.
-#[cycle(pass_applied_pass_bound_pass_bracketed_pass_formula_pass_let_pass_quantified)]
-fn pass_bracketed(
-    bundle: &Bundle,
-    text: &mut Text<'_>,
-    filed: &mut Filed<'_>,
-    stack: &mut Stack,
-    left: usize,
-) -> Option<()>
-    ensures { IfSome result (λ _. Gives bundle.now text.old filed.old stack.old (opens ∷ lexemes_of text.old) text.new filed.new stack.new) }
-{
-    if left == 0 {
-        return None;
+impl<'p, 'b, 't> Pass<'p, 'b, 't> {
+    // The formula that stands next.
+    #[cycle(pass)]
+    pub fn formula(&mut self, filed: &mut Filed<'_>, left: usize) -> Option<()>
+        ensures same { self.new.bundle.now ≡ self.old.bundle.now }
+        ensures gives { IfSome result (λ _. Passes self.old filed.old (lexemes_of self.old.text) self.new filed.new) }
+    {
+        if self.text.first() == b'(' {
+            self.text.skip();
+            return self.bracketed(filed, left);
+        }
+        let meaning = word_in(self.bundle, &mut self.text)?;
+        place_alone(self.bundle, filed, &mut self.stack, meaning)
     }
-    match head_in(bundle, text)? {
-        Meaning::Symbol(f) => pass_applied(bundle, text, filed, stack, left - 1, f),
-        Meaning::Binder(q) => pass_quantified(bundle, text, filed, stack, left, q),
-        Meaning::Let => pass_let(bundle, text, filed, stack, left - 1),
-        Meaning::Variable(_) | Meaning::Sort(_) => None,
-    }
-}
 
-// The arguments of a symbol, up to their closing bracket.
-#[cycle(pass_applied_pass_bound_pass_bracketed_pass_formula_pass_let_pass_quantified)]
-fn pass_applied(
-    bundle: &Bundle,
-    text: &mut Text<'_>,
-    filed: &mut Filed<'_>,
-    stack: &mut Stack,
-    left: usize,
-    symbol: usize,
-) -> Option<()>
-    requires { symbol ≤ largest_word }
-    ensures { (w : Word) → SymbolIs bundle.now w symbol
-        → IfSome result (λ _. Gives bundle.now text.old filed.old stack.old (opens ∷ word w ∷ lexemes_of text.old) text.new filed.new stack.new) }
-{
-    let height = stack.height();
-    text.skip_blanks();
-    // No `for`: a turn reads a formula and goes on behind it.
-    while text.first() != b')' {
-        pass_formula(bundle, text, filed, stack, left)?;
-        text.skip_blanks();
+    // The formula whose opening bracket has been read.
+    #[cycle(pass)]
+    fn bracketed(&mut self, filed: &mut Filed<'_>, left: usize) -> Option<()>
+        ensures same { self.new.bundle.now ≡ self.old.bundle.now }
+        ensures gives { IfSome result (λ _. Passes self.old filed.old (opens ∷ lexemes_of self.old.text) self.new filed.new) }
+    {
+        if left == 0 {
+            return None;
+        }
+        match head_in(self.bundle, &mut self.text)? {
+            Meaning::Symbol(f) => self.applied(filed, left - 1, f),
+            Meaning::Binder(q) => self.quantified(filed, left, q),
+            Meaning::Let => self.local(filed, left - 1),
+            Meaning::Variable(_) | Meaning::Sort(_) => None,
+        }
     }
-    text.skip();
-    let arguments = stack.above(height);
-    if arguments.len() == 0 {
-        return None;
-    }
-    let first = half(arguments[0], false);
-    if first > 1 {
-        return None;
-    }
-    apply(bundle, filed, stack, equal_on(symbol, first), height)
-}
 
-// The variables of a quantifier, its body and its closing bracket.
-#[cycle(pass_applied_pass_bound_pass_bracketed_pass_formula_pass_let_pass_quantified)]
-fn pass_quantified(
-    bundle: &Bundle,
-    text: &mut Text<'_>,
-    filed: &mut Filed<'_>,
-    stack: &mut Stack,
-    left: usize,
-    q: Binder,
-) -> Option<()>
-    ensures { IfSome result (λ _. GivesUnder bundle.now text.old filed.old stack.old (binder_in q) text.new filed.new stack.new) }
-{
-    text.skip_blanks();
-    if text.first() == b')' {
-        text.skip();
-        text.skip_blanks();
-        pass_formula(bundle, text, filed, stack, left)?;
-        return closed_truth(text, stack);
+    // The arguments of a symbol, up to their closing bracket.
+    #[cycle(pass)]
+    fn applied(&mut self, filed: &mut Filed<'_>, left: usize, symbol: usize) -> Option<()>
+        requires { symbol ≤ largest_word }
+        ensures same { self.new.bundle.now ≡ self.old.bundle.now }
+        ensures gives { (w : Word) → SymbolIs self.old.bundle.now w symbol
+            → IfSome result (λ _. Passes self.old filed.old (opens ∷ word w ∷ lexemes_of self.old.text) self.new filed.new) }
+    {
+        let height = self.stack.height();
+        self.text.skip_blanks();
+        // No `for`: a turn reads a formula and goes on behind it.
+        while self.text.first() != b')' {
+            self.formula(filed, left)?;
+            self.text.skip_blanks();
+        }
+        self.text.skip();
+        let arguments = self.stack.above(height);
+        if arguments.len() == 0 {
+            return None;
+        }
+        let first = half(arguments[0], false);
+        if first > 1 {
+            return None;
+        }
+        apply(
+            self.bundle,
+            filed,
+            &mut self.stack,
+            equal_on(symbol, first),
+            height,
+        )
     }
-    if left == 0 {
-        return None;
-    }
-    let x = sorted_in(bundle, text)?;
-    pass_quantified(bundle, text, filed, stack, left - 1, q)?;
-    place_bound(filed, stack, q, x)
-}
 
-// A pair of a let, whose variable is not among those of the pairs above a height.
-#[cycle(pass_applied_pass_bound_pass_bracketed_pass_formula_pass_let_pass_quantified)]
-fn pass_bound(
-    bundle: &Bundle,
-    text: &mut Text<'_>,
-    filed: &mut Filed<'_>,
-    stack: &mut Stack,
-    height: usize,
-    left: usize,
-) -> Option<()>
-    requires { height ≤ length stack.old }
-    ensures { IfSome result (λ _. GivesBound bundle.now text.old filed.old stack.old height text.new filed.new stack.new) }
-{
-    let x = bound_in(bundle, text)?;
-    if !is_new(stack.above(height), x) {
-        return None;
+    // The variables of a quantifier, its body and its closing bracket.
+    #[cycle(pass)]
+    fn quantified(&mut self, filed: &mut Filed<'_>, left: usize, q: Binder) -> Option<()>
+        ensures same { self.new.bundle.now ≡ self.old.bundle.now }
+        ensures gives { IfSome result (λ _. PassesUnder self.old filed.old (binder_in q) self.new filed.new) }
+    {
+        self.text.skip_blanks();
+        if self.text.first() == b')' {
+            self.text.skip();
+            self.text.skip_blanks();
+            self.formula(filed, left)?;
+            return closed_truth(&mut self.text, &self.stack);
+        }
+        if left == 0 {
+            return None;
+        }
+        let x = sorted_in(self.bundle, &mut self.text)?;
+        self.quantified(filed, left - 1, q)?;
+        place_bound(filed, &mut self.stack, q, x)
     }
-    pass_formula(bundle, text, filed, stack, left)?;
-    name_pair(bundle, text, stack, x)
-}
 
-// The pairs of a let, its body and its closing bracket.
-#[cycle(pass_applied_pass_bound_pass_bracketed_pass_formula_pass_let_pass_quantified)]
-fn pass_let(
-    bundle: &Bundle,
-    text: &mut Text<'_>,
-    filed: &mut Filed<'_>,
-    stack: &mut Stack,
-    left: usize,
-) -> Option<()>
-    ensures { (ls : List Lexeme) → lexemes_of text.old ≡ opens ∷ ls
-        → IfSome result (λ _. Gives bundle.now text.old filed.old stack.old (opens ∷ word letting ∷ opens ∷ lexemes_of text.old) text.new filed.new stack.new) }
-{
-    let height = stack.height();
-    text.skip_blanks();
-    // No `for`: a turn reads a pair and goes on behind it.
-    while text.first() != b')' {
-        pass_bound(bundle, text, filed, stack, height, left)?;
-        text.skip_blanks();
+    // A pair of a let, whose variable is not among those of the pairs above a height.
+    #[cycle(pass)]
+    fn bound(&mut self, filed: &mut Filed<'_>, height: usize, left: usize) -> Option<()>
+        requires { height ≤ length self.old.stack }
+        ensures same { self.new.bundle.now ≡ self.old.bundle.now }
+        ensures gives { IfSome result (λ _. PassesBound self.old filed.old height self.new filed.new) }
+    {
+        let x = bound_in(self.bundle, &mut self.text)?;
+        if !is_new(self.stack.above(height), x) {
+            return None;
+        }
+        self.formula(filed, left)?;
+        name_pair(self.bundle, &mut self.text, &mut self.stack, x)
     }
-    text.skip();
-    text.skip_blanks();
-    pass_formula(bundle, text, filed, stack, left)?;
-    place_named(text, filed, stack, height)
+
+    // The pairs of a let, its body and its closing bracket.
+    #[cycle(pass)]
+    fn local(&mut self, filed: &mut Filed<'_>, left: usize) -> Option<()>
+        ensures same { self.new.bundle.now ≡ self.old.bundle.now }
+        ensures gives { (ls : List Lexeme) → lexemes_of self.old.text ≡ opens ∷ ls
+            → IfSome result (λ _. Passes self.old filed.old (opens ∷ word letting ∷ opens ∷ lexemes_of self.old.text) self.new filed.new) }
+    {
+        let height = self.stack.height();
+        self.text.skip_blanks();
+        // No `for`: a turn reads a pair and goes on behind it.
+        while self.text.first() != b')' {
+            self.bound(filed, height, left)?;
+            self.text.skip_blanks();
+        }
+        self.text.skip();
+        self.text.skip_blanks();
+        self.formula(filed, left)?;
+        place_named(&mut self.text, filed, &mut self.stack, height)
+    }
 }

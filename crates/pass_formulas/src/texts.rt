@@ -2,7 +2,7 @@
 ghost use Rattle.std.specs.Prelude.{IfSome};
 ghost use Rattle.pass_formulas.specs.PassGives.{TextRead};
 
-use super::one_pass::pass_formula;
+use super::one_pass::Pass;
 use bundle::Bundle;
 use filing::Filed;
 use pass_terms::stack::Stack;
@@ -14,14 +14,18 @@ pub fn pass_text(bundle: &Bundle, text: &[u8], filed: &mut Filed<'_>) -> Option<
     ensures { IfSome result (TextRead bundle.now text.now filed.old filed.new) }
 {
     let mut rest = Text::of(text);
-    let mut stack = Stack::empty();
     rest.skip_blanks();
-    pass_formula(bundle, &mut rest, filed, &mut stack, Bundle::TERMS)?;
-    rest.skip_blanks();
-    if !rest.is_empty() {
+    let mut pass = Pass {
+        bundle,
+        text: rest,
+        stack: Stack::empty(),
+    };
+    pass.formula(filed, Bundle::TERMS)?;
+    pass.text.skip_blanks();
+    if !pass.text.is_empty() {
         return None;
     }
-    let formula = stack.top()?;
+    let formula = pass.stack.top()?;
     if half(formula, false) != 0 {
         return None;
     }

@@ -11,11 +11,12 @@ use mathlib.Core.List.{List, [], ◌∷◌, ◌++◌, map, append_assoc, append-
 use lib.ListN.{length}
 use lib.Dec.{eqb, leb, ltb}
 use borrow.Author.Tests.{eqb-true, eq-eqb, ne_eqb, lt-ltb}
+use Rattle.std.proofs.lemmas.Bool.{and_from, or_left, or_right}
 use Rattle.bundle.specs.Bundle.{Bundle, sort_of_variable}
 use Rattle.bundle.specs.Lists.{same_list, different, numbers}
 use Rattle.logic.specs.Terms.{Binder, Term, Terms, var, app, bind, let_in, none, more}
 use Rattle.logic.specs.Symbols.{truth_sort, signature_of, signature, kind_of_symbol, symbol_kind, argument_sorts, result_sort}
-use Rattle.logic.proofs.Tests.{and_left, and_right, and_both, or_left, or_right, same_list_lem}
+use Rattle.logic.proofs.Tests.{and_left, and_right, same_list_lem}
 use Rattle.grammar.specs.Bytes.{SortWord, Connective, conjunction, disjunction, implication, equality, Word, constant, negation, connective, quantifier}
 use Rattle.grammar.specs.Bytes.{letting, sort, name}
 use Rattle.grammar.specs.Grammar.{SortedVariable, declares, Formula, called, truth, bracketed, denies, connects, applies, quantifies, lets}
@@ -35,10 +36,6 @@ use Rattle.formulas.proofs.PartTerms.{constant_sort}
 use Rattle.pass_readings.specs.Spelled.{Known, part_names}
 use Rattle.pass_readings.specs.Readings.{parts_fine, part_sort, ReadAs, PartsAs, UnderAs, AllParts, PartsSoFar}
 
-some_ltb : (n : ℕ) → (n ≡ 0 → ⊥) → ltb 0 n ≡ true
-some_ltb zero h = absurd (h refl)
-some_ltb (suc n) h = lt-ltb 0 (suc n) (omega arith)
-
 opens_closes : {ls ks : List Lexeme} → opens ∷ ls ≡ closes ∷ ks → ⊥
 opens_closes e = let z : ◌≡◌ {A = ℕ} 0 1 = cc in omega arith
 
@@ -49,11 +46,11 @@ module _ (D : Bundle) where
 
   variable_known : (w : List ℕ) → (variable_called D w ≡ 0 → ⊥) → known_in D (record { place = variableOnly; spelled = w }) ≡ true
   unfolding known_in known_as
-  variable_known w h = some_ltb (variable_called D w) h
+  variable_known w h = lt-ltb 0 (variable_called D w) (omega arith)
 
   symbol_known : (w : List ℕ) → (symbol_called D w ≡ 0 → ⊥) → known_in D (record { place = symbolOnly; spelled = w }) ≡ true
   unfolding known_in known_as
-  symbol_known w h = some_ltb (symbol_called D w) h
+  symbol_known w h = lt-ltb 0 (symbol_called D w) (omega arith)
 
   -- ---- a word alone
 
@@ -80,7 +77,7 @@ module _ (D : Bundle) where
       formula = called w;
       spells = refl;
       known = λ ns k. known_more (record { place = either; spelled = w }) ns
-          (or_left (ltb 0 (variable_called D w)) (ltb 0 (symbol_called D w)) (some_ltb (variable_called D w) (λ z. ne (sym e ∙ z)))) k;
+          (or_left (ltb 0 (variable_called D w)) (ltb 0 (symbol_called D w)) (lt-ltb 0 (variable_called D w) (omega arith))) k;
     };
     sorted = ap (λ (v : ℕ). alone_fine D v (symbol_called D w)) e ∙ alone_fine_lem x (symbol_called D w) ne;
     term = ap (λ (v : ℕ). alone_term v (symbol_called D w)) e ∙ alone_term_lem x (symbol_called D w) ne;
@@ -112,7 +109,7 @@ module _ (D : Bundle) where
           formula = called w;
           spells = refl;
           known = λ ns k. known_more (record { place = either; spelled = w }) ns
-              (or_right (ltb 0 (variable_called D w)) (ltb 0 (symbol_called D w)) (some_ltb (symbol_called D w) (λ n. ne (sym e ∙ n)))) k;
+              (or_right (ltb 0 (variable_called D w)) (ltb 0 (symbol_called D w)) (lt-ltb 0 (symbol_called D w) (omega arith))) k;
         };
         sorted = ap₂ (alone_fine D) z e ∙ takes;
         term = ap₂ alone_term z e;
@@ -162,7 +159,7 @@ module _ (D : Bundle) where
         spells = r.spelled.spells ∙ ap (spell r.spelled.formula) p.spelled.spells;
         known = λ ns k. r.spelled.known (part_names false p.spelled.parts ns) (p.spelled.known ns k);
       };
-      sorted = and_both (fine D r.spelled.formula) (parts_fine D p.spelled.parts) r.sorted p.sorted;
+      sorted = and_from (fine D r.spelled.formula) (parts_fine D p.spelled.parts) r.sorted p.sorted;
       terms = ap₂ more r.term p.terms;
       sorts = ap₂ ◌∷◌ r.sort p.sorts;
       variables = ap (λ (l : List ℕ). 0 ∷ l) p.variables;
@@ -182,7 +179,7 @@ module _ (D : Bundle) where
             known = λ ns k. known_more (record { place = variableOnly; spelled = w }) (names φ (part_names true ps ns)) (variable_known w h)
                 (r.spelled.known (part_names true ps ns) (p.spelled.known ns k));
           };
-          sorted = and_both (fine D φ) (parts_fine D ps) r.sorted p.sorted;
+          sorted = and_from (fine D φ) (parts_fine D ps) r.sorted p.sorted;
           terms = ap₂ more r.term p.terms;
           sorts = ap₂ ◌∷◌ r.sort p.sorts;
           variables = ap (λ (l : List ℕ). variable_called D w ∷ l) p.variables;
@@ -266,7 +263,7 @@ module _ (D : Bundle) where
               (variable_known w (λ z. ne (sym e ∙ z))) (u.spelled.known ns k);
         };
         sorted = u.sorted;
-        declares = and_both (eqb (sort_of_variable D (variable_called D w)) (sort_number o)) (sorts_declared D xs)
+        declares = and_from (eqb (sort_of_variable D (variable_called D w)) (sort_number o)) (sorts_declared D xs)
             (eq-eqb (sort_of_variable D (variable_called D w)) (sort_number o) (ap (sort_of_variable D) e ∙ sorted)) u.declares;
         truth = u.truth;
         term = ap₂ (bind q) e u.term;
@@ -389,9 +386,9 @@ module _ (D : Bundle) where
                 (symbol_known w (λ z. ne (sym e ∙ z)))
                 (subst (λ (l : List Name). Known D (names φ l)) (φs.named ns) (h.known ns k));
           };
-          sorted = and_both (fine D φ) (fine_all D (formulas_of ps) && test)
+          sorted = and_from (fine D φ) (fine_all D (formulas_of ps) && test)
               (and_left (fine D φ) (parts_fine D ps) h.sorted)
-              (and_both (fine_all D (formulas_of ps)) test
+              (and_from (fine_all D (formulas_of ps)) test
               (φs.sorted ∙ and_right (fine D φ) (parts_fine D ps) h.sorted)
               (taken (symbol_called D w) os e
               (ap (λ (l : List ℕ). head_sort D φ ∷ l) φs.sorts ∙ h.sorts)));
@@ -412,7 +409,7 @@ module _ (D : Bundle) where
         spells = ap (λ (l : List Lexeme). opens ∷ word negation ∷ l) h.spells;
         known = h.known;
       };
-      sorted = and_both (fine D p.formula) (accepts D 3 (head_sort D p.formula ∷ [])) (and_left (fine D p.formula) true h.sorted)
+      sorted = and_from (fine D p.formula) (accepts D 3 (head_sort D p.formula ∷ [])) (and_left (fine D p.formula) true h.sorted)
           (taken 3 (head_sort D p.formula ∷ []) e h.sorts);
       term = ap₂ app e h.terms;
       sort = ap (λ (g : ℕ). result_sort D (signature_of D g)) e;
@@ -440,9 +437,9 @@ module _ (D : Bundle) where
             spells = ap (λ (l : List Lexeme). opens ∷ word (connective c) ∷ l) h.spells;
             known = h.known;
           };
-          sorted = and_both (fine D φ) (fine D ψ && test)
+          sorted = and_from (fine D φ) (fine D ψ && test)
               (and_left (fine D φ) (fine D ψ && true) h.sorted)
-              (and_both (fine D ψ) test (and_left (fine D ψ) true later)
+              (and_from (fine D ψ) test (and_left (fine D ψ) true later)
               (taken (connective_symbol c (head_sort D φ)) os same h.sorts));
           term = ap₂ app same h.terms;
           sort = ap (λ (g : ℕ). result_sort D (signature_of D g)) same;
@@ -494,8 +491,8 @@ module _ (D : Bundle) where
               spells = ap (λ (l : List Lexeme). opens ∷ word (quantifier q) ∷ opens ∷ l) e;
               known = k;
             };
-            sorted = and_both (fine D φ) (sorts_declared D (x ∷ xs) && test) u.sorted
-                (and_both (sorts_declared D (x ∷ xs)) test d (eq-eqb (head_sort D φ) truth_sort u.truth));
+            sorted = and_from (fine D φ) (sorts_declared D (x ∷ xs) && test) u.sorted
+                (and_from (sorts_declared D (x ∷ xs)) test d (eq-eqb (head_sort D φ) truth_sort u.truth));
             term = t;
             sort = refl;
           }
@@ -526,12 +523,12 @@ module _ (D : Bundle) where
               known = λ l k. subst (λ (l : List Name). Known D (record { place = variableOnly; spelled = x.called } ∷ names φ l))
                   (xs.named (names ψ l)) (h.known (names ψ l) (r.spelled.known l k));
             };
-            sorted = and_both (fine D φ) (fine_bound D (bindings ps) && (fine D ψ && (different ns && agreeing)))
+            sorted = and_from (fine D φ) (fine_bound D (bindings ps) && (fine D ψ && (different ns && agreeing)))
                 (and_left (fine D φ) (parts_fine D ps) h.sorted)
-                (and_both (fine_bound D (bindings ps)) (fine D ψ && (different ns && agreeing))
+                (and_from (fine_bound D (bindings ps)) (fine D ψ && (different ns && agreeing))
                 (xs.sorted ∙ and_right (fine D φ) (parts_fine D ps) h.sorted)
-                (and_both (fine D ψ) (different ns && agreeing) r.sorted
-                (and_both (different ns) agreeing (ap different named ∙ distinct)
+                (and_from (fine D ψ) (different ns && agreeing) r.sorted
+                (and_from (different ns) agreeing (ap different named ∙ distinct)
                 (ap₂ (λ (a b : List ℕ). same_list (map (sort_of_variable D) a) b) named sorts ∙ agree))));
             term = ap (λ (l : List ℕ). let_in l (more (plain D φ) (plain_bound D (bindings ps))) (plain D ψ)) named
                 ∙ ap₂ (let_in vs) (ap (more (plain D φ)) xs.terms ∙ h.terms) r.term;

@@ -10,7 +10,7 @@ use logic::Signature;
 use scratch::lists::same_halves;
 use scratch::pairs::half;
 
-// 8 for equality where its first argument is an item.
+// 8 for equality where its first argument is an item. Numbers, as records have them: the symbol is placed as it is.
 pub fn equal_on(symbol: usize, sort: usize) -> usize
     ensures { result ≡ equal_on symbol sort }
 {
@@ -21,7 +21,7 @@ pub fn equal_on(symbol: usize, sort: usize) -> usize
     }
 }
 
-// Whether there are so many pairs, each with the same sort below.
+// Whether there are so many pairs, each with the same sort below. The count is no length of a slice: it is what is asked.
 fn all_of_sort(pairs: &[u64], count: usize, sort: usize) -> bool
     ensures { result ≡ same_list (replicate count sort) (halves_of false pairs.now) }
 {

@@ -9,8 +9,9 @@ use mathlib.Core.List.{List, [], ◌∷◌, ◌++◌}
 use lib.ListN.{length, get_or, take, drop}
 use lib.Dec.{eqb}
 use borrow.Author.Tests.{eqb-true, eqb-false, ne_eqb, le-leb}
+use Rattle.std.proofs.lemmas.Bool.{and_from}
 use Rattle.bundle.specs.Lists.{each}
-use Rattle.logic.proofs.Tests.{and_left, and_right, and_both}
+use Rattle.logic.proofs.Tests.{and_left, and_right}
 use Rattle.reading.specs.Called.{decimal, is_digit, is_numeral}
 use Rattle.lexing.specs.Lexes.{part}
 use Rattle.lexing.proofs.SkipLaws.{part_more}
@@ -29,13 +30,13 @@ decimal_one c n z = rw z
 each_more : (p : ℕ → Bool) (w : List ℕ) (c : ℕ) → each p w ≡ true → p c ≡ true → each p (w ++ (c ∷ [])) ≡ true
 unfolding each
 each_more p [] c h e = rw e
-each_more p (d ∷ w) c h e = and_both (p d) (each p (w ++ (c ∷ []))) (and_left (p d) (each p w) h) (each_more p w c (and_right (p d) (each p w) h) e)
+each_more p (d ∷ w) c h e = and_from (p d) (each p (w ++ (c ∷ []))) (and_left (p d) (each p w) h) (each_more p w c (and_right (p d) (each p w) h) e)
 
 numeral_more : (w : List ℕ) (c : ℕ) → is_numeral w ≡ true → is_digit c ≡ true → is_numeral (w ++ (c ∷ [])) ≡ true
 unfolding is_numeral
 numeral_more [] c h e = absurd (false≢true h)
 numeral_more (d ∷ w) c h e =
-    and_both (not (eqb d 48)) (each is_digit (d ∷ w ++ (c ∷ []))) (and_left (not (eqb d 48)) (each is_digit (d ∷ w)) h)
+    and_from (not (eqb d 48)) (each is_digit (d ∷ w ++ (c ∷ []))) (and_left (not (eqb d 48)) (each is_digit (d ∷ w)) h)
     (each_more is_digit (d ∷ w) c (and_right (not (eqb d 48)) (each is_digit (d ∷ w)) h) e)
 
 numeral_one : (c : ℕ) → (c ≡ 48 → ⊥) → is_digit c ≡ true → is_numeral (c ∷ []) ≡ true

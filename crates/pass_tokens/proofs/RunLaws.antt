@@ -14,12 +14,12 @@ use lib.ListN.{length, get_or, drop, take-append-drop}
 use lib.Seq.{drop-cons, drop-drop}
 use lib.Dec.{eqb, ltb}
 use borrow.Author.Tests.{eqb-true, eqb-false, lt-ltb, le-ltb, ltb-true, ltb-false, not-true}
+use Rattle.std.proofs.lemmas.Bool.{or_cases, or_parts}
 use Rattle.bundle.specs.Lists.{each}
 use Rattle.logic.specs.Tests.{up_to}
-use Rattle.logic.proofs.Tests.{up_to_lem, or_cases, and_left, and_right}
+use Rattle.logic.proofs.Tests.{up_to_lem, and_left, and_right}
 use Rattle.grammar.specs.Bytes.{Class, symbol, class_of, word_of}
 use Rattle.grammar.specs.Grammar.{word, between, within, bracket, ends, outside, onwards, last, lexemes_from}
-use Rattle.grammar.proofs.Words.{or_false}
 use Rattle.lexing.specs.Codes.{class_code}
 use Rattle.lexing.specs.Lexes.{part, lexemes_at}
 use Rattle.lexing.proofs.ClassLaws.{class_small, is_class}
@@ -76,8 +76,8 @@ ends_run n l e = go (ltb n 5) refl
     go : (b : Bool) → ltb n 5 ≡ b → (n < 5) ⊎ (n ≡ 7)
     go true t = inl (ltb-true n 5 t)
     go false t =
-        let a = eqb-false n 5 (or_false (eqb n 5) (eqb n 6) e).0 in
-        let b = eqb-false n 6 (or_false (eqb n 5) (eqb n 6) e).1 in
+        let a = eqb-false n 5 (or_parts (eqb n 5) (eqb n 6) e).0 in
+        let b = eqb-false n 6 (or_parts (eqb n 5) (eqb n 6) e).1 in
         inr (omega (arith, ltb-false n 5 t))
 
 module _ (text : List ℕ) (j : ℕ) where

@@ -13,11 +13,12 @@ use lib.Dec.{eqb, leb}
 use borrow.Author.Tests.{leb-true, le-leb, ne_eqb}
 use Rattle.std.specs.Prelude.{Option}
 use Rattle.std.proofs.lemmas.Option.{IfSome_then}
+use Rattle.std.proofs.lemmas.Bool.{and_from}
 use Rattle.bundle.specs.Limits.{limits}
 use Rattle.bundle.specs.Lists.{each, same_list}
 use Rattle.logic.specs.Tests.{up_to}
 use Rattle.logic.specs.declared.kinds.Binder.TheVariants.{ForAll, Exists}
-use Rattle.logic.proofs.Tests.{up_to_lem, and_left, and_right, and_both}
+use Rattle.logic.proofs.Tests.{up_to_lem, and_left, and_right}
 use Rattle.grammar.specs.Bytes.{Word, conjunction, disjunction, implication, equality, constant, negation, connective}
 use Rattle.grammar.specs.Bytes.{name, bytes, class_of, twelve, word_of}
 use Rattle.grammar.specs.Grammar.{word}
@@ -135,7 +136,7 @@ digits_go : (ds : List ℕ) → each is_digit ds ≡ true → each goes_on ds �
 unfolding each
 digits_go [] h = refl
 digits_go (d ∷ ds) h =
-    and_both (goes_on d) (each goes_on ds) (digit_goes d (and_left (is_digit d) (each is_digit ds) h)) (digits_go ds (and_right (is_digit d) (each is_digit ds) h))
+    and_from (goes_on d) (each goes_on ds) (digit_goes d (and_left (is_digit d) (each is_digit ds) h)) (digits_go ds (and_right (is_digit d) (each is_digit ds) h))
 
 numeral_digits : (ds : List ℕ) → is_numeral ds ≡ true → each is_digit ds ≡ true
 unfolding is_numeral
@@ -151,7 +152,7 @@ module _ (text : List ℕ) (s high : ℕ) (n : Digits) (h : DigitsTo text (s + 1
   named c e k =
       let w = c ∷ part text (s + 1) n.end in
       let r : is_run w ≡ true =
-      and_both (eqb (class_code (class_of c)) 6) (each goes_on (part text (s + 1) n.end)) k
+      and_from (eqb (class_code (class_of c)) 6) (each goes_on (part text (s + 1) n.end)) k
       (digits_go (part text (s + 1) n.end) (numeral_digits (part text (s + 1) n.end) h.numeral)) in
       run_stands text s n.end w (omega (arith, h.after)) h.inside (spelt ∙ ap (λ c. c ∷ part text (s + 1) n.end) e) r stop
       ∙ ap (λ m. word m ∷ lexemes_at text n.end) (numeral_name w h.numeral)

@@ -4,7 +4,7 @@ ghost use Rattle.pass_tokens.specs.Tokens.{LineEnd, Blanks, Opened, Closed};
 
 use super::Text;
 
-// Byte i; 0 past the text's end: it is compared with brackets, and 0 is none.
+// Byte i; 0 past the text's end: it is compared with brackets, and 0 is none. By its place, which may be any.
 pub fn byte_at(text: &[u8], i: usize) -> u8
     ensures { result ≡ get_or text.now i 0 }
 {

@@ -82,7 +82,8 @@ fn numeral(text: &[u8], from: usize, high: usize) -> Option<Digits>
     Some(Digits { value, end })
 }
 
-// Whether a word stands at byte `start`, where its first byte does, and the run ends with it.
+// Whether a word stands at byte `start`, where its first byte does, and the run ends with it. Not by `starts_with`, which was tried: a text took 3.4 % more
+// instructions.
 fn word_stands(text: &[u8], start: usize, spelled: &[u8]) -> bool
     requires { (start < length text.now) × (0 < length spelled.now) × (get_or text.now start 0 ≡ get_or spelled.now 0 0) }
     ensures { result ≡ true → WordStands text.now start spelled.now }
@@ -180,7 +181,7 @@ fn word_at(text: &[u8], symbols: usize, variables: usize, start: usize) -> Optio
 }
 
 impl<'a> Text<'a> {
-    // The word that stands next, where so many symbols and variables are declared.
+    // The word that stands next, where so many symbols and variables are declared: a bundle's two counts, for which a struct would be made at each call.
     pub fn word(&mut self, symbols: usize, variables: usize) -> Option<Meaning>
         requires { (symbols ≤ limits.symbols) × (variables ≤ limits.variables) }
         ensures { IfSome result (WordTo symbols variables self.old self.new) }

@@ -1,5 +1,4 @@
 -- Terms placed, by the lookup and the appends.
---     list_length                                how many links there are with a list appended
 --     found_is, plain_is                         a term that the lookup found; one with no list that it did not find
 --     plain_filed, application_filed, let_filed     the digests of new terms
 --     list_word                                  where a list starts: a word
@@ -7,7 +6,7 @@
 use mathlib.Core.Path.{◌≡◌, refl, sym, ap, subst, ◌∙◌}
 use mathlib.Core.Bool.{Bool}
 use mathlib.Core.List.{List, [], ◌∷◌}
-use Prim.Native.Nat.{ℕ, zero, suc, ◌+◌, ◌≤◌}
+use Prim.Native.Nat.{ℕ, zero, suc, ◌≤◌}
 use native.Mathlib.Omega.{arith}
 use lib.ListN.{length, length-append}
 use Rattle.std.specs.Prelude.{Option, Some, None}
@@ -17,8 +16,8 @@ use Rattle.bundle.specs.File.{own_counts}
 use Rattle.bundle.specs.Limits.{Within}
 use Rattle.logic.specs.Terms.{Binder, binder, number_of}
 use Rattle.logic.specs.Lookup.{seek, same_variable, same_application, same_binder, same_let}
-use Rattle.logic.specs.Longer.{with_variables, with_terms, consecutive, add_list, list_start}
-use Rattle.logic.proofs.Longer.{consecutive_length}
+use Rattle.logic.specs.Longer.{with_variables, with_terms, add_list, list_start}
+use Rattle.logic.proofs.Longer.{list_length}
 use Rattle.scratch.proofs.Pushed.{add_none}
 use Rattle.filing.specs.Filing.{mix_all, root_digest, let_digest, Digested, found}
 use Rattle.filing.proofs.Seeks.{seek_le}
@@ -27,12 +26,6 @@ use Rattle.expansion.specs.Placed.{placed, place_variable, place_application, pl
 use Rattle.expansion.specs.Visit.{fresh, new_variable}
 use Rattle.placing.specs.Outcomes.{PlaceOutcome, AddOutcome}
 use Rattle.placing.proofs.OutcomeFacts.{Done, outcome_done}
-
--- how many links there are with a list appended
-pub list_length : (b : Bundle) (vs : List ℕ) → length (add_list b vs).links ≡ length b.links + length vs
-list_length b vs =
-    length-append b.links (consecutive (suc (length b.links)) vs)
-    ∙ ap (λ (n : ℕ). length b.links + n) (consecutive_length (suc (length b.links)) vs)
 
 -- ---- what the lookup found
 

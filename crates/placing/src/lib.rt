@@ -177,7 +177,7 @@ pub fn place_application(filed: &mut Filed<'_>, symbol: usize, arguments: &[u64]
 {
     let root = root_digest(Kind::Application.number(), symbol);
     let d = mixed_halves(root, arguments, true);
-    if let Some(t) = filed.find_application(d, symbol, arguments) {
+    if let Some(t) = filed.view().find_application(d, symbol, arguments) {
         return keep(filed, t);
     }
     add_listed_term(filed, Kind::Application, symbol, arguments, 0, d)
@@ -190,7 +190,7 @@ pub fn place_variable(filed: &mut Filed<'_>, y: usize) -> Option<usize>
 {
     let kind = Kind::Variable.number();
     let d = root_digest(kind, y);
-    let known = filed.find_variable(d, y);
+    let known = filed.view().find_variable(d, y);
     place_plain(
         filed,
         known,
@@ -209,7 +209,7 @@ pub fn place_fresh(filed: &mut Filed<'_>, x: usize) -> Option<usize>
     ensures { PlaceOutcome (fresh filed.old x) filed.new result }
 {
     let scratch = filed.scratch();
-    let sort = scratch.variable_sort(x);
+    let sort = scratch.view().variable_sort(x);
     let counts = scratch.counts();
     if counts.variables >= Bundle::VARIABLES {
         return None;
@@ -225,7 +225,7 @@ pub fn place_binder(filed: &mut Filed<'_>, q: Binder, y: usize, body: usize) -> 
 {
     let kind = q.number();
     let d = root_digest(kind, y);
-    let known = filed.find_binder(d, kind, y, body);
+    let known = filed.view().find_binder(d, kind, y, body);
     place_plain(
         filed,
         known,
@@ -245,7 +245,7 @@ pub fn place_let(filed: &mut Filed<'_>, body: usize, pairs: &[u64]) -> Option<us
     ensures { PlaceOutcome (place_let filed.old (halves_of false pairs.now) (halves_of true pairs.now) body) filed.new result }
 {
     let d = pairs_digest(body, pairs);
-    if let Some(t) = filed.find_let(d, body, pairs) {
+    if let Some(t) = filed.view().find_let(d, body, pairs) {
         return keep(filed, t);
     }
     let variables = add_halves(filed, pairs, false)?;

@@ -8,9 +8,9 @@ use mathlib.Core.Path.{◌≡◌, refl, ap, ◌∙◌}
 use mathlib.Core.List.{List}
 use lib.ListN.{length}
 use borrow.Author.Tests.{eq-eqb}
+use Rattle.std.proofs.lemmas.Bool.{and_from}
 use Rattle.bundle.specs.Bundle.{Bundle}
 use Rattle.logic.specs.Symbols.{truth_sort}
-use Rattle.logic.proofs.Tests.{and_both}
 use Rattle.expansion.specs.Answer.{Answer}
 use Rattle.expansion.specs.Placed.{PlacedTerm}
 use Rattle.expansion.specs.AreasAfter.{Stored}
@@ -29,7 +29,7 @@ module _ {D : Bundle} {text : List ℕ} {B₀ B : Bundle} {t : ℕ} (copied : B�
   pub passed_settled : Settled D text read.formula
   passed_settled = record {
     resolves = (resolved_exactly (known_in D) text read.formula).1 (read.reads, read.known);
-    bool = and_both (fine D read.formula) _ read.sorted (eq-eqb (head_sort D read.formula) truth_sort read.truth);
+    bool = and_from (fine D read.formula) _ read.sorted (eq-eqb (head_sort D read.formula) truth_sort read.truth);
   }
 
   pub passed_held : Held D read.formula B t

@@ -31,7 +31,7 @@ pub fn declarations_fault(
     ensures bundle { IfOk result (λ b. b ≡ bundle_of file.now) }
 {
     let enough = areas::long_enough(out, words, sets);
-    let bundle = opened(file, enough, 3)?;
+    let bundle = opened(file, enough, areas::AREAS)?;
     declarations::sections_fault(&bundle)?;
     if !is_declarations(&bundle) {
         return Err(Check::Job.into());

@@ -24,7 +24,7 @@ pub fn store_passed(
 {
     let mut filed = Filed::of(copy_job(bundle, words));
     let term = pass_text(bundle, text, &mut filed)?;
-    Some(store_file(filed.scratch(), term, 0, out))
+    Some(store_file(&filed.scratch().view(), term, 0, out))
 }
 
 // By every check in its order: what refuses the text; or its records are placed.
@@ -40,5 +40,5 @@ pub fn store_checked(
     super::texts::text_fault(bundle, text, out)?;
     let mut filed = Filed::of(copy_job(bundle, words));
     let read = read_records(bundle, text, &mut filed).ok_or(Check::Room)?;
-    Ok(store_file(filed.scratch(), read.term, 0, out))
+    Ok(store_file(&filed.scratch().view(), read.term, 0, out))
 }

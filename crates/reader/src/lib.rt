@@ -14,6 +14,7 @@ use logic::checks::Failure;
 
 // Checks the declarations and the text, places the formula's records in the scratch and stores the job at the start of the output: in one pass over the
 // text, or by every check in its order where the pass is given up. The rest of the areas is left as it comes.
+// The three areas are no struct: C lends them apart, and what stores a job takes two of them.
 fn store_read(
     declarations: &[u8],
     text: &[u8],
@@ -32,7 +33,8 @@ fn store_read(
 }
 
 // Reads a text beside declarations, and writes the job whose left is its formula into the output. Whatever stood in the areas before: the scratch
-// ends zero, bytes after the job are zero, and where the declarations or the text are refused every area is zero.
+// ends zero, bytes after the job are zero, and where the declarations or the text are refused every area is zero. As the writer's `expand`: two public
+// calls, each with its own middle.
 pub fn read(
     declarations: &[u8],
     text: &[u8],

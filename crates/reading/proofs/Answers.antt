@@ -10,12 +10,13 @@ use mathlib.Core.List.{List, [], ◌∷◌, ◌++◌}
 use mathlib.Core.Option.{Option, none, some, none-ne-some, some-injective}
 use lib.Dec.{eqb}
 use borrow.Author.Tests.{eqb-true, eqb-false}
+use Rattle.std.proofs.lemmas.Bool.{and_from}
 use Rattle.bundle.specs.File.{own_counts}
 use Rattle.bundle.specs.Bundle.{Bundle}
 use Rattle.bundle.proofs.Limits.{within_all, within_true}
 use Rattle.logic.specs.Lists.{All}
 use Rattle.logic.specs.Symbols.{truth_sort}
-use Rattle.logic.proofs.Tests.{and_left, and_right, and_both}
+use Rattle.logic.proofs.Tests.{and_left, and_right}
 use Rattle.grammar.specs.Grammar.{Formula}
 use Rattle.grammar.specs.Names.{Name, names, Located, called_of, met, first_unknown, all_known, Resolved, resolved, unread_at, unknown_at, resolve}
 use Rattle.grammar.proofs.NamesExact.{resolved_exactly, unread_first, unknown_first}
@@ -41,7 +42,7 @@ module _ (b : Bundle) where
       (known_exactly b x).0 (and_left (known_in b x) (all_known (known_in b) xs) e),
       (names_exactly xs).0 (and_right (known_in b x) (all_known (known_in b) xs) e),
     ),
-    λ h. and_both (known_in b x) (all_known (known_in b) xs) ((known_exactly b x).1 h.0) ((names_exactly xs).1 h.1),
+    λ h. and_from (known_in b x) (all_known (known_in b) xs) ((known_exactly b x).1 h.0) ((names_exactly xs).1 h.1),
   )
 
   -- the same of names with their first bytes
@@ -51,7 +52,7 @@ module _ (b : Bundle) where
   located_exactly (l ∷ ls) =
       let rest : Bool = all_known (known_in b) (called_of ls) in (
         λ e. ((known_exactly b l.called).0 (and_left (known_in b l.called) rest e), (located_exactly ls).0 (and_right (known_in b l.called) rest e)),
-        λ h. and_both (known_in b l.called) rest ((known_exactly b l.called).1 h.0) ((located_exactly ls).1 h.1),
+        λ h. and_from (known_in b l.called) rest ((known_exactly b l.called).1 h.0) ((located_exactly ls).1 h.1),
       )
 
   -- the first that is not known

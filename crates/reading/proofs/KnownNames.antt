@@ -13,12 +13,13 @@ use mathlib.Core.List.{List, [], ◌∷◌}
 use lib.ListN.{length}
 use lib.Dec.{eqb, leb, ltb}
 use borrow.Author.Tests.{eqb-true, eqb-false, eq-eqb, ne_eqb, leb-true, le-leb, lt-leb, ltb-true, lt-ltb, not-true}
+use Rattle.std.proofs.lemmas.Bool.{or_cases, and_from, or_left, or_right, not_from_false}
 use Rattle.bundle.specs.Bundle.{Bundle}
 use Rattle.bundle.specs.Lists.{numbers, each}
 use Rattle.logic.specs.declared.Signature.TheVariants.{Declared, Unknown}
 use Rattle.logic.specs.Lists.{All, Number}
 use Rattle.logic.specs.Symbols.{declared, undeclared, symbol_kind, kind_of_symbol, signature, signature_of}
-use Rattle.logic.proofs.Tests.{and_left, and_right, and_both, or_cases, or_left, or_right, not_of, numbers_of_lem, numbers_in}
+use Rattle.logic.proofs.Tests.{and_left, and_right, numbers_of_lem, numbers_in}
 use Rattle.logic.proofs.Exactly.{each_exactly}
 use Rattle.grammar.specs.Names.{Place, either, symbolOnly, variableOnly}
 use Rattle.reading.specs.Called.{decimal, is_digit, is_numeral, number_after, variable_called, symbol_called, known_as, known_in, Digit, Numeral, Spells}
@@ -56,7 +57,7 @@ past_signature b f h = high_signature b f (omega arith) ∙ rw (lt-leb f (32 + l
 digit_exactly : (c : ℕ) → (is_digit c ≡ true) ↔ Digit c
 digit_exactly c = (
   λ e. (leb-true 48 c (and_left (leb 48 c) (leb c 57) e), leb-true c 57 (and_right (leb 48 c) (leb c 57) e)),
-  λ h. and_both (leb 48 c) (leb c 57) (le-leb 48 c h.0) (le-leb c 57 h.1),
+  λ h. and_from (leb 48 c) (leb c 57) (le-leb 48 c h.0) (le-leb c 57 h.1),
 )
 
 numeral_exactly : (ds : List ℕ) → (is_numeral ds ≡ true) ↔ Numeral ds
@@ -68,7 +69,7 @@ numeral_exactly (c ∷ cs) = (
       let some : c ≡ 48 → ⊥ = eqb-false c 48 (not-true (eqb c 48) (and_left (not (eqb c 48)) (each is_digit (c ∷ cs)) e)) in
       (more c all.0.0 some, all),
   λ h.
-      and_both (not (eqb c 48)) (each is_digit (c ∷ cs)) (not_of (eqb c 48) (ne_eqb c 48 (λ z. omega (arith, h.0))))
+      and_from (not (eqb c 48)) (each is_digit (c ∷ cs)) (not_from_false (eqb c 48) (ne_eqb c 48 (λ z. omega (arith, h.0))))
       ((each_exactly is_digit Digit digit_exactly (c ∷ cs)).1 h.1),
 )
   where
@@ -106,7 +107,7 @@ module _ (b : Bundle) (w : List ℕ) where
   symbol_called_lem f h lo hi =
       let m : ℕ = number_after 102 w in
       let e : m ≡ f = spells_after 102 w f h in
-      let within = and_both (leb 33 m) (leb m (32 + length b.symbols)) (le-leb 33 m (omega arith)) (le-leb m (32 + length b.symbols) (omega arith)) in
+      let within = and_from (leb 33 m) (leb m (32 + length b.symbols)) (le-leb 33 m (omega arith)) (le-leb m (32 + length b.symbols) (omega arith)) in
       ap (λ (p : Bool). cond p m 0) within ∙ e
 
   variable_name : (n : ℕ) → variable_called b w ≡ n → 1 ≤ n → VariableName b w × Number (length b.variables) n

@@ -2,13 +2,13 @@
 --     declarations_find        of all of them, the first failing one is `declarations_fault`
 --     declarations_exactly     none fails exactly with well-formed declarations and long enough areas
 use Prim.Native.Nat.{ℕ}
-use native.Mathlib.Omega.{arith}
 use mathlib.Core.Path.{◌≡◌, refl, ap, subst}
 use mathlib.Core.Logic.{◌↔◌}
 use mathlib.Core.Bool.{true}
-use mathlib.Core.List.{List, [], ◌∷◌}
+use mathlib.Core.List.{List, []}
 use lib.ListN.{length}
 use borrow.Author.Tests.{eqb-true, eq-eqb}
+use Rattle.std.proofs.lemmas.List.{nil_from_length}
 use Rattle.bundle.specs.Bundle.{Bundle}
 use Rattle.bundle.specs.File.{bundle_of}
 use Rattle.logic.specs.Tests.{Fault}
@@ -16,11 +16,11 @@ use Rattle.logic.specs.Tests.{first_failing, fault, or_else, or_next}
 use Rattle.logic.specs.Checks.{header_tests, header_fault, link_tests, link_fault, links_fault, symbol_tests, symbol_fault, symbols_fault, variable_tests, variable_fault}
 use Rattle.logic.specs.Checks.{variables_fault}
 use Rattle.logic.proofs.Tests.{passed_each, all_passed, failing_none, none_failing}
-use Rattle.logic.proofs.Firsts.{none_bad, none_bad_first, next_both, both_next}
+use Rattle.logic.proofs.Firsts.{none_bad, none_bad_first, next_both, both_next, next_nested}
 use Rattle.logic.proofs.Headers.{header_exactly}
 use Rattle.logic.proofs.Formed.{link_exactly, symbol_exactly, variable_exactly}
 use Rattle.judgement.specs.Order.{checks_of}
-use Rattle.judgement.proofs.Order.{next_nested, Finds, finds_next, finds_tests, finds_section}
+use Rattle.judgement.proofs.Order.{Finds, finds_next, finds_tests, finds_section}
 use Rattle.expansion.specs.Expansion.{long_enough}
 use Rattle.expansion.specs.Demands.{LongEnough}
 use Rattle.expansion.proofs.JobChecks.{long_exactly}
@@ -60,17 +60,13 @@ module _ (f : List ℕ) (out words sets : ℕ) where
 
 -- ---- 18
 
-none_of : {A : Type 0} (xs : List A) → length xs ≡ 0 → xs ≡ []
-none_of [] e = refl
-none_of (x ∷ xs) e = absurd (omega arith)
-
 bare_exactly : (b : Bundle) → (is_declarations b ≡ true) ↔ ((b.terms ≡ []) × (b.contexts ≡ []) × (b.steps ≡ []) × (b.left ≡ 0) × (b.right ≡ 0))
 bare_exactly b = (
   λ e.
       let t = passed_each _ e in (
-        none_of b.terms (eqb-true (length b.terms) 0 t.0),
-        none_of b.contexts (eqb-true (length b.contexts) 0 t.1.0),
-        none_of b.steps (eqb-true (length b.steps) 0 t.1.1.0),
+        nil_from_length b.terms (eqb-true (length b.terms) 0 t.0),
+        nil_from_length b.contexts (eqb-true (length b.contexts) 0 t.1.0),
+        nil_from_length b.steps (eqb-true (length b.steps) 0 t.1.1.0),
         eqb-true b.left 0 t.1.1.1.0,
         eqb-true b.right 0 t.1.1.1.1.0,
       ),

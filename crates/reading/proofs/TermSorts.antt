@@ -10,12 +10,13 @@ use mathlib.Core.List.{List, [], ◌∷◌, map}
 use lib.ListN.{length}
 use lib.Dec.{eqb, ltb}
 use borrow.Author.Tests.{lt-ltb}
+use Rattle.logic.proofs.Trees.{truth_of_binder}
 use Rattle.bundle.specs.Bundle.{Bundle, sort_of_variable}
 use Rattle.logic.specs.declared.Signature.TheVariants.{Unknown}
 use Rattle.logic.specs.Lists.{All, Different, Number}
 use Rattle.logic.specs.Symbols.{truth_sort, symbol_kind, kind_of_symbol, signature, signature_of, argument_sorts, result_sort}
-use Rattle.logic.specs.Terms.{Binder, forAll, exists, Term, Terms, var, app, bind, let_in, none, more}
-use Rattle.logic.specs.Sorts.{binder_sort, sort}
+use Rattle.logic.specs.Terms.{Binder, Term, Terms, var, app, bind, let_in, none, more}
+use Rattle.logic.specs.Sorts.{sort}
 use Rattle.logic.specs.Longer.{Longer}
 use Rattle.logic.proofs.Tests.{and_left, and_right}
 use Rattle.logic.proofs.Images.{sorts_of}
@@ -50,10 +51,6 @@ abbrev mutual
   TermsSorted b none = Unit {0}
   TermsSorted b (more t ts) = TermSorted b t × TermsSorted b ts
 
-binder_truth : (q : Binder) (s : ℕ) → binder_sort q s ≡ truth_sort
-binder_truth forAll s = refl
-binder_truth exists s = refl
-
 -- ---- their sorts, in a longer bundle
 
 module _ {b b' : Bundle} (longer : Longer b b') where
@@ -63,7 +60,7 @@ module _ {b b' : Bundle} (longer : Longer b b') where
     pub sort_in_lem : (t : Term) → TermSorted b t → sort b' t ≡ sort b t
     sort_in_lem (var x) h = variable_kept longer x h.1
     sort_in_lem (app f ts) h = result_kept longer f h.0
-    sort_in_lem (bind q x t) h = binder_truth q _ ∙ sym (binder_truth q _)
+    sort_in_lem (bind q x t) h = truth_of_binder q _ ∙ sym (truth_of_binder q _)
     sort_in_lem (let_in vs ts t) h = sort_in_lem t h.5
 
     pub sorts_in : (ts : Terms) → TermsSorted b ts → sorts_of b' ts ≡ sorts_of b ts
@@ -83,11 +80,11 @@ module _ (b : Bundle) where
   abbrev Known : List Name → Type 0
   Known xs = all_known (known_in b) xs ≡ true
 
-  known_first : (x : Name) (xs : List Name) → Known (x ∷ xs) → known_in b x ≡ true
+  pub known_first : (x : Name) (xs : List Name) → Known (x ∷ xs) → known_in b x ≡ true
   unfolding all_known
   known_first x xs e = and_left (known_in b x) (all_known (known_in b) xs) e
 
-  known_rest : (x : Name) (xs : List Name) → Known (x ∷ xs) → Known xs
+  pub known_rest : (x : Name) (xs : List Name) → Known (x ∷ xs) → Known xs
   unfolding all_known
   known_rest x xs e = and_right (known_in b x) (all_known (known_in b) xs) e
 
@@ -157,7 +154,7 @@ module _ (b : Bundle) where
   quantified q [] t vs h = h
   quantified q (declares x s ∷ xs) t vs h =
       let inner = quantified q xs t vs.1 h in
-      ((vs.0, inner.1, inner.0), binder_truth q _)
+      ((vs.0, inner.1, inner.0), truth_of_binder q _)
 
   mutual
     unfolding plain names names_inside sort sorts_of bound_names

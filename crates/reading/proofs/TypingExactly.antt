@@ -5,14 +5,15 @@ use Prim.Native.Nat.{ℕ, zero, suc}
 use mathlib.Core.Path.{◌≡◌, refl, sym, ap, ap₂, ◌∙◌, subst}
 use mathlib.Core.Logic.{inl, inr}
 use mathlib.Core.Bool.{Bool, true, false, cond, ◌&&◌}
-use mathlib.Core.List.{List, [], ◌∷◌, map}
+use mathlib.Core.List.{List, [], ◌∷◌, map, head-eq_of_cons-eq, tail-eq_of_cons-eq}
 use mathlib.Core.Option.{some, none-ne-some, some-injective}
 use lib.Dec.{eqb}
 use borrow.Author.Tests.{eqb-true, eq-eqb}
+use Rattle.std.proofs.lemmas.Bool.{and_from}
 use Rattle.bundle.specs.Bundle.{Bundle, sort_of_variable}
 use Rattle.bundle.specs.Lists.{same_list, different}
 use Rattle.logic.specs.Symbols.{truth_sort, symbol_kind, kind_of_symbol, signature, signature_of, argument_sorts, result_sort}
-use Rattle.logic.proofs.Tests.{and_left, and_right, and_both, same_list_lem, list_same}
+use Rattle.logic.proofs.Tests.{and_left, and_right, same_list_lem, list_same}
 use Rattle.logic.proofs.Exactly.{different_exactly}
 use Rattle.grammar.specs.Bytes.{Connective, conjunction, disjunction, implication, equality}
 use Rattle.grammar.specs.Grammar.{SortedVariable, declares, Formula, called, truth, bracketed, Bracketed, denies, connects, applies, quantifies, lets}
@@ -23,12 +24,6 @@ use Rattle.reading.specs.Local.{alone_sort, accepts, alone_fine, head_sort, insi
 use Rattle.reading.specs.Local.{fine_bound, typed}
 use Rattle.reading.specs.WellSorted.{AloneSorted, Joins, WithDeclaredSorts, WellSorted, InsideSorted, AllSorted, BoundSorted, TypingExactly}
 use Rattle.reading.proofs.LocalSorts.{sorts_local}
-
-first_same : {x y : ℕ} {xs ys : List ℕ} → (x ∷ xs) ≡ (y ∷ ys) → x ≡ y
-first_same e = cc
-
-rest_same : {x y : ℕ} {xs ys : List ℕ} → (x ∷ xs) ≡ (y ∷ ys) → xs ≡ ys
-rest_same e = cc
 
 module _ (b : Bundle) where
   takes : (f : ℕ) (ss : List ℕ) → accepts b f ss ≡ true → argument_sorts b (signature_of b f) ≡ ss
@@ -62,16 +57,16 @@ module _ (b : Bundle) where
 
   joins_of : (c : Connective) (s v : ℕ) → accepts b (connective_symbol c s) (s ∷ v ∷ []) ≡ true → Joins c s × (v ≡ s)
   unfolding connective_symbol argument_sorts signature_of kind_of_symbol symbol_kind signature
-  joins_of conjunction s v e = let t = takes 4 (s ∷ v ∷ []) e in (sym (first_same t), sym (first_same (rest_same t)) ∙ first_same t)
-  joins_of disjunction s v e = let t = takes 5 (s ∷ v ∷ []) e in (sym (first_same t), sym (first_same (rest_same t)) ∙ first_same t)
-  joins_of implication s v e = let t = takes 6 (s ∷ v ∷ []) e in (sym (first_same t), sym (first_same (rest_same t)) ∙ first_same t)
+  joins_of conjunction s v e = let t = takes 4 (s ∷ v ∷ []) e in (sym (head-eq_of_cons-eq t), sym (head-eq_of_cons-eq (tail-eq_of_cons-eq t)) ∙ head-eq_of_cons-eq t)
+  joins_of disjunction s v e = let t = takes 5 (s ∷ v ∷ []) e in (sym (head-eq_of_cons-eq t), sym (head-eq_of_cons-eq (tail-eq_of_cons-eq t)) ∙ head-eq_of_cons-eq t)
+  joins_of implication s v e = let t = takes 6 (s ∷ v ∷ []) e in (sym (head-eq_of_cons-eq t), sym (head-eq_of_cons-eq (tail-eq_of_cons-eq t)) ∙ head-eq_of_cons-eq t)
   joins_of equality s v e = go (eqb s truth_sort) refl e
     where
       go : (p : Bool) → eqb s truth_sort ≡ p → accepts b (cond p 7 8) (s ∷ v ∷ []) ≡ true → Joins equality s × (v ≡ s)
       go true q e =
           let t = takes 7 (s ∷ v ∷ []) e in
-          (inl (eqb-true s truth_sort q), sym (first_same (rest_same t)) ∙ first_same t)
-      go false q e = let t = takes 8 (s ∷ v ∷ []) e in (inr (sym (first_same t)), sym (first_same (rest_same t)) ∙ first_same t)
+          (inl (eqb-true s truth_sort q), sym (head-eq_of_cons-eq (tail-eq_of_cons-eq t)) ∙ head-eq_of_cons-eq t)
+      go false q e = let t = takes 8 (s ∷ v ∷ []) e in (inr (sym (head-eq_of_cons-eq t)), sym (head-eq_of_cons-eq (tail-eq_of_cons-eq t)) ∙ head-eq_of_cons-eq t)
 
   pub join_result : (c : Connective) (s : ℕ) → result_sort b (signature_of b (connective_symbol c s)) ≡ truth_sort
   unfolding connective_symbol result_sort signature_of kind_of_symbol symbol_kind signature
@@ -95,12 +90,12 @@ module _ (b : Bundle) where
   sorts_declared_lem : (xs : List SortedVariable) → WithDeclaredSorts b xs → sorts_declared b xs ≡ true
   unfolding sorts_declared
   sorts_declared_lem [] h = refl
-  sorts_declared_lem (declares x s ∷ xs) h = and_both _ (sorts_declared b xs) (eq-eqb _ _ h.0) (sorts_declared_lem xs h.1)
+  sorts_declared_lem (declares x s ∷ xs) h = and_from _ (sorts_declared b xs) (eq-eqb _ _ h.0) (sorts_declared_lem xs h.1)
 
   -- not takes a truth
   denies_takes : (s : ℕ) → accepts b 3 (s ∷ []) ≡ true → s ≡ truth_sort
   unfolding argument_sorts signature_of kind_of_symbol symbol_kind signature
-  denies_takes s e = sym (first_same (takes 3 (s ∷ []) e))
+  denies_takes s e = sym (head-eq_of_cons-eq (takes 3 (s ∷ []) e))
 
   truth_denied : (s : ℕ) → truth_sort ≡ s → accepts b 3 (s ∷ []) ≡ true
   unfolding argument_sorts signature_of kind_of_symbol symbol_kind signature
@@ -160,8 +155,8 @@ module _ (b : Bundle) where
         let e₃ = and_right (fine b ψ) (d && p) e₂ in
         let same = same_list_lem (map (sort_of_variable b) vs) (head_sort b φ ∷ bound_sorts b xs) (and_right d p e₃) in (
           (different_exactly vs).0 (and_left d p e₃),
-          subst (WellSorted b φ) (sym (first_same same)) (fine_sorted φ (and_left (fine b φ) (fine_bound b xs && (fine b ψ && (d && p))) e)),
-          bound_sorted xs (and_left (fine_bound b xs) (fine b ψ && (d && p)) e₁) (rest_same same),
+          subst (WellSorted b φ) (sym (head-eq_of_cons-eq same)) (fine_sorted φ (and_left (fine b φ) (fine_bound b xs && (fine b ψ && (d && p))) e)),
+          bound_sorted xs (and_left (fine_bound b xs) (fine b ψ && (d && p)) e₁) (tail-eq_of_cons-eq same),
           fine_sorted ψ (and_left (fine b ψ) (d && p) e₂),
         )
 
@@ -172,8 +167,8 @@ module _ (b : Bundle) where
     bound_sorted : (xs : Bindings) → fine_bound b xs ≡ true → map (sort_of_variable b) (bound_names b xs) ≡ bound_sorts b xs → BoundSorted b xs
     bound_sorted no_binding e same = tt
     bound_sorted (and_binding x φ xs) e same = (
-      subst (WellSorted b φ) (sym (first_same same)) (fine_sorted φ (and_left (fine b φ) (fine_bound b xs) e)),
-      bound_sorted xs (and_right (fine b φ) (fine_bound b xs) e) (rest_same same),
+      subst (WellSorted b φ) (sym (head-eq_of_cons-eq same)) (fine_sorted φ (and_left (fine b φ) (fine_bound b xs) e)),
+      bound_sorted xs (and_right (fine b φ) (fine_bound b xs) e) (tail-eq_of_cons-eq same),
     )
 
   mutual
@@ -187,26 +182,26 @@ module _ (b : Bundle) where
     sorted_inside : (φ : Bracketed) (s : ℕ) → InsideSorted b φ s → (fine_inside b φ ≡ true) × (s ≡ inside_sort b φ)
     sorted_inside (denies φ) s h =
         let (f, e) = sorted_fine φ truth_sort h.0 in
-        (and_both (fine b φ) _ f (truth_denied (head_sort b φ) e), h.1 ∙ sym three_result)
+        (and_from (fine b φ) _ f (truth_denied (head_sort b φ) e), h.1 ∙ sym three_result)
     sorted_inside (connects c φ ψ) s h =
         let (f, e) = sorted_fine φ h.0 h.2 in
         let (g, d) = sorted_fine ψ h.0 h.3 in
         let joins : Joins c (head_sort b φ) = subst (Joins c) e h.1 in
         let same : head_sort b ψ ≡ head_sort b φ = sym d ∙ e in (
-          and_both (fine b φ) _ f (and_both (fine b ψ) _ g (taken (connective_symbol c (head_sort b φ)) _
+          and_from (fine b φ) _ f (and_from (fine b ψ) _ g (taken (connective_symbol c (head_sort b φ)) _
               ((join_sorts c (head_sort b φ) joins).0 ∙ ap (λ (u : ℕ). head_sort b φ ∷ u ∷ []) (sym same)))),
           h.4 ∙ sym (join_result c (head_sort b φ)),
         )
     sorted_inside (applies g φ φs) s h =
         let (f, e) = sorted_fine φ h.0 h.3 in
         let (fs, es) = sorted_all φs h.1 h.4 in (
-          and_both (fine b φ) _ f (and_both (fine_all b φs) _ fs
+          and_from (fine b φ) _ f (and_from (fine_all b φs) _ fs
               (taken (symbol_called b g) _ (h.2.arguments ∙ ap₂ (λ (u : ℕ) (us : List ℕ). u ∷ us) e es))),
           h.2.result,
         )
     sorted_inside (quantifies q x xs φ) s h =
         let (f, e) = sorted_fine φ truth_sort h.1 in (
-          and_both (fine b φ) _ f (and_both (sorts_declared b (x ∷ xs)) _ (sorts_declared_lem (x ∷ xs) h.0) (eq-eqb (head_sort b φ) truth_sort (sym e))),
+          and_from (fine b φ) _ f (and_from (sorts_declared b (x ∷ xs)) _ (sorts_declared_lem (x ∷ xs) h.0) (eq-eqb (head_sort b φ) truth_sort (sym e))),
           h.2,
         )
     sorted_inside (lets x φ xs ψ) s h =
@@ -214,7 +209,7 @@ module _ (b : Bundle) where
         let (f, e) = sorted_fine φ (sort_of_variable b (variable_called b x)) h.1 in
         let (fs, es) = sorted_bound xs h.2 in
         let (g, d) = sorted_fine ψ s h.3 in (
-          and_both (fine b φ) _ f (and_both (fine_bound b xs) _ fs (and_both (fine b ψ) _ g (and_both (different vs) _ ((different_exactly vs).1 h.0)
+          and_from (fine b φ) _ f (and_from (fine_bound b xs) _ fs (and_from (fine b ψ) _ g (and_from (different vs) _ ((different_exactly vs).1 h.0)
               (list_same (map (sort_of_variable b) vs) _ (ap₂ (λ (u : ℕ) (us : List ℕ). u ∷ us) e es))))),
           d,
         )
@@ -226,14 +221,14 @@ module _ (b : Bundle) where
     sorted_all (and_formula φ φs) (s ∷ ss) h =
         let (f, e) = sorted_fine φ s h.0 in
         let (fs, es) = sorted_all φs ss h.1 in
-        (and_both (fine b φ) (fine_all b φs) f fs, ap₂ (λ (u : ℕ) (us : List ℕ). u ∷ us) e es)
+        (and_from (fine b φ) (fine_all b φs) f fs, ap₂ (λ (u : ℕ) (us : List ℕ). u ∷ us) e es)
 
     sorted_bound : (xs : Bindings) → BoundSorted b xs → (fine_bound b xs ≡ true) × (map (sort_of_variable b) (bound_names b xs) ≡ bound_sorts b xs)
     sorted_bound no_binding h = (refl, refl)
     sorted_bound (and_binding x φ xs) h =
         let (f, e) = sorted_fine φ (sort_of_variable b (variable_called b x)) h.0 in
         let (fs, es) = sorted_bound xs h.1 in
-        (and_both (fine b φ) (fine_bound b xs) f fs, ap₂ (λ (u : ℕ) (us : List ℕ). u ∷ us) e es)
+        (and_from (fine b φ) (fine_bound b xs) f fs, ap₂ (λ (u : ℕ) (us : List ℕ). u ∷ us) e es)
 
 -- THE THEOREM
 pub typing_exactly : TypingExactly

@@ -5,7 +5,7 @@ ghost use Rattle.spots.specs.Guesses.{guess_column, if_between, guess_inside, gu
 
 use crate::runs::{lexeme_from, run_end};
 use crate::tables::cell;
-use lexing::runs::class_code;
+use lexing::runs::{Class, class_of};
 use lexing::words::{Word, word_of};
 use spots::Guess;
 
@@ -39,6 +39,9 @@ fn guess_column(run: &[u8]) -> usize
         word => word.code(),
     }
 }
+
+// The functions for a run and for brackets take `spot` and `depth`, and no `Guess`: a turn takes it apart once, and a closing bracket is asked of one level
+// down. The levels, from `low` up to before `top`, are two numbers that stay the same for a scan.
 
 // The spot after a run.
 fn guess_word(run: &[u8], spot: u8, depth: usize, low: usize, top: usize) -> u8
@@ -95,8 +98,8 @@ fn guess_turn(text: &[u8], area: &mut [u8], g: Guess, i: usize, low: usize, top:
 {
     let depth = g.depth;
     let spot = g.spot;
-    let class = class_code(text[i]);
-    if class == 6 {
+    let class = class_of(text[i]);
+    if let Class::Symbol = class {
         let end = run_end(text, i + 1);
         let after = guess_word(&text[i..end], spot, depth, low, top);
         let next = lexeme_from(text, end);
@@ -107,7 +110,7 @@ fn guess_turn(text: &[u8], area: &mut [u8], g: Guess, i: usize, low: usize, top:
         };
     }
     let next = lexeme_from(text, i + 1);
-    if class == 3 {
+    if let Class::Opening = class {
         let inside = guess_inside(area, spot, depth, low, top);
         return Guess {
             next,

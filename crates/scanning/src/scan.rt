@@ -9,7 +9,7 @@ use crate::levels::{pop, push};
 use crate::runs::{lexeme_from, run_end};
 use crate::tables::cell;
 use crate::words::word;
-use lexing::runs::class_code;
+use lexing::runs::{Class, class_of};
 use logic::checks::{Check, Failure};
 use spots::{Place, Turn};
 
@@ -32,8 +32,8 @@ fn turn(
         check: Check::Text,
         record: i,
     };
-    let class = class_code(text[i]);
-    if class == 6 {
+    let class = class_of(text[i]);
+    if let Class::Symbol = class {
         let end = run_end(text, i + 1);
         let after = word(text, symbols, variables, spot, i, end)?;
         let next = lexeme_from(text, end);
@@ -46,7 +46,7 @@ fn turn(
             },
         });
     }
-    if class == 3 {
+    if let Class::Opening = class {
         let inside = usize::from(cell(spot * 14));
         if inside < 20 {
             let next = lexeme_from(text, i + 1);
@@ -55,7 +55,7 @@ fn turn(
         }
         return Err(unread);
     }
-    if class == 4 {
+    if let Class::Closing = class {
         let back = usize::from(cell(spot * 14 + 1));
         if back < 99 {
             let next = lexeme_from(text, i + 1);
@@ -67,7 +67,8 @@ fn turn(
     Err(unread)
 }
 
-// Whether a text of any length and nesting is read; else 19 or 20 with the byte; where so many symbols and variables are declared.
+// Whether a text of any length and nesting is read; else 19 or 20 with the byte; where so many symbols and variables are declared. Two counts, and no
+// bundle: a scan takes any that a header may have, where a bundle's are within the limits.
 pub fn scan(text: &[u8], symbols: usize, variables: usize, area: &mut [u8]) -> Result<(), Failure>
     requires { (32768 ≤ length area.old) × (symbols ≤ 4294967295) × (variables ≤ 4294967295) }
     ensures { fault_in result ≡ verdict_of (resolve (declared_by symbols variables) text.now) }

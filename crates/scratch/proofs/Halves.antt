@@ -1,7 +1,6 @@
 -- The results, or the steps, of a part of the stack.
 --     halves_none, halves_more, halves_last     of no pair; the first pair, and then the others; the others, and then the last pair
 --     rest_none, rest_more                      of the pairs from a place on: none are left; the first of them, and then the others
---     halves_length                             as many as there are pairs
 --     halves_same                               of two stacks that agree there
 --     halves_push                               with a pair stored on top of the stack
 use mathlib.Core.Path.{◌≡◌, sym, ap, ◌∙◌}
@@ -10,7 +9,7 @@ use mathlib.Core.List.{List, [], ◌∷◌, ◌++◌, map, map-append}
 use Prim.Native.Nat.{ℕ, suc, ◌+◌, ◌-◌, ◌≤◌, ◌<◌}
 use native.Mathlib.Numerals.{add-one}
 use native.Mathlib.Omega.{arith}
-use lib.ListN.{length, get_or, take, drop, set, length-map, length-drop, length-set, drop_of_length-le}
+use lib.ListN.{length, get_or, take, drop, set, length-drop, length-set, drop_of_length-le}
 use lib.Seq.{drop-cons, take-suc, get_or-take, get_or-drop, get_or-set_same, get_or-set_other, length-take-le, ext_get_or}
 use Rattle.scratch.specs.Stack.{half_of, halves_of, halves}
 
@@ -40,11 +39,6 @@ module _ (u : Bool) (s : List ℕ) (from to : ℕ) where
       (ap (map (half_of u)) (take-suc (drop from s) (to - from) 0 l)
       ∙ map-append (half_of u) (take (to - from) (drop from s)) (get_or (drop from s) (to - from) 0 ∷ [])
       ∙ ap (λ (x : ℕ). halves u s from to ++ (half_of u x ∷ [])) g)
-
-  pub halves_length : from ≤ to → to ≤ length s → length (halves u s from to) ≡ to - from
-  halves_length h k =
-      length-map (take (to - from) (drop from s)) (half_of u)
-      ∙ length-take-le (to - from) (drop from s) (simp length-drop (omega arith))
 
   pub halves_same : (s' : List ℕ) → length s' ≡ length s → to ≤ length s → ((i : ℕ) → from ≤ i → i < to → get_or s' i 0 ≡ get_or s i 0)
       → halves u s' from to ≡ halves u s from to

@@ -9,7 +9,7 @@ use native.Mathlib.Omega.{arith}
 use lib.ListN.{length}
 use Rattle.bundle.specs.declared.Counts.{Counts}
 use Rattle.bundle.specs.Bundle.{Bundle}
-use Rattle.bundle.specs.Limits.{limits, symbols_at, variables_at, terms_at, links_at, contexts_at, steps_at, Within}
+use Rattle.bundle.specs.Limits.{limits, symbols_at, variables_at, terms_at, links_at, contexts_at, steps_at}
 use Rattle.bundle.specs.File.{bundle_by, own_counts}
 use Rattle.bundle.proofs.Tab.{tab_length}
 use Rattle.bundle.proofs.Fields.{Sized, sized}
@@ -55,14 +55,3 @@ module _ (w : List ℕ) (c : Counts) where
 
     pub steps_fit : steps_at limits + 5 * c.steps ≤ length w
     steps_fit = omega (arith, r.long, r.within.steps)
-
--- the limits are within the limits
-pub limits_within : Within limits
-limits_within = record {
-  symbols = omega arith;
-  variables = omega arith;
-  terms = omega arith;
-  links = omega arith;
-  contexts = omega arith;
-  steps = omega arith;
-}

@@ -103,14 +103,14 @@ impl<'a> Appends for Scratch<'a> {
     }
 
     fn image(&self, context: usize, x: usize) -> Image {
-        self.image(context, x)
+        self.view().image(context, x)
     }
 
     fn push_halves(&mut self, pairs: &[u64], upper: bool) -> usize {
         let n = pairs.len();
         let start = if n == 0 { 0 } else { self.links() + 1 };
-        for at in 0..n {
-            let value = half(pairs[at], upper);
+        for (at, pair) in pairs.iter().enumerate() {
+            let value = half(*pair, upper);
             let next = if at + 1 < n { self.links() + 2 } else { 0 };
             self.append_link(value, next);
         }

@@ -7,11 +7,11 @@ ghost use Rattle.logic.specs.declared.Mention.TheVariants.{Replaced};
 ghost use Rattle.logic.specs.declared.Image.TheVariants.{Gives};
 ghost use Rattle.logic.specs.Contexts.{lookup, mention, image};
 
-use super::Scratch;
+use super::View;
 use logic::kinds::Entry;
 use logic::{Image, Mention};
 
-impl<'a> Scratch<'a> {
+impl<'a> View<'a> {
     // What a list of variables and a list of terms, side by side, say of the variable x.
     fn lookup(&self, variables: usize, terms: usize, x: usize) -> Mention
         ensures { (result ≡ lookup (items self.now variables) (items self.now terms) x) × ((t : ℕ) → result ≡ Replaced t → t ≤ largest_word) }

@@ -1,4 +1,4 @@
-// The writer's scratch: a bundle in lent words, each section with room for its limit.
+// The writer's scratch: a bundle in lent words, each section with room for its limit. `Scratch` is appended to, and `View` is read.
 #![tactic(auto)]
 
 ghost use Rattle.std.specs.Prelude.{◌≡◌, ◌≤◌, length};
@@ -6,6 +6,7 @@ ghost use Rattle.bundle.specs.Limits.{limits, Within};
 ghost use Rattle.bundle.specs.File.{own_counts};
 ghost use Rattle.scratch.specs.Scratch.{bundle_in, Roomy};
 
+pub mod views; // views.rt: what a view is made of
 pub mod records; // records.rt: the fields of a record
 pub mod lists; // lists.rt: lists of links
 pub mod appends; // appends.rt: one record or list appended
@@ -15,7 +16,7 @@ pub mod pairs; // pairs.rt: pairs of words
 use bundle::Counts;
 use std::marker::Model;
 
-// A bundle in lent words. A clause sees the bundle.
+// A bundle in words lent for writing. A clause sees the bundle.
 #[derive(Drop)]
 pub struct Scratch<'a> {
     words: &'a mut [u32],
@@ -42,12 +43,21 @@ impl<'a> Scratch<'a> {
         Scratch { words, counts }
     }
 
-    // The words, and the counts.
-    pub fn words(&self) -> &[u32]
-        ensures { Roomy result.now (own_counts self.now) × (bundle_in result.now (own_counts self.now) ≡ self.now) }
+    // The words lent on, for reading.
+    pub fn view(&self) -> View<'_>
+        ensures { result ≡ self.now }
     {
-        let words = &*self.words;
-        words
+        View {
+            words: &*self.words,
+            counts: self.counts,
+        }
+    }
+
+    // The words given back: they hold the bundle by its counts.
+    pub fn into_words(self) -> &'a mut [u32]
+        ensures { Roomy result.now (own_counts self.entry) × (bundle_in result.now (own_counts self.entry) ≡ self.entry) }
+    {
+        self.words
     }
 
     pub fn counts(&self) -> Counts
@@ -56,7 +66,7 @@ impl<'a> Scratch<'a> {
         self.counts
     }
 
-    // How many records each section has. `Bundle` has the same readers: each keeps counts, under an invariant of its own.
+    // How many records each section has. `Bundle` has the same readers, `View` two of them: each keeps counts, under an invariant of its own.
     pub fn variables(&self) -> usize
         ensures { (result ≡ length self.now.variables) × (result ≤ limits.variables) }
     {
@@ -86,4 +96,23 @@ impl<'a> Scratch<'a> {
     {
         self.counts.steps
     }
+}
+
+// A bundle in words lent for reading alone, the scratch's or others. A clause sees the bundle. A type beside `Scratch`, which cannot be made of words that are
+// lent for reading.
+#[derive(Drop)]
+pub struct View<'a> {
+    words: &'a [u32],
+    counts: Counts,
+}
+
+impl<'a> Model for View<'a> {
+    ghost use Rattle.bundle.specs.Bundle.{Bundle};
+    ghost use Rattle.scratch.specs.Scratch.{bundle_in, Roomy};
+
+    ghost Value = { Bundle };
+
+    ghost view = { λ s. bundle_in s.words.now s.counts };
+
+    ghost invariant = { λ s. Roomy s.words.now s.counts };
 }

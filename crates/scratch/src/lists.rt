@@ -4,11 +4,11 @@ ghost use Rattle.bundle.specs.Links.{next_of, starts_at, items};
 ghost use Rattle.bundle.specs.Lists.{same_list};
 ghost use Rattle.scratch.specs.Stack.{halves_of};
 
-use super::Scratch;
+use super::View;
 use super::pairs::half;
 use bundle::items::{Items, Links, followed, starting};
 
-impl<'a> Links for Scratch<'a> {
+impl<'a> Links for View<'a> {
     ghost use Rattle.bundle.specs.Bundle.{Bundle};
 
     ghost bundle = { λ (b : Bundle). b };
@@ -22,7 +22,7 @@ impl<'a> Links for Scratch<'a> {
     }
 }
 
-impl<'a> Scratch<'a> {
+impl<'a> View<'a> {
     // The first link of a list: 0, which starts the empty list, for a number that is no link's. This and the next are alike to those of a file: one for both
     // would be a method of `Links`, and each call of it an import of the trait.
     pub fn first_link(&self, start: usize) -> usize
@@ -39,7 +39,7 @@ impl<'a> Scratch<'a> {
     }
 
     // The items of the list that starts at a link.
-    pub fn items<'b>(&'b self, start: usize) -> Items<'b, Scratch<'a>>
+    pub fn items<'b>(&'b self, start: usize) -> Items<'b, View<'a>>
         ensures { result ≡ items self.now start }
     {
         Items::of(self, start)

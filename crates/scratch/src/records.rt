@@ -7,7 +7,7 @@ ghost use Rattle.bundle.specs.File.{tab, record_by};
 ghost use Rattle.bundle.specs.RecordWords.{as_term, TermFits};
 ghost use Rattle.scratch.specs.Scratch.{word_in};
 
-use super::Scratch;
+use super::View;
 use bundle::Counts;
 use bundle::records::TermWords;
 use bundle::words::wide;
@@ -26,13 +26,13 @@ fn field(words: &[u32], start: usize, size: usize, count: usize, i: usize, k: us
     wide(words[start + size * (i - 1) + k])
 }
 
-impl<'a> Scratch<'a> {
+// The readers are alike, each with its own section, size and definition. `field` is bundle's, over words of another memory.
+impl<'a> View<'a> {
     pub fn variable_sort(&self, i: usize) -> usize
         ensures { (result ≡ sort_of_variable self.now i) × (result ≤ largest_word) }
     {
         let count = self.counts.variables;
-        let words = &*self.words;
-        field(words, Counts::largest().variables_at(), 1, count, i, 0)
+        field(self.words, Counts::largest().variables_at(), 1, count, i, 0)
     }
 
     pub fn term_field(&self, i: usize, k: usize) -> usize
@@ -40,8 +40,7 @@ impl<'a> Scratch<'a> {
         ensures { (result ≡ term_field (term_of self.now i) k) × (result ≤ largest_word) }
     {
         let count = self.counts.terms;
-        let words = &*self.words;
-        field(words, Counts::largest().terms_at(), 4, count, i, k)
+        field(self.words, Counts::largest().terms_at(), 4, count, i, k)
     }
 
     pub fn link_field(&self, i: usize, k: usize) -> usize
@@ -49,8 +48,7 @@ impl<'a> Scratch<'a> {
         ensures { (result ≡ link_field (link_of self.now i) k) × (result ≤ largest_word) }
     {
         let count = self.counts.links;
-        let words = &*self.words;
-        field(words, Counts::largest().links_at(), 2, count, i, k)
+        field(self.words, Counts::largest().links_at(), 2, count, i, k)
     }
 
     pub fn context_field(&self, i: usize, k: usize) -> usize
@@ -58,8 +56,7 @@ impl<'a> Scratch<'a> {
         ensures { (result ≡ context_field (context_of self.now i) k) × (result ≤ largest_word) }
     {
         let count = self.counts.contexts;
-        let words = &*self.words;
-        field(words, Counts::largest().contexts_at(), 4, count, i, k)
+        field(self.words, Counts::largest().contexts_at(), 4, count, i, k)
     }
 
     // The words of term i. Alike in `bundle`: the same record, read from another memory.

@@ -7,7 +7,7 @@
 --     trailing_below, trailing_here     the trailing zeros of a word stand below its lowest bit that is set
 --     bits_same                    two numbers below 2 ^ n with the same n lowest bits are equal
 use mathlib.Core.Path.{◌≡◌, refl, sym, ap, ◌∙◌}
-use mathlib.Core.Bool.{Bool, true, false, not, ◌&&◌, ◌||◌, false≢true}
+use mathlib.Core.Bool.{Bool, true, false, not, ◌&&◌, ◌||◌, false≢true, or_comm}
 use Prim.Native.Nat.{ℕ, zero, suc, ◌+◌, ◌-◌, ◌*◌, ◌/◌, ◌%◌, ◌^◌, ◌≤◌, ◌<◌, min, max}
 use native.Mathlib.Nat.{mod-lt, div-eq_of_lt, one-mul, zero-div, sub-add_cancel, pow-succ', div-div-eq-div-mul, div-one}
 use native.Mathlib.Omega.{arith}
@@ -83,12 +83,6 @@ bit_pow j k = go (dec_lt j k)
         let q : 2 ^ j / 2 ^ k ≡ 2 ^ (j - k) = ap (λ (m : ℕ). m / 2 ^ k) p ∙ shl-shr (2 ^ (j - k)) k in
         ap odd q ∙ odd_power (j - k) ∙ same (ℕ_discrete k j) le
 
-or_swap : (p q : Bool) → (p || q) ≡ (q || p)
-or_swap true true = refl
-or_swap true false = refl
-or_swap false true = refl
-or_swap false false = refl
-
 but : (p q : Bool) → unlike p (p && q) ≡ (not q && p)
 but true true = refl
 but true false = refl
@@ -96,7 +90,7 @@ but false true = refl
 but false false = refl
 
 pub bit_with : (x k j : ℕ) → bit_at (with_bit x k) j ≡ (eqb j k || bit_at x j)
-bit_with x k j = bit_or_lem x (2 ^ k) j ∙ rw (bit_pow k j) (or_swap (bit_at x j) (eqb j k))
+bit_with x k j = bit_or_lem x (2 ^ k) j ∙ rw (bit_pow k j) (or_comm (bit_at x j) (eqb j k))
 
 pub bit_without : (x k j : ℕ) → bit_at (without_bit x k) j ≡ (not (eqb j k) && bit_at x j)
 bit_without x k j = bit_xor_lem x (bit_and x (2 ^ k)) j ∙ rw (bit_and_lem x (2 ^ k) j, bit_pow k j) (but (bit_at x j) (eqb j k))

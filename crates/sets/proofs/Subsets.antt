@@ -1,6 +1,6 @@
 -- Subsets: a set whose words have no bits but those of another's.
 --     subset_member, member_subset     a set is a subset exactly if each of its members is a member of the other
---     subset_on, subset_at             one word more; a word that fails
+--     subset_on                        one word more
 --     either_first, either_second, either_inside     a word has the bits of two words together exactly if it has those of each
 --     subset_part                      sets in parts of words
 --     both_on, both_at                 two sets at once: one word more; a word that fails
@@ -88,14 +88,6 @@ module _ (w : List ℕ) (first : ℕ) (v : List ℕ) (second : ℕ) where
   word_subset (suc m) h =
       rw (eq-eqb (bit_and (get_or w (first + m) 0) (get_or v (second + m) 0)) (get_or w (first + m) 0) (h m (omega arith)))
       (word_subset m (λ k l. h k (omega arith)))
-
-  -- a word that fails
-  pub subset_at : (n k : ℕ) → k < n → (here k → ⊥) → subset_of w first v second n ≡ false
-  subset_at n k l out = go (subset_of w first v second n) refl
-    where
-      go : (p : Bool) → subset_of w first v second n ≡ p → p ≡ false
-      go true e = absurd (out (subset_word n k e l))
-      go false e = refl
 
   pub subset_member : (n : ℕ) → subset_of w first v second n ≡ true → (u : ℕ) → member w first n u ≡ true → member v second n u ≡ true
   unfolding member

@@ -30,29 +30,27 @@ impl Shown {
 
     fn header_line(self, counts: Counts, left: usize, right: usize) {
         self.line_start();
-        out::name(b"version ", counts.version);
-        out::name(b", symbols ", counts.symbols);
-        out::name(b", variables ", counts.variables);
-        out::name(b", terms ", counts.terms);
-        out::name(b", links ", counts.links);
-        out::name(b", contexts ", counts.contexts);
-        out::name(b", steps ", counts.steps);
-        out::name(b", left ", left);
-        out::name(b", right ", right);
-        out::line_end();
+        out::print(format_args!(
+            "version {}, symbols {}, variables {}, terms {}, links {}, contexts {}, steps {}, left {left}, right {right}\n",
+            counts.version,
+            counts.symbols,
+            counts.variables,
+            counts.terms,
+            counts.links,
+            counts.contexts,
+            counts.steps,
+        ));
     }
 
     // A word, two numbers and a newline.
-    fn answer_line(self, word: &[u8], first: usize, second: usize) {
+    fn answer_line(self, word: &str, first: usize, second: usize) {
         self.line_start();
-        out::name(word, first);
-        out::name(b" ", second);
-        out::line_end();
+        out::print(format_args!("{word} {first} {second}\n"));
     }
 
     // A refusal, and the start of the line that says why.
     fn begin_refusal(self, failure: Failure) {
-        self.answer_line(b"refused ", failure.check.number(), failure.record);
+        self.answer_line("refused", failure.check.number(), failure.record);
         self.line_start();
         show_tables::tables::word(failure.check);
         out::text(b": ");
@@ -63,7 +61,7 @@ impl Shown {
         requires { F.IsAlwaysCallable sentence }
     {
         match self.answer {
-            Ok(a) => self.answer_line(b"accepted ", a.left, a.right),
+            Ok(a) => self.answer_line("accepted", a.left, a.right),
             Err(failure) => {
                 self.begin_refusal(failure);
                 sentence(failure);
@@ -83,6 +81,7 @@ impl Shown {
     }
 
     // As much of the file as can be read. A file whose header is bad, which the checker refuses with 1 to 3, shows its header's numbers only.
+    // The tests of `opened`, one by one: two of the sentences are of one check, and the header is shown between the first and the others.
     fn show_file(self, file: &[u8]) {
         let length = file.len();
         if length < Bundle::LEAST {

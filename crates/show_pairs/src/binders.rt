@@ -23,13 +23,8 @@ pub fn nearest<'a>(
     side: Side,
     x: usize,
 ) -> Option<(Level, &'a [Level])> {
-    for k in (0..levels.len()).rev() {
-        let level = levels[k];
-        if level.in_body && binds(bundle, level.term(side), x) {
-            return Some((level, &levels[k + 1..]));
-        }
-    }
-    None
+    let k = levels.iter().rposition(|level| level.in_body && binds(bundle, level.term(side), x))?;
+    Some((levels[k], &levels[k + 1..]))
 }
 
 // The variable on the right of a level that matches x, bound there on the left; `None` where a let lists none beside it.

@@ -5,9 +5,7 @@ use show_text::out;
 
 // `  s1 -> s3;`.
 fn edge(premise: usize, step: usize) {
-    out::name(b"  s", premise);
-    out::name(b" -> s", step);
-    out::text(b";\n");
+    out::print(format_args!("  s{premise} -> s{step};\n"));
 }
 
 fn edges(bundle: &Bundle, step: usize, list: usize) {
@@ -23,9 +21,7 @@ fn node(bundle: &Bundle, i: usize) {
     let left = bundle.step_field(i, 2);
     let right = bundle.step_field(i, 3);
     let list = bundle.step_field(i, 4);
-    out::name(b"  s", i);
-    out::name(b" [label=\"", i);
-    out::space();
+    out::print(format_args!("  s{i} [label=\"{i} "));
     out::rule(rule);
     out::text(b"\\n");
     out::judgement(context, left, right);

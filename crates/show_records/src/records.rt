@@ -33,21 +33,18 @@ fn symbol_line(bundle: &Bundle, i: usize) {
 
 // `v1 : Item`.
 fn variable_line(bundle: &Bundle, i: usize) {
-    out::name(b"v", i);
-    out::text(b" : ");
+    out::print(format_args!("v{i} : "));
     out::sort(bundle.variable_sort(i));
 }
 
 // `t5 = (f34 t2 t2)`: with no budget, parts are numbers.
 fn term_line(bundle: &Bundle, i: usize) {
-    out::name(b"t", i);
-    out::text(b" = ");
+    out::print(format_args!("t{i} = "));
     term(bundle, i, 0);
 }
 
 fn replacement(v: usize, t: usize) {
-    out::name(b", v", v);
-    out::name(b" := t", t);
+    out::print(format_args!(", v{v} := t{t}"));
 }
 
 // `, v1 := t2, v3 := t4`, with t0 where there is no term for a variable.
@@ -63,19 +60,12 @@ fn context_line(bundle: &Bundle, i: usize) {
     let kind = bundle.context_field(i, 0);
     let first = bundle.context_field(i, 1);
     let second = bundle.context_field(i, 2);
-    out::name(b"c", i);
-    out::name(b" = c", bundle.context_field(i, 3));
+    let parent = bundle.context_field(i, 3);
+    out::print(format_args!("c{i} = c{parent}"));
     match Entry::of(kind) {
-        Some(Entry::Fixes) => {
-            out::name(b", v", first);
-            out::text(b" fixed");
-        }
+        Some(Entry::Fixes) => out::print(format_args!(", v{first} fixed")),
         Some(Entry::Replaces) => replacements(bundle, first, second),
-        None => {
-            out::name(b", kind ", kind);
-            out::name(b" ", first);
-            out::name(b" ", second);
-        }
+        None => out::print(format_args!(", kind {kind} {first} {second}")),
     }
 }
 
@@ -94,8 +84,7 @@ fn step_line(bundle: &Bundle, i: usize) {
     let left = bundle.step_field(i, 2);
     let right = bundle.step_field(i, 3);
     let list = bundle.step_field(i, 4);
-    out::number(i);
-    out::text(b". ");
+    out::print(format_args!("{i}. "));
     out::rule(bundle.step_field(i, 0));
     out::text(b"  ");
     out::judgement(context, left, right);

@@ -2,7 +2,6 @@
 use mathlib.Core.Path.{◌≡◌, sym, ◌∙◌, subst}
 use mathlib.Core.Bool.{true}
 use Prim.Native.Nat.{ℕ}
-use Rattle.bundle.specs.Bundle.{Bundle}
 use Rattle.logic.specs.Free.{free_at}
 use Rattle.logic.specs.Contexts.{Mentioned}
 use Rattle.free_variables.specs.FreeSets.{FreeSets}

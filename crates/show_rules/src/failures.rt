@@ -11,14 +11,14 @@ fn false_cong(bundle: &Bundle, context: usize, left: usize, right: usize) {
     let applied = Kind::of(bundle.term_field(left, 0)) == Some(Kind::Application);
     let result = Kind::of(bundle.term_field(right, 0)) == Some(Kind::Application);
     let same = bundle.term_field(left, 1) == bundle.term_field(right, 1);
-    out::name(b" is CONG, and t", left);
     if !(applied & result & same) {
-        out::name(b" and t", right);
-        out::text(b" are not applications of one symbol");
+        out::print(format_args!(
+            " is CONG, and t{left} and t{right} are not applications of one symbol"
+        ));
     } else {
-        out::name(b"'s arguments are not carried to those of t", right);
-        out::name(b", in order and in c", context);
-        out::text(b", by the premises");
+        out::print(format_args!(
+            " is CONG, and t{left}'s arguments are not carried to those of t{right}, in order and in c{context}, by the premises"
+        ));
     }
 }
 
@@ -28,37 +28,25 @@ fn false_bind(bundle: &Bundle, context: usize, left: usize, right: usize) {
     let x = bundle.term_field(left, 1);
     let y = bundle.term_field(right, 1);
     if same & is_binder(kind) {
-        out::name(
-            b" is BIND, and its premise does not carry t",
-            bundle.term_field(left, 2),
-        );
-        out::name(b" to t", bundle.term_field(right, 2));
-        out::name(b" in a context that replaces v", x);
-        out::name(b" alone by v", y);
-        out::name(b", over one that fixes v", y);
-        out::name(b", over c", context);
+        let body = bundle.term_field(left, 2);
+        let other = bundle.term_field(right, 2);
+        out::print(format_args!(
+            " is BIND, and its premise does not carry t{body} to t{other} in a context that replaces v{x} alone by v{y}, over one that fixes v{y}, over c{context}"
+        ));
     } else {
-        out::name(b" is BIND, and t", left);
-        out::name(b" and t", right);
-        out::text(b" are not two for-alls or two exists");
+        out::print(format_args!(
+            " is BIND, and t{left} and t{right} are not two for-alls or two exists"
+        ));
     }
 }
 
 fn false_let(bundle: &Bundle, context: usize, left: usize, right: usize) {
     if Kind::of(bundle.term_field(left, 0)) == Some(Kind::Let) {
-        out::name(
-            b" is LET, and its premises do not carry the bound terms of t",
-            left,
-        );
-        out::name(b" to some terms, in order and in c", context);
-        out::name(b", and then its body to t", right);
-        out::name(
-            b" in a context that replaces its variables by those terms, over c",
-            context,
-        );
+        out::print(format_args!(
+            " is LET, and its premises do not carry the bound terms of t{left} to some terms, in order and in c{context}, and then its body to t{right} in a context that replaces its variables by those terms, over c{context}"
+        ));
     } else {
-        out::name(b" is LET, and t", left);
-        out::text(b" is no let");
+        out::print(format_args!(" is LET, and t{left} is no let"));
     }
 }
 
@@ -74,11 +62,9 @@ pub fn false_step(bundle: &Bundle, k: usize) {
         Some(Rule::Cong) => false_cong(bundle, context, left, right),
         Some(Rule::Bind) => false_bind(bundle, context, left, right),
         Some(Rule::Let) => false_let(bundle, context, left, right),
-        Some(Rule::Trans) | None => {
-            out::name(b" is TRANS, and its premises do not carry t", left);
-            out::name(b" to a middle term and that to t", right);
-            out::name(b", both in c", context);
-        }
+        Some(Rule::Trans) | None => out::print(format_args!(
+            " is TRANS, and its premises do not carry t{left} to a middle term and that to t{right}, both in c{context}"
+        )),
     }
 }
 
@@ -88,18 +74,16 @@ pub fn failed_side(bundle: &Bundle, k: usize) {
     let left = bundle.step_field(k, 2);
     let right = bundle.step_field(k, 3);
     let premise = bundle.link_field(bundle.first_link(bundle.step_field(k, 4)), 0);
-    out::name(b"step ", k);
     if Rule::of(bundle.step_field(k, 0)) == Some(Rule::Trans) {
-        out::name(
-            b" is TRANS, and its middle term, t",
-            bundle.step_field(premise, 3),
-        );
-        out::name(b", has a free variable that is moved in c", context);
+        let middle = bundle.step_field(premise, 3);
+        out::print(format_args!(
+            "step {k} is TRANS, and its middle term, t{middle}, has a free variable that is moved in c{context}"
+        ));
     } else {
-        out::name(b" is BIND, and v", bundle.term_field(right, 1));
-        out::name(b" is free in t", left);
-        out::name(b", or in the image in c", context);
-        out::text(b" of a variable free there");
+        let variable = bundle.term_field(right, 1);
+        out::print(format_args!(
+            "step {k} is BIND, and v{variable} is free in t{left}, or in the image in c{context} of a variable free there"
+        ));
     }
 }
 

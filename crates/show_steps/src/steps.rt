@@ -46,8 +46,8 @@ fn bad_step(bundle: &Bundle, k: usize) {
     let list = bundle.step_field(k, 4);
     out::name(b"step ", k);
     if context > bundle.contexts() {
-        out::name(b": its context is ", context);
-        out::name(b", not 0 to ", bundle.contexts());
+        let contexts = bundle.contexts();
+        out::print(format_args!(": its context is {context}, not 0 to {contexts}"));
     } else if !is_number(left, bundle.terms()) {
         not_to(b": its left is ", left, bundle.terms());
     } else if !is_number(right, bundle.terms()) {
@@ -66,8 +66,7 @@ fn other_claim(bundle: &Bundle, left: usize, right: usize) {
     } else {
         out::text(b"the claim is ");
         out::judgement(0, left, right);
-        out::name(b", and the last step, ", last);
-        out::text(b", gives ");
+        out::print(format_args!(", and the last step, {last}, gives "));
         out::judgement(
             bundle.step_field(last, 1),
             bundle.step_field(last, 2),

@@ -12,25 +12,26 @@ fn not_mentioned(bundle: &Bundle, context: usize, x: usize) {
         return;
     };
     if chain.entries == 1 {
-        out::name(b", and c", context);
-        out::name(b", where its context ends, neither fixes nor replaces v", x);
+        out::print(format_args!(
+            ", and c{context}, where its context ends, neither fixes nor replaces v{x}"
+        ));
     } else {
-        out::name(b", and none of the ", chain.entries);
-        out::name(b" entries of its context, from c", context);
-        out::name(b" up to c", chain.last);
-        out::name(b", where it ends, fixes or replaces v", x);
+        let entries = chain.entries;
+        let last = chain.last;
+        out::print(format_args!(
+            ", and none of the {entries} entries of its context, from c{context} up to c{last}, where it ends, fixes or replaces v{x}"
+        ));
     }
 }
 
 // What to do about it.
 fn advice(context: usize, t: usize, x: usize) {
     if context == 0 {
-        out::name(b": bind v", x);
-        out::name(b" in t", t);
-        out::text(b", or take the step in a context that fixes it");
+        out::print(format_args!(
+            ": bind v{x} in t{t}, or take the step in a context that fixes it"
+        ));
     } else {
-        out::name(b": add an entry that fixes v", x);
-        out::text(b", and bind it in the claim");
+        out::print(format_args!(": add an entry that fixes v{x}, and bind it in the claim"));
     }
 }
 
@@ -43,18 +44,13 @@ pub fn stray_step(bundle: &Bundle, k: usize) {
     let Some(stray) = find(bundle, context, left, right) else {
         return;
     };
-    out::name(b": v", stray.variable);
-    out::name(b" is free in t", stray.term);
-    if stray.term == left {
-        out::text(b", its left");
-    } else {
-        out::text(b", its right");
-    }
-    not_mentioned(bundle, context, stray.variable);
+    let x = stray.variable;
+    let t = stray.term;
+    let side = if t == left { "left" } else { "right" };
+    out::print(format_args!(": v{x} is free in t{t}, its {side}"));
+    not_mentioned(bundle, context, x);
     if let Some(c) = stray.replacer {
-        out::name(b" (c", c);
-        out::name(b" has v", stray.variable);
-        out::text(b" only in a replacement)");
+        out::print(format_args!(" (c{c} has v{x} only in a replacement)"));
     }
-    advice(context, stray.term, stray.variable);
+    advice(context, t, x);
 }

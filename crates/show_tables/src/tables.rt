@@ -29,7 +29,7 @@ pub fn word(check: Check) {
     }
 }
 
-// ---- sentences of one shape
+// ---- sentences of one shape: the numbers after a slice of words are what is printed, no length of the slice
 
 // `WHAT n, not 1 to most`.
 pub fn not_to(what: &[u8], n: usize, most: usize) {
@@ -64,58 +64,53 @@ pub fn is_number(n: usize, most: usize) -> bool {
 // ---- 1 to 3: the file as a whole
 
 pub fn too_short(length: usize) {
-    out::name(b"the file has ", length);
-    out::text(b" bytes, and a header alone has 36");
+    out::print(format_args!("the file has {length} bytes, and a header alone has 36"));
 }
 
 pub fn wrong_length(length: usize, bytes: usize) {
-    out::name(b"the file has ", length);
-    out::name(b" bytes, and its counts ask for ", bytes);
+    out::print(format_args!("the file has {length} bytes, and its counts ask for {bytes}"));
 }
 
 pub fn foreign(version: usize) {
-    out::name(b"the version is ", version);
-    out::text(b", not 1");
+    out::print(format_args!("the version is {version}, not 1"));
 }
 
-fn over(what: &[u8], count: usize, limit: usize) {
-    out::name(b"the header counts ", count);
-    out::text(what);
-    out::name(b", and the limit is ", limit);
+fn over(what: &str, count: usize, limit: usize) {
+    out::print(format_args!("the header counts {count} {what}, and the limit is {limit}"));
 }
 
 // The first count over its limit.
 pub fn oversize(counts: Counts) {
     if counts.symbols > Bundle::SYMBOLS {
-        over(b" symbols", counts.symbols, Bundle::SYMBOLS);
+        over("symbols", counts.symbols, Bundle::SYMBOLS);
     } else if counts.variables > Bundle::VARIABLES {
-        over(b" variables", counts.variables, Bundle::VARIABLES);
+        over("variables", counts.variables, Bundle::VARIABLES);
     } else if counts.terms > Bundle::TERMS {
-        over(b" terms", counts.terms, Bundle::TERMS);
+        over("terms", counts.terms, Bundle::TERMS);
     } else if counts.links > Bundle::LINKS {
-        over(b" links", counts.links, Bundle::LINKS);
+        over("links", counts.links, Bundle::LINKS);
     } else if counts.contexts > Bundle::CONTEXTS {
-        over(b" contexts", counts.contexts, Bundle::CONTEXTS);
+        over("contexts", counts.contexts, Bundle::CONTEXTS);
     } else {
-        over(b" steps", counts.steps, Bundle::STEPS);
+        over("steps", counts.steps, Bundle::STEPS);
     }
 }
 
 // ---- 5: links
 
 pub fn bad_link(bundle: &Bundle, i: usize) {
-    out::name(b"link ", i);
-    out::name(b": its next is ", bundle.link_field(i, 1));
-    out::name(b", neither 0 nor a link after ", i);
-    out::name(b", and the last link is ", bundle.links());
+    let next = bundle.link_field(i, 1);
+    let last = bundle.links();
+    out::print(format_args!(
+        "link {i}: its next is {next}, neither 0 nor a link after {i}, and the last link is {last}"
+    ));
 }
 
 // ---- 6: symbols and variables
 
 fn bad_variable(bundle: &Bundle, i: usize) {
-    out::name(b"v", i);
-    out::name(b": its sort is ", bundle.variable_sort(i));
-    out::text(b", not 0 (Bool) or 1 (Item)");
+    let sort = bundle.variable_sort(i);
+    out::print(format_args!("v{i}: its sort is {sort}, not 0 (Bool) or 1 (Item)"));
 }
 
 fn bad_symbol(bundle: &Bundle, i: usize) {
@@ -123,8 +118,7 @@ fn bad_symbol(bundle: &Bundle, i: usize) {
     let sorts = bundle.symbol_field(i, 1);
     out::declared(i);
     if result > 1 {
-        out::name(b": its result sort is ", result);
-        out::text(b", not 0 (Bool) or 1 (Item)");
+        out::print(format_args!(": its result sort is {result}, not 0 (Bool) or 1 (Item)"));
     } else if sorts > bundle.links() {
         no_list(
             b": its list of sorts starts at link ",

@@ -49,8 +49,7 @@ pub fn bad_context(bundle: &Bundle, i: usize) {
     let parent = bundle.context_field(i, 3);
     out::name(b"c", i);
     if i <= parent {
-        out::name(b": its parent is c", parent);
-        out::text(b", not an earlier context");
+        out::print(format_args!(": its parent is c{parent}, not an earlier context"));
         return;
     }
     match Entry::of(kind) {
@@ -63,8 +62,7 @@ pub fn bad_context(bundle: &Bundle, i: usize) {
 // 11: a replacement moved in its parent.
 pub fn unsettled(bundle: &Bundle, i: usize) {
     let parent = bundle.context_field(i, 3);
-    out::name(b"c", i);
-    out::text(b": one of its terms has a free variable that the parent, ");
-    out::name(b"c", parent);
-    out::text(b", replaces by another term");
+    out::print(format_args!(
+        "c{i}: one of its terms has a free variable that the parent, c{parent}, replaces by another term"
+    ));
 }

@@ -19,9 +19,9 @@ fn bad_variable_term(bundle: &Bundle, v: usize) {
 fn bad_application(bundle: &Bundle, i: usize, f: usize, list: usize) {
     if !is_known(signature_of(bundle, f)) {
         let last = 32 + bundle.symbols();
-        out::name(b" applies symbol ", f);
-        out::name(b", neither built in (1 to 8) nor declared (33 up to ", last);
-        out::close();
+        out::print(format_args!(
+            " applies symbol {f}, neither built in (1 to 8) nor declared (33 up to {last})"
+        ));
     } else if list > bundle.links() {
         no_list(
             b": its list of arguments starts at link ",
@@ -104,22 +104,18 @@ pub fn missorted(bundle: &Bundle, i: usize) {
     out::name(b"t", i);
     match Kind::of(kind) {
         Some(Kind::Application) => {
-            out::name(b": its arguments are not as many as symbol ", first);
-            out::text(b" (");
+            out::print(format_args!(": its arguments are not as many as symbol {first} ("));
             out::symbol(first);
             out::text(b") takes, or not of its sorts");
         }
         Some(Kind::Let) => bad_pairs(bundle, first),
-        _ => {
-            out::name(b": its body, t", second);
-            out::text(b", is not of the sort Bool");
-        }
+        _ => out::print(format_args!(": its body, t{second}, is not of the sort Bool")),
     }
 }
 
 // 9: a term equal to an earlier one. Where 9 is the first check that fails, there is one.
 pub fn repeated_term(bundle: &Bundle, i: usize) {
     let earlier = (1..i).find(|j| same_term(bundle, *j, i));
-    out::name(b"t", i);
-    out::name(b" is the same term as t", earlier.unwrap_or(i));
+    let earlier = earlier.unwrap_or(i);
+    out::print(format_args!("t{i} is the same term as t{earlier}"));
 }

@@ -1,6 +1,13 @@
-// Pieces of text on standard output: words, numbers and names.
+// Pieces of text on standard output: words, numbers and names. A sentence is one format; sorts, symbols and rules are functions, since they are numbers in a
+// file, some of which name none: a `Display` would want a type around each number and the same table.
 use bundle::Bundle;
 use logic::rules::Rule;
+use std::fmt::Display;
+
+// What std's formats give, as `print(format_args!("t{t}"))`.
+pub fn print<D: Display + Drop>(text: D) {
+    printing::print(1, text);
+}
 
 pub fn text(words: &[u8]) {
     io::write_all(1, words);
@@ -10,7 +17,7 @@ pub fn number(n: usize) {
     io::print_decimal(1, n as u64);
 }
 
-// A name is a letter and a number: f33 a symbol, v1 a variable, t5 a term, c2 a context, s3 a step.
+// A name is a letter and a number: f33 a symbol, v1 a variable, t5 a term, c2 a context, s3 a step. The number is what is printed, no length of the slice.
 pub fn name(letter: &[u8], n: usize) {
     text(letter);
     number(n);
@@ -74,9 +81,5 @@ pub fn rule(r: usize) {
 
 // What a step says: c1 ▷ t3 ≃ t4.
 pub fn judgement(context: usize, left: usize, right: usize) {
-    name(b"c", context);
-    text(b" \xe2\x96\xb7 ");
-    name(b"t", left);
-    text(b" \xe2\x89\x83 ");
-    name(b"t", right);
+    print(format_args!("c{context} ▷ t{left} ≃ t{right}"));
 }

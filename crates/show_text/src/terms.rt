@@ -31,6 +31,7 @@ fn open_body() {
     out::text(b") ");
 }
 
+// A name, and the budget as it was. The number is what is printed, no length of the slice.
 fn leaf(letter: &[u8], n: usize, budget: usize) -> usize {
     out::name(letter, n);
     budget

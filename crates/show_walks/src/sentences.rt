@@ -8,11 +8,9 @@ use show_text::out;
 
 // The image of the variable is another term, or the variable itself.
 fn other_image(context: usize, x: usize, image: Image) {
-    out::name(b"the image of v", x);
-    out::name(b" in c", context);
     match image {
-        Image::Own => out::name(b" is v", x),
-        Image::Gives(t) => out::name(b" is t", t),
+        Image::Own => out::print(format_args!("the image of v{x} in c{context} is v{x}")),
+        Image::Gives(t) => out::print(format_args!("the image of v{x} in c{context} is t{t}")),
     }
 }
 
@@ -26,22 +24,22 @@ fn why(context: usize, right: usize, x: usize, reason: Reason) {
             b"these bind different numbers of variables, or variables of different sorts",
         ),
         Reason::Unmatched(y) => {
-            out::name(b"v", x);
-            out::name(b" is bound, and t", right);
             // v0 where there is none.
-            out::name(b" is not v", y.unwrap_or(0));
-            out::text(b", the variable of the matching binder");
+            let y = y.unwrap_or(0);
+            out::print(format_args!(
+                "v{x} is bound, and t{right} is not v{y}, the variable of the matching binder"
+            ));
         }
         Reason::Hidden(y) => {
-            out::name(b"v", x);
-            out::name(b" is bound, and a nearer binder on the right hides v", y);
-            out::text(b", the variable of the matching one");
+            out::print(format_args!(
+                "v{x} is bound, and a nearer binder on the right hides v{y}, the variable of the matching one"
+            ));
         }
         Reason::Image(image) => other_image(context, x, image),
         Reason::Capture(y) => {
-            out::name(b"v", y);
-            out::name(b" is free in t", right);
-            out::text(b", and a binder crossed on the right captures it");
+            out::print(format_args!(
+                "v{y} is free in t{right}, and a binder crossed on the right captures it"
+            ));
         }
         Reason::Spent => out::text(b"there is no difference"),
     }
@@ -51,12 +49,10 @@ fn why(context: usize, right: usize, x: usize, reason: Reason) {
 pub fn failed_walk(bundle: &Bundle, context: usize, left: usize, right: usize) {
     let end = first_difference(bundle, context, left, right);
     let x = bundle.term_field(end.left, 1);
-    out::name(b" is REFL, and t", left);
-    out::name(b" is not taken to t", right);
-    out::name(b" by the images in c", context);
-    out::name(b": the walk ends at t", end.left);
-    out::name(b" and t", end.right);
-    out::text(b", where ");
+    out::print(format_args!(
+        " is REFL, and t{left} is not taken to t{right} by the images in c{context}: the walk ends at t{} and t{}, where ",
+        end.left, end.right
+    ));
     match end.reason {
         Some(reason) => why(context, end.right, x, reason),
         None => out::text(b"there is no difference"),
@@ -65,7 +61,7 @@ pub fn failed_walk(bundle: &Bundle, context: usize, left: usize, right: usize) {
 
 // 21: the walk of a REFL would be too long.
 pub fn spent_walk(left: usize, right: usize) {
-    out::name(b" is REFL, and its walk from t", left);
-    out::name(b" and t", right);
-    out::text(b" would visit more than 4,096 pairs: hand over smaller steps");
+    out::print(format_args!(
+        " is REFL, and its walk from t{left} and t{right} would visit more than 4,096 pairs: hand over smaller steps"
+    ));
 }

@@ -9,7 +9,8 @@ use super::sorts::{result_sort, signature_of, sort_in};
 use bundle::Bundle;
 use logic::kinds::Kind;
 
-// The sort of term t by its record, from the sorts of the terms below it.
+// The sort of term t by its record, from the sorts of the terms below it. 0, the sort of truths, for a binder, and for what has no kind, as the definition
+// has it.
 fn sort_by(bundle: &Bundle, sorts: &[usize], t: usize) -> usize
     ensures { result ≡ sort_by bundle.now (λ i. get_or sorts.now i 0) (term_of bundle.now t) }
 {

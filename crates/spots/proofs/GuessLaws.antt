@@ -346,12 +346,9 @@ seeking_start text a low top stop i e =
         held = [];
         sound = sound_origin text;
         reached = r;
-        guessed = record { deep = refl; spot = λ l m. refl; stored = λ j l m o. absurd (off j m) };
+        guessed = record { deep = refl; spot = λ l m. refl; stored = λ j l m o. absurd (omega (arith, m)) };
       });
     }
-  where
-    off : (j : ℕ) → j < 0 → ⊥
-    off j l = omega arith
 
 module _ (text a : List ℕ) (low top stop depth g i : ℕ) (h : Seeking text a low top stop depth g i) where
   pub seeking_on : i < stop → (b : List ℕ) (at r : Guess) → at.depth ≡ depth → at.spot ≡ g → GuessTurned text a b low top at i r

@@ -7,7 +7,7 @@ use Prim.Native.Nat.{ℕ, suc, ◌+◌, ◌-◌, ◌≤◌, ◌<◌}
 use native.Mathlib.Omega.{arith}
 use native.Mathlib.Numerals.{add-one}
 use mathlib.Core.Path.{◌≡◌, refl, sym, ap, ◌∙◌}
-use mathlib.Core.Bool.{Bool, true, false, cond, not, ◌&&◌, ◌||◌, true≢false, false≢true}
+use mathlib.Core.Bool.{Bool, true, false, cond, not, ◌&&◌, ◌||◌, true≢false, false≢true, or-false}
 use mathlib.Core.List.{List, [], ◌∷◌, ◌++◌, map}
 use mathlib.Core.Option.{none, some, none-ne-some}
 use lib.ListN.{length, get_or, drop}
@@ -17,26 +17,7 @@ use borrow.Author.Tests.{lt-ltb, le-ltb, eq-eqb, ne_eqb, eqb-true, eqb-false, no
 use Rattle.bundle.specs.Lists.{each, same_list}
 use Rattle.logic.specs.Tests.{Fault, fault}
 use Rattle.logic.proofs.Tests.{and_left, and_right}
-use Rattle.grammar.specs.Bytes.{
-  Class,
-  space,
-  lineEnd,
-  semicolon,
-  opening,
-  closing,
-  digit,
-  symbol,
-  other,
-  Word,
-  constant,
-  negation,
-  connective,
-  quantifier,
-  letting,
-  sort,
-  name,
-  class_of,
-}
+use Rattle.grammar.specs.Bytes.{Class, space, lineEnd, semicolon, opening, closing, digit, symbol, other, Word, constant, negation, connective, quantifier, letting, sort, name, class_of}
 use Rattle.grammar.specs.Bytes.{word_of, bytes, twelve, Reserved}
 use Rattle.grammar.specs.Grammar.{opens, closes, word, stray, between, within}
 use Rattle.grammar.specs.Parser.{Due, stack_of, takes, run, feed, and_then, finish, starts, may_grow}
@@ -106,11 +87,7 @@ sort_meant_lem c w = go (eqb c 66) refl
 
     go : (b : Bool) → eqb c 66 ≡ b
         → (starts (c ∷ w) (bytes "Bool") || starts (c ∷ w) (bytes "Item")) ≡ starts (c ∷ w) (cond b (bytes "Bool") (bytes "Item"))
-    go true e = rw (e, ne_eqb c 73 (off (eqb-true c 66 e))) (or_not (starts w (bytes "ool")))
-      where
-        or_not : (b : Bool) → (b || false) ≡ b
-        or_not true = refl
-        or_not false = refl
+    go true e = rw (e, ne_eqb c 73 (off (eqb-true c 66 e))) (or-false (starts w (bytes "ool")))
     go false e = rw e
 
 module _ (known : Name → Bool) (text : List ℕ) where
@@ -238,10 +215,7 @@ module _ (known : Name → Bool) (text : List ℕ) where
         by_sort g true q =
             let k : starts (c ∷ run_of xs) t ≡ true = sym (g (run_of xs)) ∙ so in
             run_sort known σ t i c g xs [] (suc i) (omega arith) q ∙ rw k whole
-        by_sort g false q = absurd (true≢false (sym so ∙ g (run_of xs) ∙ (cut [] (run_of xs) c t (starts_nil t) q).0))
-          where
-            starts_nil : (v : List ℕ) → starts [] v ≡ true
-            starts_nil v = refl
+        by_sort g false q = absurd (true≢false (sym so ∙ g (run_of xs) ∙ (cut [] (run_of xs) c t refl q).0))
 
         go : (a b : Bool) → eqb (cell s 11) 0 ≡ a → eqb (cell s 11) 1 ≡ b
             → cond (may_grow (c ∷ []) σ) (judge_from known (suc i) xs (state (within (c ∷ [])) σ)) (fault 19 i) ≡ Whole
@@ -282,11 +256,8 @@ module _ (known : Name → Bool) (text : List ℕ) where
             let k : starts (c ∷ run_of xs) t ≡ false = sym (g (run_of xs)) ∙ so in
             run_sort known σ t i c g xs [] (suc i) (omega arith) q ∙ rw (k, meant, parts)
         by_sort g false q =
-            let z = (cut [] (run_of xs) c t (starts_nil t) q).1 in
+            let z = (cut [] (run_of xs) c t refl q).1 in
             rw (meant, parts, z) at_once
-          where
-            starts_nil : (v : List ℕ) → starts [] v ≡ true
-            starts_nil v = refl
 
         go : (a b : Bool) → eqb (cell s 11) 0 ≡ a → eqb (cell s 11) 1 ≡ b
             → cond (may_grow (c ∷ []) σ) (judge_from known (suc i) xs (state (within (c ∷ [])) σ)) (fault 19 i)

@@ -1,15 +1,10 @@
 -- THE VERDICT of the parser that keeps no formula is that of 19 and 20 together.
 --     resolved_judged
---     declared_known      what is declared, by counts
 use Prim.Native.Nat.{ℕ, suc}
-use mathlib.Core.Path.{◌≡◌, refl, sym, fun_ext}
+use mathlib.Core.Path.{◌≡◌, refl}
 use mathlib.Core.Bool.{Bool, true, false, cond}
 use mathlib.Core.List.{List, [], ◌∷◌, ◌++◌}
 use mathlib.Core.Option.{Option, none, some}
-use lib.ListN.{length}
-use Rattle.bundle.specs.Bundle.{Bundle}
-use Rattle.reading.specs.Called.{known_in}
-use Rattle.lexing.proofs.NumeralLaws.{counts_suffice}
 use Rattle.grammar.specs.Bytes.{class_of}
 use Rattle.grammar.specs.Grammar.{Formula}
 use Rattle.grammar.specs.Parser.{State, step, finish, on_read, on_step, parse_from, start, parse}
@@ -17,7 +12,7 @@ use Rattle.grammar.specs.Names.{Name, Located, ends_at, ended_by, while_steps, m
 use Rattle.grammar.specs.Names as N
 use Rattle.grammar.proofs.Erased.{mapped, state_by, step_by, finish_by}
 use Rattle.spots.specs.Spots.{wants, wanted, owed, due_at}
-use Rattle.spots.specs.Judgement.{declared_by, verdict_of, unknown_or, go_on, at_end, judge_from, standing}
+use Rattle.spots.specs.Judgement.{verdict_of, unknown_or, go_on, at_end, judge_from, standing}
 
 module _ (known : Name → Bool) where
   erased : State Formula → State (Unit {0})
@@ -60,8 +55,3 @@ module _ (known : Name → Bool) where
   pub resolved_judged : (text : List ℕ) → verdict_of (resolve known text) ≡ judge_from known 0 text (standing 1 [])
   unfolding resolve N.met parse start erased due_at owed wanted wants
   resolved_judged text = agrees text 0 start
-
--- the names declared by a bundle, by its counts alone
-pub declared_known : (b : Bundle) → declared_by (length b.symbols) (length b.variables) ≡ known_in b
-unfolding declared_by known_in
-declared_known b = fun_ext (λ x. sym ((counts_suffice b x.spelled).known x.place))

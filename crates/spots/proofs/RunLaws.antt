@@ -14,8 +14,8 @@ use lib.ListN.{length, get_or, drop, length-drop, drop_of_length-le}
 use lib.Seq.{drop-cons, drop-drop, length-take-le, get_or-drop}
 use lib.Dec.{eqb, ltb}
 use borrow.Author.Tests.{eq-eqb, ne_eqb, le-ltb, ltb-true, ltb-false}
+use Rattle.std.proofs.lemmas.Bool.{or_parts}
 use Rattle.grammar.specs.Bytes.{bytes}
-use Rattle.grammar.proofs.Words.{or_false}
 use Rattle.lexing.specs.Common.{common}
 use Rattle.spots.specs.Runs.{code_of, blanks, lexeme_from, run_length, run_end, sort_meant, sort_start}
 use Rattle.spots.specs.Traces.{run_at}
@@ -117,12 +117,12 @@ module _ (text : List ℕ) (from j : ℕ) (m : Bool) (h : Skipping text from j m
     pub skipping_found : (m || ltb k 3) ≡ false → j ≡ lexeme_from text from
     unfolding blanks
     skipping_found q =
-        let z : blanks m (drop j text) ≡ 0 = rw (drop-cons text j 0 l, (or_false m (ltb k 3) q).0) (stops (ltb 2 (code_of (get_or text j 0))) refl) in omega
+        let z : blanks m (drop j text) ≡ 0 = rw (drop-cons text j 0 l, (or_parts m (ltb k 3) q).0) (stops (ltb 2 (code_of (get_or text j 0))) refl) in omega
         (arith, h.rest, z)
       where
         stops : (b : Bool) → ltb 2 (code_of (get_or text j 0)) ≡ b → cond b 0 (suc (blanks (eqb (code_of (get_or text j 0)) 2) (drop (suc j) text))) ≡ 0
         stops true x = refl
-        stops false x = absurd (off (ltb-false k 3 (or_false m (ltb k 3) q).1) (ltb-false 2 (code_of (get_or text j 0)) x))
+        stops false x = absurd (off (ltb-false k 3 (or_parts m (ltb k 3) q).1) (ltb-false 2 (code_of (get_or text j 0)) x))
           where
             off : 3 ≤ k → code_of (get_or text j 0) ≤ 2 → ⊥
             off x y = omega (arith, e)
@@ -180,10 +180,7 @@ common_within (x ∷ u) (y ∷ v) = go (eqb x y) (common_within u v)
 pub sort_none : (w : List ℕ) → length w ≡ 0 → 0 ≡ sort_start w
 unfolding sort_start common
 sort_none [] e = refl
-sort_none (c ∷ w) e = absurd (off e)
-  where
-    off : suc (length w) ≡ 0 → ⊥
-    off e = omega arith
+sort_none (c ∷ w) e = absurd (omega (arith, e))
 
 pub sort_bool : (w : List ℕ) (r : ℕ) → (length w ≡ 0 → ⊥) → get_or w 0 0 ≡ 66 → r ≡ common w (66 ∷ 111 ∷ 111 ∷ 108 ∷ []) → r ≡ sort_start w
 unfolding sort_start sort_meant bytes

@@ -13,23 +13,7 @@ use lib.Dec.{eqb, ltb}
 use Rattle.std.proofs.Common.{rules}
 use Rattle.grammar.specs.Bytes.{Word, constant, negation, connective, quantifier, letting, sort, name, bytes}
 use Rattle.grammar.specs.Grammar.{Lexeme, opens, closes, word, stray}
-use Rattle.grammar.specs.Parser.{
-  Due,
-  Stack,
-  stack_of,
-  takes,
-  and_then,
-  push,
-  advance,
-  on_formula,
-  on_formulas,
-  on_inside,
-  on_variable,
-  on_sort,
-  complete,
-  starts,
-  may_grow,
-}
+use Rattle.grammar.specs.Parser.{Due, Stack, stack_of, takes, and_then, push, advance, on_formula, on_formulas, on_inside, on_variable, on_sort, complete, starts, may_grow}
 use Rattle.grammar.specs.Names.{Name, name_at, word_at, met_at}
 use Rattle.lexing.specs.Codes.{word_code}
 use Rattle.lexing.specs.Counted.{place_of}
@@ -42,10 +26,7 @@ Upto P zero = Unit {0}
 Upto P (suc n) = Upto P n × P n
 
 upto_at : (P : ℕ → Type 0) (n : ℕ) → Upto P n → (i : ℕ) → i < n → P i
-upto_at P zero h i l = absurd (no_lt i l)
-  where
-    no_lt : (i : ℕ) → i < 0 → ⊥
-    no_lt i l = omega arith
+upto_at P zero h i l = absurd (omega (arith, l))
 upto_at P (suc n) h i l = go (ℕ_discrete i n) (upto_at P n h.0 i)
   where
     go : Dec (i ≡ n) → (i < n → P i) → P i

@@ -10,9 +10,10 @@ use mathlib.Core.Logic.{◌⊎◌, inl, inr}
 use lib.ListN.{length}
 use lib.Dec.{eqb, ltb}
 use borrow.Author.Tests.{lt-ltb, le-ltb, ne_eqb, eqb-true, ltb-true, not-true}
+use Rattle.std.proofs.lemmas.Bool.{or_cases}
 use Rattle.bundle.specs.Lists.{has, each, same_list}
 use Rattle.logic.specs.Tests.{up_to}
-use Rattle.logic.proofs.Tests.{up_to_lem, and_left, and_right, or_cases, same_list_lem, each_has}
+use Rattle.logic.proofs.Tests.{up_to_lem, and_left, and_right, same_list_lem, each_has}
 use Rattle.spots.specs.Spots.{cell, behind, Nested, taken_for, alike}
 use Rattle.spots.specs.Levels.{level}
 
@@ -159,10 +160,7 @@ plain_facts = refl
 
 pub nested_plain : (s : ℕ) (held : List ℕ) → Nested s held → each plain (behind s) ≡ true → (j : ℕ) → j < length held → plain (level held j) ≡ true
 unfolding has plain level
-nested_plain s [] h e j l = absurd (off l)
-  where
-    off : j < 0 → ⊥
-    off l = omega arith
+nested_plain s [] h e j l = absurd (omega (arith, l))
 nested_plain s (u ∷ held) h e j l = go (eqb j (length held)) refl (nested_plain u held h.1 (under u (each_has plain (behind s) e u h.0)) j)
   where
     under : (u : ℕ) → plain u ≡ true → each plain (behind u) ≡ true

@@ -28,10 +28,7 @@ unfolding level
 level_under u held j l = rw (ne_eqb j (length held) (λ e. omega arith))
 
 pub window_start : (a : List ℕ) → Window a 0 0 []
-window_start a = record { depth = refl; fits = omega arith; stored = λ j l. absurd (off j l) }
-  where
-    off : (j : ℕ) → j < 0 → ⊥
-    off j l = omega arith
+window_start a = record { depth = refl; fits = omega arith; stored = λ j l. absurd (omega (arith, l)) }
 
 module _ (a : List ℕ) (h b : ℕ) (held : List ℕ) (w : Window a h b held) (v : ℕ) where
   window_push : h < length a → Window (set a h v) (h + 1) b (v ∷ held)
@@ -103,10 +100,7 @@ window_pop a h b u held w n = (
 )
 
 pub window_below : (a : List ℕ) (h b u : ℕ) (held : List ℕ) → Window a h b (u ∷ held) → h ≡ 0 → Window a 0 (b - 1) held
-window_below a h b u held w z = record { depth = omega (arith, w.depth); fits = omega arith; stored = λ j l. absurd (off j l) }
-  where
-    off : (j : ℕ) → j < 0 → ⊥
-    off j l = omega arith
+window_below a h b u held w z = record { depth = omega (arith, w.depth); fits = omega arith; stored = λ j l. absurd (omega (arith, l)) }
 
 -- ---- levels that are found again
 

@@ -22,6 +22,8 @@ pub fn sections_fault(sorted: &SortedBundle) -> Result<(), Failure>
 }
 
 // The same, with room for the sorts: a file with few terms gets little. `noted_fault` of `checker` is alike, and says why there are two.
+// Each room is one array and two lines: a function with a const size would be longer than both, where `late_fault_within` of checker has two arrays and three
+// sizes.
 fn noted_sections(bundle: &Bundle) -> Result<(), Failure>
     ensures { fault_in result ≡ sections_fault bundle.now }
 {

@@ -1,5 +1,6 @@
 // Checks 7, 8 and 9: a term's references, its sorts, and whether it is equal to an earlier one.
-ghost use Rattle.std.specs.Prelude.{◌≡◌, true, ◌-◌, ◌≤◌, ◌<◌, length, IfOk};
+ghost use Rattle.std.specs.Prelude.{◌≡◌, true, ◌+◌, ◌-◌, ◌≤◌, ◌<◌, length, IfOk};
+ghost use Rattle.bundle.specs.Limits.{limits};
 ghost use Rattle.bundle.specs.Bundle.{term_of};
 ghost use Rattle.bundle.specs.Lists.{numbers};
 ghost use Rattle.bundle.specs.LinkNotes.{Zeros, LowerNoted};
@@ -8,13 +9,14 @@ ghost use Rattle.logic.specs.Terms.{kind_of};
 ghost use Rattle.logic.specs.Tests.{passed};
 ghost use Rattle.logic.specs.Checks.{refers_as, sorted_as, term_fault, terms_fault};
 ghost use Rattle.bundle.specs.RecordWords.{as_term};
-ghost use Rattle.duplicates.specs.Digests.{term_digest, FiledBelow};
+ghost use Rattle.duplicates.specs.Digests.{term_digest, EarlierThan};
 ghost use Rattle.sorting.specs.Notes.{Fitting};
 
 use bundle::Bundle;
-use bundle::digests::{DIGESTS, Digest};
+use bundle::digests::Digest;
 use bundle::records::TermWords;
-use duplicates::{digest, is_new};
+use duplicates::digest;
+use duplicates::earlier::Earlier;
 use logic::checks::{Check, Failure};
 use logic::kinds::Kind;
 use sorting::sorted_bundle::SortedBundle;
@@ -86,14 +88,13 @@ fn term_fault(
     sorted: &SortedBundle,
     lower: &mut [u8],
     fitting: &mut [u16],
-    heads: &[u16; DIGESTS],
-    next: &[u16],
+    earlier: &Earlier<'_>,
     w: TermWords,
     i: usize,
     d: Digest,
 ) -> Result<(), Check>
     requires whole { LowerNoted sorted.now (i - 1) lower.old × Fitting sorted.now fitting.old }
-    requires fact { FiledBelow sorted.now heads.now next.now i × (1 ≤ i) × (i < length next.now) × (d ≡ term_digest sorted.now (term_of sorted.now i)) × (as_term w
+    requires fact { EarlierThan sorted.now earlier.now i × (1 ≤ i) × (i < length earlier.now.next) × (d ≡ term_digest sorted.now (term_of sorted.now i)) × (as_term w
         ≡ term_of sorted.now i) }
     ensures { (number_in result ≡ term_fault sorted.now i)
         × IfOk result (λ _. LowerNoted sorted.now (i - 1) lower.new × Fitting sorted.now fitting.new) }
@@ -105,7 +106,7 @@ fn term_fault(
     if !term_sorted(sorted, fitting, w) {
         return Err(Check::Sorted);
     }
-    if !is_new(bundle, heads, next, i, d) {
+    if !earlier.is_new(bundle, i, d) {
         return Err(Check::New);
     }
     Ok(())
@@ -123,51 +124,48 @@ fn noted_fault(
     ensures { fault_in result ≡ terms_fault sorted.now }
 {
     let bundle = sorted.bundle();
-    let mut heads = [0u16; DIGESTS];
+    let mut earlier = Earlier::none(next);
     for i in 1..bundle.terms() + 1 {
         let w = bundle.term_words(i);
         let d = digest(bundle, w);
-        if let Err(check) = term_fault(sorted, lower, fitting, &heads, next, w, i, d) {
+        if let Err(check) = term_fault(sorted, lower, fitting, &earlier, w, i, d) {
             return Err(Failure { check, record: i });
         }
-        let place = d.place();
-        next[i] = heads[place];
-        heads[place] = i as u16;
+        earlier.file(i, d);
     }
     Ok(())
 }
 
-// The first bad term of a small file: arrays for all that a file can have take longer to clear than such a file takes to check.
-fn small_fault(sorted: &SortedBundle) -> Result<(), Failure>
-    requires { (length sorted.now.terms < 256) × (length sorted.now.links < 512) }
+// The first bad term of a file with fewer than LINKS links and TERMS terms, with arrays of its own.
+fn fault_within<const LINKS: usize, const TERMS: usize>(
+    sorted: &SortedBundle,
+) -> Result<(), Failure>
+    requires { (length sorted.now.links < LINKS) × (LINKS ≤ limits.links + 1) × (length sorted.now.terms < TERMS) × (TERMS ≤ limits.terms + 1) }
     ensures { fault_in result ≡ terms_fault sorted.now }
 {
-    let mut lower = [0u8; 512];
-    let mut fitting = [0u16; 512];
-    let mut next = [0u16; 256];
+    let mut lower = [0u8; LINKS];
+    let mut fitting = [0u16; LINKS];
+    let mut next = [0u16; TERMS];
     noted_fault(sorted, &mut lower, &mut fitting, &mut next)
 }
 
-// The first bad term of any file.
-fn large_fault(sorted: &SortedBundle) -> Result<(), Failure>
-    ensures { fault_in result ≡ terms_fault sorted.now }
-{
-    let bundle = sorted.bundle();
-    // The arrays have a place for each link and each term.
-    prove!((bundle.links() <= Bundle::LINKS) & (bundle.terms() <= Bundle::TERMS));
-    let mut lower = [0u8; Bundle::LINKS + 1];
-    let mut fitting = [0u16; Bundle::LINKS + 1];
-    let mut next = [0u16; Bundle::TERMS + 1];
-    noted_fault(sorted, &mut lower, &mut fitting, &mut next)
-}
+// A small file has fewer links and terms than these: arrays for all that a file can have take longer to clear than it takes to check.
+const FEW_LINKS: usize = 512;
+
+const FEW_TERMS: usize = 256;
+
+// A place for each link, and for each term, of any file.
+const ALL_LINKS: usize = Bundle::LINKS + 1;
+
+const ALL_TERMS: usize = Bundle::TERMS + 1;
 
 // The first bad term.
 pub fn terms_fault(sorted: &SortedBundle) -> Result<(), Failure>
     ensures { fault_in result ≡ terms_fault sorted.now }
 {
     let bundle = sorted.bundle();
-    if (bundle.terms() < 256) & (bundle.links() < 512) {
-        return small_fault(sorted);
+    if (bundle.terms() < FEW_TERMS) & (bundle.links() < FEW_LINKS) {
+        return fault_within::<FEW_LINKS, FEW_TERMS>(sorted);
     }
-    large_fault(sorted)
+    fault_within::<ALL_LINKS, ALL_TERMS>(sorted)
 }

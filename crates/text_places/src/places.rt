@@ -56,15 +56,10 @@ pub fn line_end(text: &[u8], at: usize) -> usize
     requires { at ≤ length text.now }
     ensures { LineEnds text.now at result }
 {
-    for j in at..text.len() {
-        if text[j] == 10 {
-            return j;
-        }
-        if text[j] == 13 {
-            return j;
-        }
+    match text[at..].iter().position(|b| (*b == 10) | (*b == 13)) {
+        Some(n) => at + n,
+        None => text.len(),
     }
-    text.len()
 }
 
 // Whether a byte is white space.
@@ -78,10 +73,8 @@ fn is_space(b: u8) -> bool
 pub fn content_end(text: &[u8]) -> usize
     ensures { ContentEnds text.now result }
 {
-    for j in (0..text.len()).rev() {
-        if !is_space(text[j]) {
-            return j + 1;
-        }
+    match text.iter().rposition(|b| !is_space(*b)) {
+        Some(j) => j + 1,
+        None => 0,
     }
-    0
 }

@@ -5,10 +5,11 @@ ghost use Rattle.std.specs.Prelude.{◌≤◌, ◌<◌, length};
 
 use bundle::Bundle;
 use logic::checks::{Check, Failure};
+use std::fmt::Display;
 use text_places::places::{content_end, line_end, place_of};
 use text_places::shown::{mark_line, shown_from, shown_line, shown_to};
 
-// The first bytes of an area, so many as a call that wrote to it has answered.
+// The first bytes of an area, so many as a call that wrote to it has answered: a call answers with a length, and fills an area that is lent.
 pub fn write_start(file: i32, area: &[u8], length: usize) {
     if let Some(start) = area.get(..length) {
         io::write_all(file, start);
@@ -19,34 +20,32 @@ fn put(words: &[u8]) {
     io::write_all(2, words);
 }
 
-// Words, and a number after them.
-fn put_number(words: &[u8], n: usize) {
-    put(words);
-    io::print_decimal(2, n as u64);
+// What std's formats give; the lines of the text, which need not be UTF-8, go by `put`.
+fn print<D: Display + Drop>(text: D) {
+    printing::print(2, text);
 }
 
 fn limits() {
-    put_number(
-        b"the declarations have too many records: there may be ",
+    print(format_args!(
+        "the declarations have too many records: there may be {} symbols, {} variables and {} links, and nothing else",
         Bundle::SYMBOLS,
-    );
-    put_number(b" symbols, ", Bundle::VARIABLES);
-    put_number(b" variables and ", Bundle::LINKS);
-    put(b" links, and nothing else");
+        Bundle::VARIABLES,
+        Bundle::LINKS
+    ));
 }
 
 fn full() {
-    put_number(b"the formula is too large: a job may have ", Bundle::TERMS);
-    put_number(b" terms and ", Bundle::LINKS);
-    put(b" links, and equal parts count once");
+    print(format_args!(
+        "the formula is too large: a job may have {} terms and {} links, and equal parts count once",
+        Bundle::TERMS,
+        Bundle::LINKS
+    ));
 }
 
 fn bad_sort(record: usize) {
-    put_number(b"symbol ", record);
-    put_number(b" or variable ", record);
-    put(
-        b" of the declarations has a sort that is not 0 or 1, or a list that starts past the links",
-    );
+    print(format_args!(
+        "symbol {record} or variable {record} of the declarations has a sort that is not 0 or 1, or a list that starts past the links"
+    ));
 }
 
 // What is wrong where no byte of the text is: with the declarations, or with the formula as a whole.
@@ -57,10 +56,10 @@ fn whole(failure: Failure) {
         ),
         Check::Version => put(b"the declarations are of a version other than 1"),
         Check::Limits => limits(),
-        Check::Next => put_number(
-            b"the declarations have a link that leads to no later one: link ",
-            failure.record,
-        ),
+        Check::Next => print(format_args!(
+            "the declarations have a link that leads to no later one: link {}",
+            failure.record
+        )),
         Check::Declared => bad_sort(failure.record),
         Check::Sorted => put(
             b"a sort or a number of arguments is wrong, a let has a variable twice, or the formula is not Bool",
@@ -75,22 +74,14 @@ fn whole(failure: Failure) {
 }
 
 // `the symbols f33 to f36`.
-fn names(kind: &[u8], letter: &[u8], first: usize, last: usize) {
+fn names(kind: &str, letter: char, first: usize, last: usize) {
     if last < first {
-        put(b"no ");
-        put(kind);
-        return;
+        print(format_args!("no {kind}"));
+    } else if first == last {
+        print(format_args!("the {kind} {letter}{first}"));
+    } else {
+        print(format_args!("the {kind}s {letter}{first} to {letter}{last}"));
     }
-    put(b"the ");
-    put(kind);
-    if first == last {
-        put_number(letter, first);
-        return;
-    }
-    put(b"s");
-    put_number(letter, first);
-    put(b" to");
-    put_number(letter, last);
 }
 
 // A name that is refused, beside declarations that passed their checks.
@@ -101,9 +92,9 @@ fn unknown(declarations: &[u8]) {
         let symbols = b.symbols;
         if symbols <= Bundle::SYMBOLS {
             put(b": there are ");
-            names(b"symbol", b" f", 33, 32 + symbols);
+            names("symbol", 'f', 33, 32 + symbols);
             put(b" and ");
-            names(b"variable", b" v", 1, b.variables);
+            names("variable", 'v', 1, b.variables);
         }
     }
 }
@@ -156,9 +147,7 @@ fn put_place(text: &[u8], at: usize)
     requires { at ≤ length text.now }
 {
     let place = place_of(text, at);
-    put_number(b"line ", place.line);
-    put_number(b", column ", place.column);
-    put(b": ");
+    print(format_args!("line {}, column {}: ", place.line, place.column));
 }
 
 // The text's end, where the formula is not complete: the last line with anything in it is shown.
@@ -168,7 +157,7 @@ fn too_short(text: &[u8]) {
     show_line(text, content_end(text));
 }
 
-// A byte of the text that is refused.
+// A byte of the text that is refused, told by its place.
 fn at_byte(declarations: &[u8], text: &[u8], check: Check, at: usize)
     requires { at < length text.now }
 {
@@ -192,9 +181,7 @@ fn in_text(declarations: &[u8], text: &[u8], failure: Failure) {
 }
 
 pub fn refusal(declarations: &[u8], text: &[u8], failure: Failure) {
-    put_number(b"refused ", failure.check.number());
-    put_number(b" ", failure.record);
-    put(b": ");
+    print(format_args!("refused {} {}: ", failure.check.number(), failure.record));
     match failure.check {
         Check::Text | Check::Name => in_text(declarations, text, failure),
         _ => whole(failure),

@@ -1,7 +1,6 @@
 -- Laws of writing one term's set.
 --     kept_refl, kept_trans, below_kept, room_kept     what stays while only one set is written
 --     unite_zero, unite_high, unite_low                the set of another term united: none, not lower, lower
---     lower_room                                       where that stands, if it is lower
 --     remove_put                                       a variable removed
 --     partly_refl, partly_on, partly_end           loops over lists: the set so far, and what is left to add
 --     removing_turn, removing_end                  the same, and what is left to remove
@@ -63,10 +62,6 @@ module _ (w : List ℕ) (n t at i : ℕ) where
 
   pub unite_high : t ≤ i → Put w w n at (λ x. member w at n x || set_below w n t i x)
   unite_high h = none_below (rw (le-ltb i t h) (and-false (ltb 0 i)))
-
-  -- the set of a lower term stands below
-  pub lower_room : SetRoom w n t at → (i ≡ 0 → ⊥) → i < t → (n * (i - 1) + n ≤ at) × (at + n ≤ length w)
-  lower_room room some low = (omega (arith, room.start, record_within n (t - 1) i some (omega arith)), room.room)
 
   pub unite_low : (v : List ℕ) → SetRoom w n t at → (i ≡ 0 → ⊥) → i < t → v ≡ united w at (n * (i - 1)) n
       → Put w v n at (λ x. member w at n x || set_below w n t i x)

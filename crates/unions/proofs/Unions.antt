@@ -7,8 +7,7 @@
 --     frees_lower, known_put                  the union of a known list, as its terms' sets give it now
 --     unions_learnt                           a link made known from the link after it
 --     unions_none, unions_later               no link is known at first; what is known for t is known for t + 1
---     links_room                              room for all links
---     below_none, below_same, below_on        the sets below t while that of t is written; and below t + 1 then
+--     below_same, below_on                    the sets below t while that of t is written; and below t + 1 then
 --     partly_put                              a list's first terms united, then its rest
 use mathlib.Core.Path.{◌≡◌, refl, sym, ap, ◌∙◌}
 use mathlib.Core.Logic.{◌⊎◌, inl, inr}
@@ -17,13 +16,14 @@ use mathlib.Core.List.{List, [], ◌∷◌}
 use Prim.Native.Nat.{ℕ, zero, suc, ◌+◌, ◌*◌, ◌-◌, ◌/◌, ◌%◌, ◌≤◌, ◌<◌}
 use native.Mathlib.Omega.{arith}
 use native.Mathlib.Decide.{ℕ_discrete}
-use native.Mathlib.Nat.{mul-le-mul, mul-le-mul_left, mul-add, mul-one}
+use native.Mathlib.Nat.{mul-le-mul_left, mul-add, mul-one}
 use lib.ListN.{length, get_or, set, replicate, length-set, length-replicate}
 use lib.Seq.{get_or-set_same, get_or-set_other}
 use lib.Dec.{eqb, ltb}
 use lib.Bits.{bit_or}
 use borrow.Author.Tests.{eqb-true, eqb-false, ne_eqb, not-true, lt-ltb, ltb-true, ltb-false}
-use Rattle.bundle.specs.Limits.{set_words}
+use Rattle.std.proofs.lemmas.Bool.{and_from, or_from}
+use Rattle.std.proofs.lemmas.Nat.{column_fits}
 use Rattle.bundle.specs.Bundle.{Bundle, term_of}
 use Rattle.bundle.specs.Links.{items}
 use Rattle.bundle.specs.Lists.{numbers, each}
@@ -34,7 +34,7 @@ use Rattle.sets.specs.Sets.{bit_at, holds, member, filled}
 use Rattle.sets.proofs.Digits.{bit_or_lem, bit_none}
 use Rattle.sets.proofs.Members.{held, member_same, filled_length, filled_in, filled_out}
 use Rattle.logic.specs.Free.{frees_of, free_by, free_at}
-use Rattle.logic.proofs.Tests.{and_left, and_right, and_both, numbers_of_lem, or_neither}
+use Rattle.logic.proofs.Tests.{and_left, and_right, numbers_of_lem}
 use Rattle.unions.specs.Put.{SetRoom, Kept, Put, set_below, SetsBelow}
 use Rattle.unions.specs.Unions.{known, unmet, Fewer, joined, Unions, Uniting, Partly}
 use Rattle.unions.proofs.Puts.{kept_trans, below_kept}
@@ -94,7 +94,7 @@ known_other m i v k ne = rw (get_or-set_other m i k v 0 ne)
 
 known_same : (m : List ℕ) (i v : ℕ) → i < length m → (i ≡ 0 → ⊥) → (v ≡ 65535 → ⊥) → known (set m i v) i ≡ false
 unfolding known
-known_same m i v room some ne = rw (get_or-set_same m i v 0 room) (or_neither (eqb i 0) (eqb v 65535) (ne_eqb i 0 some) (ne_eqb v 65535 ne))
+known_same m i v room some ne = rw (get_or-set_same m i v 0 room) (or_from (eqb i 0) (eqb v 65535) (ne_eqb i 0 some) (ne_eqb v 65535 ne))
 
 pub fewer_refl : (m : List ℕ) → Fewer m m
 fewer_refl m = record { long = refl; fewer = λ k e. e }
@@ -119,15 +119,9 @@ unions_fewer b n t lists m p so few = record {
 
 -- ---- the sets of different numbers stand apart
 
-times_more : (n j k : ℕ) → j < k → n * j + n ≤ n * k
-times_more n j k h =
-    let e : n * (j + 1) ≡ n * j + n = rw (mul-add, mul-one) in
-    let l : n * (j + 1) ≤ n * k = mul-le-mul_left n (omega arith) in
-    omega arith
-
 pub apart : (n j k : ℕ) → (j < k) ⊎ (k < j) → (n * j + n ≤ n * k) ⊎ (n * k + n ≤ n * j)
-apart n j k (inl l) = inl (times_more n j k l)
-apart n j k (inr l) = inr (times_more n k j l)
+apart n j k (inl l) = inl (column_fits n j n k l (omega arith))
+apart n j k (inr l) = inr (column_fits n k n j l (omega arith))
 
 -- the link after link k is another
 pub next_side : (k next : ℕ) → 1 ≤ k → ((next ≡ 0 → ⊥) → k < next) → (next < k) ⊎ (k < next)
@@ -184,7 +178,7 @@ module _ (area lists marks : List ℕ) (n t k term next : ℕ) (b : Bundle) (so 
 
     own_lower : each (numbers (t - 1)) (items b k) ≡ true
     unfolding each
-    own_lower = rw here (and_both (numbers (t - 1) term) (each (numbers (t - 1)) (items b next)) low (unions.lower next then))
+    own_lower = rw here (and_from (numbers (t - 1) term) (each (numbers (t - 1)) (items b next)) low (unions.lower next then))
 
     own_union : (x : ℕ) → member written (n * k) n x ≡ frees_of (free_at b) (items b k) x
     unfolding frees_of
@@ -253,13 +247,6 @@ unions_none b n p q nil links room = record {
   union = λ k x e. let z : k ≡ 0 = known_none q k e in rw (z, nil) (none_member p (n * 0) n x);
 }
 
--- n words for each link up to m, and for the empty list
-pub links_room : (n links m : ℕ) → n ≤ set_words → links ≤ m → n * links + n ≤ set_words * (m + 1)
-links_room n links m words few =
-    let e : n * (links + 1) ≡ n * links + n = rw (mul-add, mul-one) in
-    let l : n * (links + 1) ≤ set_words * (m + 1) = mul-le-mul words (omega arith) in
-    omega arith
-
 pub unions_later : (b : Bundle) (n t : ℕ) (lists marks : List ℕ) → Unions b n t lists marks → Unions b n (t + 1) lists marks
 unions_later b n t lists marks so = record {
   marked = so.marked;
@@ -267,9 +254,6 @@ unions_later b n t lists marks so = record {
   lower = λ k e. each_up (t - 1) (t + 1 - 1) (items b k) (omega arith) (so.lower k e);
   union = so.union;
 }
-
-pub below_none : (w : List ℕ) (n : ℕ) (b : Bundle) → SetsBelow w n 1 b
-below_none w n b = record { one = omega arith; fits = omega arith; sets = λ i x one low. absurd (omega arith) }
 
 pub below_same : (w v : List ℕ) (n t at : ℕ) (b : Bundle) → SetRoom w n t at → Kept w v n at → SetsBelow w n t b → SetsBelow v n t b
 below_same w v n t at b room kept so = record {

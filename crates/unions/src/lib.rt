@@ -147,6 +147,26 @@ impl<'a> Uniting<'a> {
         }
     }
 
+    pub fn bundle(&self) -> &'a Bundle<'a>
+        ensures { result.now ≡ self.now.bundle }
+    {
+        self.bundle
+    }
+
+    // How many words a set has.
+    pub fn n(&self) -> usize
+        ensures { result ≡ self.now.n }
+    {
+        self.n
+    }
+
+    // The term whose set is being written.
+    pub fn t(&self) -> usize
+        ensures { result ≡ self.now.t }
+    {
+        self.t
+    }
+
     // Goes on to the next term.
     pub fn next(&mut self)
         requires { self.old.t ≤ limits.terms }
@@ -183,7 +203,8 @@ impl<'a> Uniting<'a> {
         i
     }
 
-    // Walks from a link to the first that is known, and marks each link on the way with the one before it. Gives the last that is not known.
+    // Walks from a link to the first that is known, and marks each link on the way with the one before it. Gives the last that is not known, 0 where
+    // `start` is known.
     fn walk_out(&mut self, start: usize) -> usize
         requires { start ≤ length self.old.bundle.links }
         ensures { (result ≤ length self.old.bundle.links) × (self.new ≡ self.old) }

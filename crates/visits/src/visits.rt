@@ -11,7 +11,8 @@ use logic::rules::Rule;
 use placing::Visited;
 use scratch::pairs::pack;
 
-// Visits a term in a context: its parts in order, then its result and its step.
+// Visits a term in a context: its parts in order, then its result and its step. The stack is a slice with a height: words that C lends, with a place for
+// each step, where pass_terms' `Stack` has an array of its own. It is written in two places.
 #[cycle(visit_list_visit_term)]
 pub fn visit_term(
     filed: &mut Filed<'_>,
@@ -26,7 +27,7 @@ pub fn visit_term(
     let scratch = filed.scratch();
     // The counts are within the limits.
     prove!(scratch.counts().terms <= Bundle::TERMS);
-    let words = scratch.term_words(term);
+    let words = scratch.view().term_words(term);
     let first = words.first;
     let second = words.second;
     match Kind::of(words.kind) {
@@ -84,8 +85,9 @@ pub fn visit_list(
         return Some(height);
     }
     let scratch = filed.scratch();
-    let value = scratch.link_field(list, 0);
-    let next = scratch.link_field(list, 1);
+    let view = scratch.view();
+    let value = view.link_field(list, 0);
+    let next = view.link_field(list, 1);
     let visited = visit_term(filed, stack, context, height, value)?;
     // There is a place for the pair.
     prove!(height < stack.len());

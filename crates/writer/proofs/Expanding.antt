@@ -14,6 +14,7 @@ use native.Mathlib.Omega.{arith}
 use lib.ListN.{length, take}
 use lib.Dec.{ltb}
 use borrow.Author.Tests.{ltb-true}
+use Rattle.std.proofs.lemmas.Bool.{false_from_ne_true}
 use Rattle.bundle.specs.Words.{largest_word}
 use Rattle.bundle.specs.Bundle.{Bundle}
 use Rattle.bundle.specs.Limits.{bytes_of, Within, within_of}
@@ -67,11 +68,6 @@ module _ (us : List Test) where
       go false e rest =
           let l : 0 < t.number = ltb-true 0 t.number (and_left (ltb 0 t.number) (numbered ts) n) in
           absurd (omega arith)
-
--- a test that fails
-off : (p : Bool) → (p ≡ true → ⊥) → p ≡ false
-off true h = absurd (h refl)
-off false h = refl
 
 -- ---- the job f, and areas of these lengths
 
@@ -128,7 +124,7 @@ module _ {f : List ℕ} {out words sets : ℕ} {B : Bundle} {left : ℕ} (b : Be
   pub refused_full : TooMuch (visited (bundle_of f)).bundle → Refused 16 0 ≡ (expansion f out words sets).answer
   refused_full h =
       refused_number f out words sets b.none 16 (λ z. omega arith)
-      (last_is ∙ rw (off (within_of (own_counts (visited (bundle_of f)).bundle)) (λ e. h (within_all (own_counts (visited (bundle_of f)).bundle) e))))
+      (last_is ∙ rw (false_from_ne_true (within_of (own_counts (visited (bundle_of f)).bundle)) (λ e. h (within_all (own_counts (visited (bundle_of f)).bundle) e))))
 
   written : Within (own_counts (visited (bundle_of f)).bundle) → expansion f out words sets ≡ writes (expanded (bundle_of f)) out words sets
   unfolding expansion outcome_of

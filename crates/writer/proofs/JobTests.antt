@@ -1,18 +1,18 @@
 -- The tests of a job after 1 to 9, as the code makes them.
---     all_pass, one_fails                               a test of every variable, from the first one on
+--     all_up_to                                         a test of every variable, from the first one on
 --     closed_is                                         17, by the free sets in the lent words
 --     not_empty_lem, not_known, not_closed, all_hold    18, 15, 17 and none
-use Prim.Native.Nat.{ℕ, zero, suc, ◌+◌, ◌*◌, ◌≤◌, ◌<◌}
+use Prim.Native.Nat.{ℕ, zero, suc, ◌+◌, ◌*◌, ◌≤◌}
 use native.Mathlib.Omega.{arith}
 use native.Mathlib.Numerals.{add-one}
-use native.Mathlib.Decide.{ℕ_discrete}
 use mathlib.Core.Path.{◌≡◌, refl, sym, ap, ◌∙◌}
-use mathlib.Core.Bool.{Bool, true, false, cond, not, ◌&&◌, and-false}
+use mathlib.Core.Bool.{Bool, true, false, cond, not, ◌&&◌, and-true}
 use mathlib.Core.List.{List}
 use lib.ListN.{length}
 use lib.Dec.{eqb, ltb, leb}
 use Rattle.bundle.specs.Bundle.{Bundle}
 use Rattle.logic.specs.Tests.{passed, up_to, first_failing}
+use Rattle.std.specs.List.{list_all, range_with_len}
 use Rattle.logic.specs.Free.{free_at, free_area}
 use Rattle.free_variables.specs.TermSets.{TermSets, free_in}
 use Rattle.free_variables.proofs.FreeWords.{free_some}
@@ -21,22 +21,24 @@ use Rattle.expansion.specs.Expansion.{early_tests}
 
 -- ---- a test of every variable
 
-module _ (p : ℕ → Bool) where
-  pub all_pass : (n : ℕ) → ((k : ℕ) → k < n → p (k + 1) ≡ true) → up_to n p ≡ true
-  unfolding up_to
-  all_pass zero h = refl
-  all_pass (suc n) h =
-      let here = rw add-one at (h n (omega arith)) in
-      rw (here, all_pass n (λ k l. h k (omega arith)))
+and_shift : (x y z : Bool) → (x && y && z) ≡ (y && (x && z))
+and_shift true y z = refl
+and_shift false true z = refl
+and_shift false false z = refl
 
-  pub one_fails : (n k : ℕ) → k < n → p (k + 1) ≡ false → up_to n p ≡ false
+module _ (p : ℕ → Bool) where
+  -- the numbers from a + 1 on, and those below
+  all_from : (a n : ℕ) → (list_all p (range_with_len (a + 1) n) && up_to a p) ≡ up_to (a + n) p
   unfolding up_to
-  one_fails zero k l e = absurd (omega arith)
-  one_fails (suc n) k l e = go (ℕ_discrete k n) (λ below. one_fails n k below e)
-    where
-      go : Dec (k ≡ n) → (k < n → up_to n p ≡ false) → (p (suc n) && up_to n p) ≡ false
-      go (yes same) rest = let here = rw (same, add-one) at e in rw here
-      go (no ne) rest = rw (rest (omega (arith, ne))) (and-false (p (suc n)))
+  all_from a zero = ap (λ k. up_to k p) {x = a} {y = a + 0} (omega arith)
+  all_from a (suc n) =
+      let here : up_to (a + 1) p ≡ (p (a + 1) && up_to a p) = simp add-one refl in
+      let same : up_to (a + 1 + n) p ≡ up_to (a + suc n) p = ap (λ k. up_to k p) {x = a + 1 + n} {y = a + suc n} (omega arith) in
+      and_shift (p (a + 1)) (list_all p (range_with_len (a + 1 + 1) n)) (up_to a p) ∙ rw (← here, all_from (a + 1) n, same)
+
+  pub all_up_to : (n : ℕ) → list_all p (range_with_len 1 n) ≡ up_to n p
+  unfolding up_to
+  all_up_to n = sym (and-true _) ∙ all_from 0 n ∙ ap (λ k. up_to k p) {x = 0 + n} {y = n} (omega arith)
 
 -- ---- the tests
 

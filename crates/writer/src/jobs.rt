@@ -15,12 +15,7 @@ use logic::checks::Check;
 fn is_closed(sets: &TermSets<'_>, t: usize) -> bool
     ensures { result ≡ up_to (length sets.now.bundle.variables) (λ x. not (free_in sets.now t x)) }
 {
-    for k in 0..sets.bundle().variables() {
-        if sets.is_free(t, k + 1) {
-            return false;
-        }
-    }
-    true
+    (1..sets.bundle().variables() + 1).all(|x| !sets.is_free(t, x))
 }
 
 // 18, 15, 17: what is wrong with a job. The free sets are written into the lent words, as many a set as the job's variables ask for.

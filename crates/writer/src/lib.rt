@@ -26,12 +26,12 @@ fn store_job(
         out.old words.old sets.old out.new words.new sets.new (answer_in result) }
 {
     let enough = areas::long_enough(out.len(), words.len(), sets.len());
-    let bundle = terms::tables_fault(job, enough, 3)?;
+    let bundle = terms::tables_fault(job, enough, areas::AREAS)?;
     jobs::job_fault(&bundle, sets)?;
     let left = bundle.claim_left();
     let mut filed = Filed::of(copy_job(&bundle, words));
     let visited = visit_term(&mut filed, sets, 0, 0, left).ok_or(Check::Room)?;
-    Ok(store_file(filed.scratch(), left, visited.result, out))
+    Ok(store_file(&filed.scratch().view(), left, visited.result, out))
 }
 
 // Expands the lets of a job's rule, and writes the file with the derivation into the output. Whatever stood in the areas before: the scratch ends

@@ -39,17 +39,6 @@ module _ (b : Bundle) where
     in_claim : (n : ℕ) → fault 0 0 ≡ steps_fault b → n ≡ first_failing (claim_tests b) → fault n 0 ≡ late_fault b
     in_claim n steps e = rw (past_contexts, ← steps, ← e) (sym (or_else_on 0 0 _ refl ∙ or_else_last n))
 
-pub of-sets-requires : goal.of-sets-requires
-of-sets-requires c = rw c.bundle-bundle.ensures c.requires.0.long
-
-pub contexts_fault-requires-clause-same : goal.contexts_fault-requires-clause-same
-contexts_fault-requires-clause-same c = rw (c.of-sets.ensures, c.of-rows.ensures) (c.bundle-bundle.ensures, c.bundle-bundle.ensures, refl)
-
-pub contexts_fault-requires-clause-fact : goal.contexts_fault-requires-clause-fact
-contexts_fault-requires-clause-fact c =
-    let p = c.requires in
-    rw (c.of-sets.ensures, c.of-rows.ensures, c.bundle-bundle.ensures) (p.0, p.1, p.2, p.3, p.4, p.5)
-
 pub returns-in_err-contexts_fault : goal.returns-in_err-contexts_fault
 returns-in_err-contexts_fault c =
     let p = err_from_is_err_and c.from_residual.result c.from_residual.ensures.1 in
@@ -57,21 +46,6 @@ returns-in_err-contexts_fault c =
       fault = in_contexts c.args.sorted.now _ c.in_err-contexts_fault.ensures.value;
       pairs = tt;
     })
-
-pub of-known-requires : goal.of-known-requires
-of-known-requires c =
-    let p = c.requires in
-    let rows = c.in_ok-contexts_fault.ensures.fact in
-    let scopes = rw c.of-sets.ensures at rows.1 in
-    rw (c.images.ensures, c.scopes.ensures, c.of-sets.ensures, c.bundle-bundle.ensures)
-    (record { bits = p.1; few = p.6; free = p.0.long; images = rows.0.long; scopes = scopes.long })
-
-pub steps_fault-requires : goal.steps_fault-requires
-steps_fault-requires c =
-    let rows = c.in_ok-contexts_fault.ensures.fact in
-    let scopes = rw c.of-sets.ensures at rows.1 in
-    rw (c.of-known.ensures, c.images.ensures, c.scopes.ensures, c.of-sets.ensures, c.bundle-bundle.ensures)
-    (record { free = c.requires.0; images = rows.0; scopes = scopes })
 
 pub returns-in_err-pairs : goal.returns-in_err-pairs
 returns-in_err-pairs c =

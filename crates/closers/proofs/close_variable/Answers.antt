@@ -13,12 +13,6 @@ use Rattle.closers.proofs.Closings.{concluded_is, concluded_fits}
 use Rattle.closers.proofs.close_variable.Goals.{in-Own, in-Gives}
 use Rattle.closers.proofs.close_variable.Goals as goal
 
-pub add_step-requires : goal.add_step-requires
-add_step-requires g c =
-    let word : c.match-image.right ≤ largest_word =
-    elim c.match-image.branch [ in-Own w ↦ omega (arith, w.right-is, c.requires.1) | in-Gives w ↦ omega (arith, w.right-is, c.image.ensures.1 _ w.in-Gives.is) ] in
-    record { rule = omega (arith, c.number.ensures); context = c.requires.0; left = c.requires.1; right = word; premises = omega arith }
-
 pub returns : goal.returns
 unfolding visit
 returns g c =

@@ -3,7 +3,7 @@ use native.Mathlib.Omega.{arith}
 use mathlib.Core.Path.{refl}
 use Rattle.lexing.specs.Words.{word_in}
 use Rattle.heads.proofs.WordNumbers.{variable_le}
-use Rattle.placing.proofs.Placings.{variable_asks, application_asks}
+use Rattle.placing.proofs.Placings.{variable_asks}
 use Rattle.endings.proofs.EndingLaws.{ended, ended_none, variable_alone, symbol_alone}
 use Rattle.endings.proofs.place_word.Goals as goal
 
@@ -28,20 +28,7 @@ returns-in-Some c =
       variable_asks _ _ p d,
     )
 
-pub returns-in_err-term-2 : goal.returns-in_err-term-2
-returns-in_err-term-2 c =
-    let x = rw c.variables.ensures.0 at c.in_default.ensures in
-    let f = rw c.symbols.ensures.0 at c.symbol_for-f.ensures.0 in
-    rw (c.from_residual-in_err-term-2.ensures, ← f)
-    (symbol_alone _ _ _ _ x c.symbol_sort-sort.ensures (ended_none c.place_application.ensures c.in_err-term-2.was), tt)
-
 pub returns : goal.returns
 returns c =
     let x = rw c.variables.ensures.0 at c.in_default.ensures in
-    let f = rw c.symbols.ensures.0 at c.symbol_for-f.ensures.0 in
-    let p = c.place_application.ensures in
-    let d = c.in_ok-term-2.was in
-    rw (← f) (
-      symbol_alone _ _ _ _ x c.symbol_sort-sort.ensures (ended p d (record { term = refl; sort = refl; rest = refl })),
-      application_asks _ _ _ p d,
-    )
+    (symbol_alone _ _ _ _ x refl c.apply_parts.ensures.0, c.apply_parts.ensures.1)

@@ -8,22 +8,23 @@ use Rattle.free_variables.proofs.free_term.Goals as goal
 
 pub unite_list-requires : goal.unite_list-requires
 unite_list-requires c =
-    let a = c.args in
+    let w = c.args.area.now in
+    let u = c.args.uniting.now in
     let p = c.requires in
     let own = c.free_own-list in
-    let kept = own.ensures.1.kept in
-    rw p.3 (
-      room_kept a.area.now own.new.area a.n a.t _ p.0 kept,
-      below_same a.area.now own.new.area a.n a.t _ a.bundle.now p.0 kept p.2,
+    let put = rw (c.n-n.ensures, c.t-t.ensures, c.bundle.ensures) at own.ensures.1 in
+    rw (c.n-n.ensures, c.t-t.ensures) (
+      room_kept w own.new.area u.n u.t _ p.0 put.kept,
+      below_same w own.new.area u.n u.t _ u.bundle p.0 put.kept p.2,
     )
 
 pub returns : goal.returns
 returns c =
-    let a = c.args in
-    let p = c.requires in
+    let w = c.args.area.now in
+    let u = c.args.uniting.now in
     let own = c.free_own-list in
-    let list = c.unite_list in (
-      both_parts a.bundle.now a.area.now own.new.area list.new.area a.n a.t _ own.result (walk_nil a.bundle.now 0 refl) p.0 own.ensures.0 own.ensures.1
-          (rw p.3 at list.ensures.put),
-      list.ensures.same,
+    let list = rw (c.n-n.ensures, c.t-t.ensures) at c.unite_list.ensures.put in
+    let kept = rw (c.n-n.ensures, c.t-t.ensures, c.bundle.ensures) at own.ensures in (
+      both_parts u.bundle w own.new.area c.unite_list.new.area u.n u.t _ own.result (walk_nil u.bundle 0 refl) c.requires.0 kept.0 kept.1 list,
+      c.unite_list.ensures.same,
     )

@@ -1,17 +1,8 @@
 -- `remove_list` meets its contract.
 use native.Mathlib.Omega.{arith}
 use Rattle.bundle.specs.Links.{items}
-use Rattle.unions.proofs.Puts.{kept_refl, kept_trans, remove_put, removing_turn, removing_end}
+use Rattle.unions.proofs.Puts.{kept_trans, remove_put, removing_turn, removing_end}
 use Rattle.free_variables.proofs.remove_list.Goals as goal
-
-pub loop-v-init : goal.loop-v-init
-loop-v-init c = record {
-  kept = kept_refl c.args.area.now c.args.n c.args.at;
-  removing = λ x. rw (c.into_iter-v-iterator.ensures.into_iter_gives, c.items-v-items.ensures);
-}
-
-pub remove-requires : goal.remove-requires
-remove-requires c = omega (arith, c.requires, c.loop-v.invariant.kept.long)
 
 pub loop-v-preserved : goal.loop-v-preserved
 loop-v-preserved c =
@@ -24,9 +15,6 @@ loop-v-preserved c =
       removing = removing_turn a.area.now a.n a.at (items a.bundle.now a.list) l.area c.remove.new.area l.v-iterator _ c.in-Some.v
           l.invariant.removing c.in-Some.ensures.steps put;
     }
-
-pub shape_of-area : goal.shape_of-area
-shape_of-area c = c.loop-v.invariant.kept.long
 
 pub returns : goal.returns
 returns c =

@@ -1,7 +1,5 @@
 -- `nezkaldo::nezkaldo_expand` meets its contract: what `expand` leaves, with its answer as one number.
-use mathlib.Core.Path.{ap, ◌∙◌}
 use lib.ListN.{length}
-use Rattle.nezkaldo.specs.Packed.{packed_reply}
 use Rattle.nezkaldo.proofs.Exported.{expand_fits}
 use Rattle.nezkaldo.proofs.nezkaldo_expand.Goals as goal
 
@@ -9,13 +7,3 @@ pub reply_number-requires : goal.reply_number-requires
 reply_number-requires c =
     let a = c.args in
     rw c.expand-reply.ensures.answer (expand_fits a.job.now (length a.out.now) (length a.words.now) (length a.sets.now))
-
-pub returns : goal.returns
-returns c =
-    let l = c.expand-reply.ensures in
-    record {
-      value = c.reply_number.ensures ∙ ap packed_reply l.answer;
-      out_after = l.output;
-      words_after = l.scratch;
-      sets_after = l.stack;
-    }

@@ -7,14 +7,13 @@ use mathlib.Core.List.{List}
 use Prim.Native.Nat.{ℕ, ◌*◌, ◌≤◌, ◌<◌}
 use lib.ListN.{length}
 use lib.Dec.{eqb}
+use Rattle.logic.proofs.CheckNumbers.{number_some}
 use Rattle.bundle.specs.Limits.{limits}
 use Rattle.bundle.specs.Bundle.{Bundle, Step, step_of}
 use Rattle.bundle.specs.File.{bundle_of, counts_of}
 use Rattle.bundle.specs.RecordWords.{as_step}
 use Rattle.logic.specs.declared.Walk.{Walk}
-use Rattle.logic.specs.declared.checks.Check.{Check}
 use Rattle.logic.specs.Checks.{header_fault}
-use Rattle.logic.specs.Failures.{check_number}
 use Rattle.logic.specs.Rules.{cong_walk_by, cong_walk}
 use Rattle.logic.proofs.Headers.{header_exactly}
 use Rattle.images.specs.LentReading.{step_in}
@@ -22,10 +21,6 @@ use Rattle.images.proofs.ReadingRight.{step_right}
 use Rattle.nezkaldo_links.specs.Links.{walk_number, step_number, links_number}
 use Rattle.nezkaldo_links.proofs.Links.{links_short, few_links}
 use Rattle.nezkaldo_links.proofs.nezkaldo_links.Goals as goal
-
--- each check has a number
-some_number : (c : Check) → check_number c ≡ 0 → ⊥
-some_number c = grind arith
 
 refused : (f : List ℕ) (k : ℕ) {n : ℕ} → n ≡ header_fault f 0 0 → (n ≡ 0 → ⊥) → 4294967296 * n ≡ links_number f k
 unfolding links_number
@@ -59,7 +54,7 @@ plain b bed s short = ap (λ (step : ℕ → Step). cong_walk_by step b s) (fun_
 
 pub returns-in-Err : goal.returns-in-Err
 returns-in-Err c =
-    c.told.ensures ∙ refused c.args.file.now c.args.step c.in-Err.ensures.number (some_number c.in-Err.check)
+    c.told.ensures ∙ refused c.args.file.now c.args.step c.in-Err.ensures.number (number_some c.in-Err.check)
 
 pub returns-then-s-number : goal.returns-then-s-number
 returns-then-s-number c =

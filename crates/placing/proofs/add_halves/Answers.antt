@@ -1,7 +1,7 @@
 -- `add_halves` meets its contract: None where the links would pass their limit, else the list.
 use native.Mathlib.Omega.{arith}
 use lib.ListN.{length-map}
-use Rattle.placing.proofs.Placings.{list_length}
+use Rattle.logic.proofs.Longer.{list_length}
 use Rattle.placing.proofs.add_halves.Goals as goal
 
 pub returns-then-pairs-counts : goal.returns-then-pairs-counts

@@ -1,6 +1,6 @@
 -- `add_value` meets its contract: None where there is no room for a link, else the list of one.
 use native.Mathlib.Omega.{arith}
-use Rattle.placing.proofs.Placings.{list_length}
+use Rattle.logic.proofs.Longer.{list_length}
 use Rattle.placing.proofs.add_value.Goals as goal
 
 pub returns-then-counts-ge-LINKS : goal.returns-then-counts-ge-LINKS

@@ -5,11 +5,8 @@ use Prim.Native.Nat.{ℕ}
 use native.Mathlib.Omega.{arith}
 use Rattle.scratch.specs.Stack.{halves_of}
 use Rattle.filing.specs.Filing.{mix_all, root_digest}
-use Rattle.placing.proofs.Placings.{found_is, application_filed}
+use Rattle.placing.proofs.Placings.{application_filed}
 use Rattle.placing.proofs.place_application.Goals as goal
-
-pub returns-in-Some : goal.returns-in-Some
-returns-in-Some c = found_is c.args.filed.now _ _ _ c.find_application.ensures c.in-Some.is c.keep.ensures
 
 pub add_listed_term-requires : goal.add_listed_term-requires
 add_listed_term-requires c =

@@ -15,6 +15,3 @@ place_plain-requires c =
     let fits : TermFits (record { kind = k.result; first = a.y; second = a.body; third = 0 }) =
     record { kind = omega (arith, range.1, k.ensures); first = c.requires.0; second = c.requires.1; third = omega arith } in
     (fits, plain_filed a.filed.now k.result a.y a.body d.result (λ e. omega (arith, range.0, k.ensures)) (λ e. omega (arith, range.1, k.ensures)) d.ensures)
-
-pub returns : goal.returns
-returns c = rw (← c.number-kind.ensures) (c.place_plain.ensures _ (c.find_binder-known.ensures (binder_in c.args.q) c.number-kind.ensures))

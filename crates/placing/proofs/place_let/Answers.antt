@@ -3,11 +3,8 @@ use mathlib.Core.Path.{refl}
 use mathlib.Core.Bool.{true, false}
 use Rattle.scratch.specs.Stack.{halves_of}
 use Rattle.placing.proofs.OutcomeFacts.{outcome_done}
-use Rattle.placing.proofs.Placings.{found_is, let_filed, list_word}
+use Rattle.placing.proofs.Placings.{let_filed, list_word}
 use Rattle.placing.proofs.place_let.Goals as goal
-
-pub returns-in-Some : goal.returns-in-Some
-returns-in-Some c = found_is c.args.filed.now _ _ _ c.find_let.ensures c.in-Some.is c.keep.ensures
 
 pub add_listed_term-requires : goal.add_listed_term-requires
 add_listed_term-requires c =

@@ -11,6 +11,3 @@ place_plain-requires c =
     let d = c.root_digest-d in
     let fits : TermFits (record { kind = 1; first = a.y; second = 0; third = 0 }) = search rules in
     rw c.number-kind.ensures (fits, plain_filed a.filed.now 1 a.y 0 d.result (λ e. omega arith) (λ e. omega arith) (rw (← c.number-kind.ensures) d.ensures))
-
-pub returns : goal.returns
-returns c = rw (← c.number-kind.ensures) (c.place_plain.ensures _ c.find_variable-known.ensures)

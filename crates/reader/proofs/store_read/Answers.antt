@@ -13,7 +13,7 @@ use Rattle.expansion.proofs.AreasAfter.{stored_refused}
 use Rattle.reading.specs.Reading.{declarations_fault}
 use Rattle.reader.specs.Storing.{Declared}
 use Rattle.reader.proofs.Answering.{refused_declared}
-use Rattle.reader.proofs.Passed.{declared_again, stored_again}
+use Rattle.reader.proofs.Passed.{stored_again}
 use Rattle.reader.proofs.store_read.Goals as goal
 
 -- the checks of the declarations find nothing: they are opened as b
@@ -30,26 +30,6 @@ returns-in_err-bundle c =
     (stored_refused refl refl refl
     (refused_declared a.declarations.now a.text.now (length a.out.now) (length a.words.now) (length a.sets.now)
     (fault (check_number k.check) k.«record») c.in_err-bundle.ensures.fault (number_some k.check)))
-
-pub store_passed-requires : goal.store_passed-requires
-store_passed-requires c =
-    let a = c.args in
-    let t = c.in_ok-bundle.ensures in
-    (_, _, declared a.declarations.now (length a.out.now) (length a.words.now) (length a.sets.now) t.fault t.bundle)
-
-pub returns-in-Some : goal.returns-in-Some
-returns-in-Some c =
-    let a = c.args in
-    let t = c.in_ok-bundle.ensures in
-    let stored = rw c.in-Some.is at c.store_passed.ensures.2 in
-    stored a.declarations.now a.sets.now (declared a.declarations.now (length a.out.now) (length a.words.now) (length a.sets.now) t.fault t.bundle)
-
-pub store_checked-requires : goal.store_checked-requires
-store_checked-requires c =
-    let a = c.args in
-    let t = c.in_ok-bundle.ensures in
-    let d = declared a.declarations.now (length a.out.now) (length a.words.now) (length a.sets.now) t.fault t.bundle in
-    (_, _, declared_again c.store_passed.ensures.0 c.store_passed.ensures.1 d)
 
 pub returns-in-None : goal.returns-in-None
 returns-in-None c =

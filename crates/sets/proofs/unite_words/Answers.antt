@@ -1,7 +1,7 @@
 -- `sets::unite_words` meets its contract. The invariant: the first k words are united; those that are read next are as they were.
 use native.Mathlib.Omega.{arith}
 use Prim.Native.Nat.{ℕ, ◌+◌}
-use mathlib.Core.Path.{◌≡◌, refl, ◌∙◌}
+use mathlib.Core.Path.{◌≡◌, refl}
 use mathlib.Core.Logic.{inl, inr}
 use lib.ListN.{get_or}
 use lib.Bits.{bit_or}
@@ -24,9 +24,3 @@ loop-k-preserved c =
     let y : get_or l.area (a.from + l.k) 0 ≡ get_or w (a.from + l.k) 0 =
     rw l.invariant (filled_out g w a.to l.k (a.from + l.k) (inl (omega arith))) in
     filled_more g w a.to l.k _ l.area l.invariant (rw (x, y))
-
-pub returns : goal.returns
-returns c =
-    let l = c.loop-k in
-    let past : l.k ≡ c.args.n = omega arith in
-    l.invariant ∙ rw past

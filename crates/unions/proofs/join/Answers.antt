@@ -1,7 +1,7 @@
 -- `join` meets its contract. The invariant: the first k words are written; those that are read next are as they were.
 use native.Mathlib.Omega.{arith}
 use Prim.Native.Nat.{ℕ, ◌+◌, ◌≤◌, ◌<◌}
-use mathlib.Core.Path.{◌≡◌, refl, ◌∙◌}
+use mathlib.Core.Path.{◌≡◌, refl}
 use mathlib.Core.Logic.{◌⊎◌, inl, inr}
 use lib.ListN.{get_or, length-set}
 use lib.Bits.{bit_or}
@@ -29,12 +29,3 @@ loop-k-preserved c =
     (filled_out g w a.to l.k (a.second + l.k)
     (still a.n l.k a.second a.to (omega arith) c.requires.0)) in
     (simp length-set l.invariant.0, filled_more g w a.to l.k _ l.lists l.invariant.1 (rw y))
-
-pub shape_of-lists : goal.shape_of-lists
-shape_of-lists c = c.loop-k.invariant.0
-
-pub returns : goal.returns
-returns c =
-    let l = c.loop-k in
-    let past : l.k ≡ c.args.n = omega arith in
-    l.invariant.1 ∙ rw past

@@ -1,6 +1,5 @@
 -- `unite_far` meets its contract.
-use native.Mathlib.Omega.{arith}
-use Rattle.unions.proofs.Puts.{unite_zero, unite_high, lower_room, unite_low}
+use Rattle.unions.proofs.Puts.{unite_zero, unite_high, unite_low}
 use Rattle.unions.proofs.unite_far.Goals as goal
 
 pub returns-then-i-eq0 : goal.returns-then-i-eq0
@@ -8,15 +7,6 @@ returns-then-i-eq0 c = let a = c.args in unite_zero a.area.now a.n a.t a.at a.i 
 
 pub returns-then-i-t : goal.returns-then-i-t
 returns-then-i-t c = let a = c.args in unite_high a.area.now a.n a.t a.at a.i c.if-i-t.true
-
-pub overflow_mul-n : goal.overflow_mul-n
-overflow_mul-n c =
-    let a = c.args in
-    let room = lower_room a.area.now a.n a.t a.at a.i c.requires c.if-i-eq0.false c.if-i-t.false in
-    omega (arith, room.0, room.1)
-
-pub unite_words-requires : goal.unite_words-requires
-unite_words-requires c = let a = c.args in lower_room a.area.now a.n a.t a.at a.i c.requires c.if-i-eq0.false c.if-i-t.false
 
 pub returns : goal.returns
 returns c =

@@ -1,7 +1,7 @@
 -- `unite_kept` meets its contract. The invariant: the first k words are united.
 use native.Mathlib.Omega.{arith}
 use Prim.Native.Nat.{ℕ, ◌+◌}
-use mathlib.Core.Path.{◌≡◌, refl, ◌∙◌}
+use mathlib.Core.Path.{◌≡◌, refl}
 use mathlib.Core.Logic.{inr}
 use lib.ListN.{get_or, length-set}
 use lib.Bits.{bit_or}
@@ -22,12 +22,3 @@ loop-k-preserved c =
     let x : get_or l.area (a.at + l.k) 0 ≡ get_or w (a.at + l.k) 0 =
     rw l.invariant.1 (filled_out g w a.at l.k (a.at + l.k) (inr (omega arith))) in
     (simp length-set l.invariant.0, filled_more g w a.at l.k _ l.area l.invariant.1 (rw x))
-
-pub shape_of-area : goal.shape_of-area
-shape_of-area c = c.loop-k.invariant.0
-
-pub returns : goal.returns
-returns c =
-    let l = c.loop-k in
-    let past : l.k ≡ c.args.n = omega arith in
-    l.invariant.1 ∙ rw past

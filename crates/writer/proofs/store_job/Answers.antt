@@ -127,7 +127,7 @@ store_file-requires c =
       c.claim_left-left.ensures.1,
       words.0,
       (areas a.job.now (length a.out.now) (length a.words.now) (length a.sets.now) c.long_enough-enough.ensures t.fault t.bundle).output,
-      rw c.scratch.ensures
+      rw (c.view.ensures ∙ c.scratch.ensures)
           (version_kept (bundle_of a.job.now) told.bundle
           (version a.job.now (length a.out.now) (length a.words.now) (length a.sets.now) c.long_enough-enough.ensures t.fault t.bundle)),
     )
@@ -156,5 +156,5 @@ returns c =
     let told = visit_done (visit_is b _ _ c.visit_term.ensures.outcome) some in
     let f = c.store_file.ensures in
     stored_expanded a.job.now a.out.now a.words.now a.sets.now c.store_file.new.out _ _ f.0 (omega arith)
-    (c.visit_term.auto.stack ∙ c.job_fault.auto.sets) b told (f.2 ∙ ap (λ (b : Bundle). bytes_of (own_counts b)) c.scratch.ensures)
-    (f.3 ∙ ap (λ (b : Bundle). file_of (claiming b c.claim_left-left.result c.in_ok-visited.visited.result)) c.scratch.ensures)
+    (c.visit_term.auto.stack ∙ c.job_fault.auto.sets) b told (f.2 ∙ ap (λ (b : Bundle). bytes_of (own_counts b)) (c.view.ensures ∙ c.scratch.ensures))
+    (f.3 ∙ ap (λ (b : Bundle). file_of (claiming b c.claim_left-left.result c.in_ok-visited.visited.result)) (c.view.ensures ∙ c.scratch.ensures))

@@ -1,9 +1,6 @@
 -- `brackets::after_formula` meets its contract.
-use Rattle.bracketing.proofs.TextLaws.{skip_start, skip_over, skip_here, skip_next}
+use Rattle.bracketing.proofs.TextLaws.{skip_over, skip_here, skip_next}
 use Rattle.bracketing.proofs.brackets.after_formula.Goals as goal
-
-pub loop-l-init : goal.loop-l-init
-loop-l-init c = skip_start _
 
 pub returns-then-open-eq0 : goal.returns-then-open-eq0
 returns-then-open-eq0 c = skip_here c.loop-l.invariant c.in-Some.ensures c.open_after-open.ensures c.if-open-eq0.true

@@ -1,5 +1,4 @@
 -- `notes::all_lower` meets its contract. The invariant: the items are 1 to n where what is left of them is. The measure is how many links are left
-use native.Mathlib.Omega.{arith}
 use mathlib.Core.Path.{sym, ◌∙◌}
 use mathlib.Core.Bool.{false≢true}
 use Rattle.bundle.proofs.Walks.{walk_start, walk_start_le, walk_le}
@@ -22,16 +21,6 @@ returns-then-x-n c =
       λ e. absurd (false≢true e),
     )
 
-pub overflow_sub-left : goal.overflow_sub-left
-overflow_sub-left c =
-    let l = c.loop-i in
-    omega (arith, (both_some l.i l.left c.loop-i-test.true).1)
-
-pub loop-i-smaller : goal.loop-i-smaller
-loop-i-smaller c =
-    let l = c.loop-i in
-    omega (arith, (both_some l.i l.left c.loop-i-test.true).1)
-
 pub loop-i-preserved : goal.loop-i-preserved
 loop-i-preserved c =
     let a = c.args in
@@ -47,12 +36,3 @@ pub returns-then-i-eq0 : goal.returns-then-i-eq0
 returns-then-i-eq0 c =
     let l = c.loop-i in
     (sym (l.invariant.1 ∙ each_nil c.args.self.now c.args.n l.i c.if-i-eq0.true), λ e. c.requires)
-
-pub far_lower-requires : goal.far_lower-requires
-far_lower-requires c =
-    (c.requires, c.loop-i.invariant.0)
-
-pub returns : goal.returns
-returns c =
-    let f = c.far_lower in
-    (f.ensures.0 ∙ sym c.loop-i.invariant.1, f.ensures.1)

@@ -4,14 +4,8 @@ use mathlib.Core.Path.{sym, ◌∙◌}
 use Rattle.bundle.specs.Words.{word_at}
 use Rattle.bundle.specs.Limits.{contexts_at}
 use Rattle.bundle.proofs.Fields.{context_is}
-use Rattle.bundle.proofs.Parts.{from_length, field_from}
+use Rattle.bundle.proofs.Parts.{field_from}
 use Rattle.bundle.proofs.Bundle.context_field.Goals as goal
-
-pub field-requires : goal.field-requires
-field-requires c =
-    let b = c.self.inside in
-    let w = c.self.invariant in
-    (c.requires, rw w.contexts (omega (arith, w.whole.exact, from_length b.file.now (contexts_at b.counts))))
 
 pub returns : goal.returns
 returns c =

@@ -1,53 +1,14 @@
 -- `notes::far_lower` meets its contract. The invariant: the items are 1 to n where what is left of them is; and `OnWay`, for what is noted.
 use native.Mathlib.Omega.{arith}
-use Prim.Native.Nat.{◌≤◌, ◌<◌}
-use mathlib.Core.Path.{refl, sym, ◌∙◌}
+use Prim.Native.Nat.{◌<◌}
+use mathlib.Core.Path.{sym, ◌∙◌}
 use mathlib.Core.Bool.{false≢true}
 use lib.ListN.{length, length-set}
 use Rattle.bundle.proofs.Walks.{walk_le, walk_up, walk_length}
 use Rattle.bundle.specs.LinkNotes.{AllTo}
 use Rattle.bundle.proofs.NumberLists.{each_nil, each_on, each_here}
-use Rattle.bundle.proofs.LinkNotes.{way_start, way_on, way_end}
+use Rattle.bundle.proofs.LinkNotes.{way_on, way_end}
 use Rattle.bundle.proofs.Bundle.far_lower.Goals as goal
-
-pub loop-i-init : goal.loop-i-init
-loop-i-init c = (
-  c.requires.1,
-  refl,
-  refl,
-  way_start (AllTo c.args.self.now c.args.n)
-      (length c.args.self.now.links) c.args.lower.now 1 c.args.start c.requires.0,
-)
-
-pub bounds-lower-i : goal.bounds-lower-i
-bounds-lower-i c = omega (arith, c.loop-i.invariant.0, c.loop-i.invariant.1, c.requires.0.enough)
-
-pub shape_of-lower-then-lower-i-ne0 : goal.shape_of-lower-then-lower-i-ne0
-shape_of-lower-then-lower-i-ne0 c = c.loop-i.invariant.1
-
-pub returns-then-lower-i-ne0 : goal.returns-then-lower-i-ne0
-returns-then-lower-i-ne0 c =
-    let a = c.args in
-    let l = c.loop-i in
-    let here : l.i ≤ l.i = omega arith in
-    let good = l.invariant.3.above l.i here c.loop-i-test.true c.if-lower-i-ne0.true in (
-      sym (l.invariant.2 ∙ good),
-      λ e. way_end (AllTo a.self.now a.n) (length a.self.now.links) l.lower 1 l.i l.invariant.3 good
-          (omega (arith, l.invariant.1, c.requires.0.enough)),
-    )
-
-pub bounds-lower-i-in-loop-i : goal.bounds-lower-i-in-loop-i
-bounds-lower-i-in-loop-i c =
-    omega (
-      arith,
-      c.loop-i.invariant.0,
-      c.loop-i.invariant.1,
-      c.requires.0.enough,
-    )
-
-pub shape_of-lower-then-x-n : goal.shape_of-lower-then-x-n
-shape_of-lower-then-x-n c = length-set c.loop-i.lower c.loop-i.i 1
-    ∙ c.loop-i.invariant.1
 
 pub returns-then-x-n : goal.returns-then-x-n
 returns-then-x-n c =
@@ -85,9 +46,6 @@ loop-i-preserved c =
           room
           (walk_up a.self.now l.i r.result r.ensures) (λ e. on ∙ e),
     )
-
-pub shape_of-lower : goal.shape_of-lower
-shape_of-lower c = c.loop-i.invariant.1
 
 pub returns : goal.returns
 returns c =

@@ -4,14 +4,8 @@ use mathlib.Core.Path.{sym, ◌∙◌}
 use Rattle.bundle.specs.Words.{word_at}
 use Rattle.bundle.specs.Limits.{symbols_at}
 use Rattle.bundle.proofs.Fields.{symbol_is}
-use Rattle.bundle.proofs.Parts.{from_length, field_from}
+use Rattle.bundle.proofs.Parts.{field_from}
 use Rattle.bundle.proofs.Bundle.symbol_field.Goals as goal
-
-pub field-requires : goal.field-requires
-field-requires c =
-    let b = c.self.inside in
-    let w = c.self.invariant in
-    (c.requires, rw w.symbols (omega (arith, w.whole.exact, from_length b.file.now (symbols_at b.counts))))
 
 pub returns : goal.returns
 returns c =

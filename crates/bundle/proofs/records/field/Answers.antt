@@ -1,23 +1,14 @@
 -- `records::field` meets its contract: a record in range ends within its section, and every other number reads 0.
 use Prim.Native.Nat.{◌+◌, ◌*◌}
-use native.Mathlib.Omega.{arith}
 use mathlib.Core.Path.{sym, ◌∙◌}
 use Rattle.bundle.specs.Words.{word_at}
 use Rattle.bundle.proofs.Tab.{at_tab, tab_none}
-use Rattle.bundle.proofs.Fields.{record_within}
 use Rattle.bundle.proofs.records.field.Goals as goal
 
 pub returns-then-i-count : goal.returns-then-i-count
 returns-then-i-count c =
     let a = c.args in
     sym (tab_none 0 (λ j. word_at a.section.now (a.size * j + a.k)) a.count a.i c.if-i-count.true)
-
-pub overflow_mul-size : goal.overflow_mul-size
-overflow_mul-size c = let a = c.args in omega (arith, record_within a.size a.count a.i c.if-i-eq0.false c.if-i-count.false)
-
-pub word_at-requires : goal.word_at-requires
-word_at-requires c = let a = c.args in
-    omega (arith, record_within a.size a.count a.i c.if-i-eq0.false c.if-i-count.false)
 
 pub returns : goal.returns
 returns c =

@@ -3,12 +3,12 @@ use native.Mathlib.Omega.{arith}
 use Prim.Native.Nat.{◌+◌, ◌≤◌}
 use mathlib.Core.Path.{◌≡◌, refl, sym, ◌∙◌}
 use lib.ListN.{length}
+use Rattle.std.proofs.lemmas.Nat.{column_fits}
 use Rattle.logic.specs.Contexts.{contexts_fault}
 use Rattle.logic.proofs.CheckNumbers.{number_some}
 use Rattle.logic.proofs.Firsts.{rest_start, rest_on, rest_here, rest_end}
 use Rattle.logic.proofs.EntryFacts.{refers_passed}
 use Rattle.free_variables.proofs.FreeWords.{known_room}
-use Rattle.images.proofs.ContextRows.{record_below}
 use Rattle.contexts.proofs.contexts.contexts_fault.Goals as goal
 
 pub loop-i-init : goal.loop-i-init
@@ -39,7 +39,7 @@ enter-requires c =
       inv.scopes,
       record {
         row = omega (arith, known_room (length b.variables) l.i (length b.contexts) (length c.args.rows.now.images) few p.2, inv.images_long);
-        words = omega (arith, p.3, inv.scopes_long, record_below n l.i (length b.contexts + 1) (omega arith));
+        words = omega (arith, p.3, inv.scopes_long, column_fits n l.i n (length b.contexts + 1) (omega arith) (omega arith));
       },
       p.1,
       refers_passed b l.i (sym c.in_default.ensures),

@@ -1,6 +1,6 @@
 -- `arrays::place_in` meets its contract: the place of the variable, where it is one.
 use native.Mathlib.Omega.{arith}
-use mathlib.Core.Path.{sym, ◌∙◌}
+use mathlib.Core.Path.{sym}
 use Rattle.crossings.proofs.Stamps.{stamp_past}
 use Rattle.crossings.proofs.arrays.place_in.Goals as goal
 
@@ -9,6 +9,3 @@ returns-then-x-eq0 c ys half = sym (stamp_past _ ys half.known _ (λ h. omega (a
 
 pub returns-then-x-half : goal.returns-then-x-half
 returns-then-x-half c ys half = sym (stamp_past _ ys half.known _ (λ h. omega (arith, h.1, c.if-x-half.true)))
-
-pub returns : goal.returns
-returns c ys half = c.from.ensures ∙ half.place _ (omega arith) (omega arith)

@@ -63,10 +63,6 @@ loop-s-preserved c =
           (holds_on c.file-file.result.now k.result k.ensures.1 l.s l.words room l.invariant.2),
     )
 
-pub of-requires : goal.of-requires
-of-requires c =
-    record { within = c.counts-counts.ensures.1; long = omega (arith, c.requires, c.loop-s.auto.words, c.copy_section.auto.words) }
-
 pub returns : goal.returns
 returns c =
     let l = c.loop-s in

@@ -1,5 +1,4 @@
 -- `sections::copy_section` meets its contract. The invariant: the words are those of the start with the first i words of the section copied in.
-use mathlib.Core.Path.{◌≡◌}
 use native.Mathlib.Omega.{arith}
 use Rattle.files.proofs.Copied.{copied_none, copied_more}
 use Rattle.files.proofs.sections.copy_section.Goals as goal
@@ -12,8 +11,3 @@ loop-i-preserved c =
     let a = c.args in
     let l = c.loop-i in
     rw (l.invariant, c.as_word.ensures, c.word_at.ensures.0) (copied_more a.words.now a.to a.file.now a.from l.i (omega arith))
-
-pub returns : goal.returns
-returns c =
-    let past : c.loop-i.i ≡ c.args.count = omega arith in
-    rw past at c.loop-i.invariant

@@ -20,8 +20,3 @@ loop-i-preserved c =
     let ws = drop a.from a.words.now in
     let more : l.i < length ws = simp length-drop (omega arith) in
     rw (e, add-one l.i, take-suc ws l.i 0 more, get_or-drop) (stored_on l.invariant c.put_word.ensures)
-
-pub returns : goal.returns
-returns c =
-    let past : c.loop-i.i ≡ c.args.count = omega arith in
-    rw past at c.loop-i.invariant

@@ -3,7 +3,7 @@ use native.Mathlib.Omega.{arith}
 use native.Mathlib.Nat.{mul-le-mul_right}
 use native.Mathlib.Decide.{ℕ_discrete}
 use Prim.Native.Nat.{ℕ, ◌+◌, ◌*◌, ◌-◌, ◌≤◌, ◌<◌}
-use mathlib.Core.Path.{◌≡◌, refl, ◌∙◌}
+use mathlib.Core.Path.{◌≡◌, ◌∙◌}
 use mathlib.Core.List.{List}
 use Rattle.bundle.specs.Limits.{set_words}
 use Rattle.free_variables.specs.Spread.{Moved, SpreadOne}
@@ -33,20 +33,6 @@ module _ (w v u : List ℕ) (n terms t : ℕ) (words-fit : n ≤ set_words) (so 
             zeros = λ k past l. one.upper (set_words * q + k) (omega arith) ∙ m.zeros k past l;
           }
 
-pub loop-t-init : goal.loop-t-init
-loop-t-init c = record {
-  few = omega arith;
-  long = refl;
-  moved = λ q up low. absurd (omega arith);
-  lower = λ j h. refl;
-  rest = λ j h. refl;
-}
-
-pub spread_set-requires : goal.spread_set-requires
-spread_set-requires c =
-    let p = c.requires in
-    (p.0, omega (arith, p.1, c.loop-t.invariant.few, c.loop-t.invariant.long))
-
 pub loop-t-preserved : goal.loop-t-preserved
 loop-t-preserved c =
     let a = c.args in
@@ -54,11 +40,3 @@ loop-t-preserved c =
     let l = c.loop-t in
     let r = c.spread_set in
     partly_on a.area.now l.area r.new.area a.n a.terms l.t p.0 l.invariant c.loop-t-test.true r.ensures
-
-pub shape_of-area : goal.shape_of-area
-shape_of-area c = c.loop-t.invariant.long
-
-pub returns : goal.returns
-returns c =
-    let l = c.loop-t.invariant in
-    record { long = l.long; moved = λ t low. l.moved t (omega arith) low; rest = l.rest }

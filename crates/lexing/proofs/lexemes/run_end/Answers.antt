@@ -2,29 +2,23 @@
 use native.Mathlib.Omega.{arith}
 use mathlib.Core.Path.{◌≡◌}
 use lib.ListN.{length}
-use Rattle.lexing.proofs.SkipLaws.{run_start, run_on, run_low, run_other, run_past}
+use Rattle.lexing.proofs.SkipLaws.{run_start, run_on, run_stopped, run_past}
 use Rattle.lexing.proofs.lexemes.run_end.Goals as goal
 
 pub loop-j-init : goal.loop-j-init
 loop-j-init c = let a = c.args in run_start a.text.now c.requires.0 c.requires.1
 
-pub returns-then-class-lt5 : goal.returns-then-class-lt5
-returns-then-class-lt5 c =
+pub returns-then-not-goes_on : goal.returns-then-not-goes_on
+returns-then-not-goes_on c =
     let a = c.args in
-    run_low a.text.now c.loop-j.j c.loop-j.invariant (omega arith) c.class_code-class.result
-    c.class_code-class.ensures c.if-class-lt5.true
-
-pub returns-then-class-eq7 : goal.returns-then-class-eq7
-returns-then-class-eq7 c =
-    let a = c.args in
-    run_other a.text.now c.loop-j.j c.loop-j.invariant (omega arith) c.class_code-class.result
-    c.class_code-class.ensures c.if-class-eq7.true
+    run_stopped a.text.now c.loop-j.j c.loop-j.invariant (omega arith) c.class_of-class.result c.class_of-class.ensures
+    (rw c.goes_on.ensures at c.if-not-goes_on.true)
 
 pub loop-j-preserved : goal.loop-j-preserved
 loop-j-preserved c =
     let a = c.args in
-    run_on a.text.now c.loop-j.j c.loop-j.invariant (omega arith) c.class_code-class.result
-    c.class_code-class.ensures c.if-class-lt5.false c.if-class-eq7.false
+    run_on a.text.now c.loop-j.j c.loop-j.invariant (omega arith) c.class_of-class.result c.class_of-class.ensures
+    (rw c.goes_on.ensures at c.if-not-goes_on.false)
 
 pub returns : goal.returns
 returns c =

@@ -3,11 +3,9 @@ use native.Mathlib.Omega.{arith}
 use mathlib.Core.Path.{◌≡◌, ◌∙◌}
 use mathlib.Core.List.{[]}
 use lib.ListN.{length, drop, drop_of_length-le}
-use Rattle.lexing.proofs.SkipLaws.{skip_start, skip_on, skip_here, skip_end, skip_index, rest_all}
+use Rattle.std.proofs.lemmas.List.{take_rest}
+use Rattle.lexing.proofs.SkipLaws.{skip_on, skip_here, skip_end, skip_index}
 use Rattle.lexing.proofs.lexemes.skipped.Goals as goal
-
-pub loop-j-init : goal.loop-j-init
-loop-j-init c = let a = c.args in skip_start a.text.now
 
 pub overflow_add-mode : goal.overflow_add-mode
 overflow_add-mode c =
@@ -23,7 +21,7 @@ skip_mode-requires c =
 pub returns-then-mode-eq2 : goal.returns-then-mode-eq2
 returns-then-mode-eq2 c =
     let a = c.args in
-    rw (rest_all a.text.now c.loop-j.j) (skip_here a.text.now c.loop-j.mode c.loop-j.j c.loop-j.invariant (omega arith) c.class_code-class.result
+    rw (take_rest a.text.now c.loop-j.j) (skip_here a.text.now c.loop-j.mode c.loop-j.j c.loop-j.invariant (omega arith) c.class_code-class.result
     c.from-mode.result c.class_code-class.ensures (c.from-mode.ensures ∙ c.skip_mode.ensures) c.if-mode-eq2.true)
 
 pub loop-j-preserved : goal.loop-j-preserved
@@ -36,4 +34,4 @@ pub returns : goal.returns
 returns c =
     let t = c.args.text.now in
     let none : drop (length t) t ≡ [] = drop_of_length-le t (omega arith) in
-    rw (rest_all t (length t), none) (skip_end t c.loop-j.mode c.loop-j.j c.loop-j.invariant (omega arith))
+    rw (take_rest t (length t), none) (skip_end t c.loop-j.mode c.loop-j.j c.loop-j.invariant (omega arith))

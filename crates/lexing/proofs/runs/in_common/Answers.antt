@@ -2,11 +2,8 @@
 use native.Mathlib.Omega.{arith}
 use mathlib.Core.Path.{◌≡◌}
 use lib.ListN.{length}
-use Rattle.lexing.proofs.CommonLaws.{shared_start, shared_on, shared_differ, shared_other, shared_run}
+use Rattle.lexing.proofs.CommonLaws.{shared_on, shared_differ, shared_other, shared_run}
 use Rattle.lexing.proofs.runs.in_common.Goals as goal
-
-pub loop-j-init : goal.loop-j-init
-loop-j-init c = shared_start _ _
 
 pub returns-then-j-other : goal.returns-then-j-other
 returns-then-j-other c = shared_other c.args.run.now c.args.other.now c.loop-j.j c.loop-j.invariant c.if-j-other.true

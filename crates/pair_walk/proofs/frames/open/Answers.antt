@@ -18,12 +18,6 @@ returns-then-kind-number c =
       sym (open_variable a.bundle.now a.l a.r (frames a.agenda.now a.h) c.term_field-kind.ensures (c.if-kind-number.true ∙ c.number.ensures)),
     )
 
-pub push-requires : goal.push-requires
-push-requires c =
-    let h = c.requires in
-    let known = h.1 (λ e. c.if-kind-number.false (c.term_field-kind.ensures ∙ e ∙ sym c.number.ensures)) in
-    (h.0, omega (arith, known.0.1, c.terms.ensures), omega (arith, known.1.1, c.terms.ensures), omega arith, omega arith, omega arith)
-
 pub returns-then-is_binder : goal.returns-then-is_binder
 returns-then-is_binder c =
     let a = c.args in

@@ -2,7 +2,7 @@
 use mathlib.Core.Bool.{not}
 use lib.Dec.{leb}
 use borrow.Author.Tests.{not-false, leb-false}
-use Rattle.grammar.proofs.Words.{or_false}
+use Rattle.std.proofs.lemmas.Bool.{or_parts}
 use Rattle.pass_tokens.proofs.WordLaws as W
 use Rattle.pass_tokens.proofs.words.word_at.Goals as goal
 
@@ -14,7 +14,7 @@ returns-then-c-eq118 c =
 pub returns-in-Some : goal.returns-in-Some
 returns-in-Some c =
     let n = c.in-Some.n in
-    let s = or_false (leb n.value 32) (not c.run_stops-in-Some.result) c.if-n-run_stops.false in
+    let s = or_parts (leb n.value 32) (not c.run_stops-in-Some.result) c.if-n-run_stops.false in
     W.word_name c.args.symbols c.args.variables c.args.text.now c.args.start n c.if-start-text.false
     (c.run_stops-in-Some.ensures (not-false c.run_stops-in-Some.result s.1)) c.if-c-eq102.true c.in-Some.ensures c.requires.1
     (leb-false n.value 32 s.0)

@@ -3,7 +3,7 @@ use native.Mathlib.Omega.{arith}
 use mathlib.Core.Path.{sym}
 use Rattle.bundle.proofs.Walks.{walk_start_le, walk_le, walk_up, walk_length, next_is}
 use Rattle.images.specs.LentReading.{step_in}
-use Rattle.premises.proofs.Premises.{all_some, some_three, from_start, three_more, position_passes, position_fails}
+use Rattle.premises.proofs.Premises.{all_some, from_start, position_passes, position_fails}
 use Rattle.premises.proofs.Taken.walk.Goals as goal
 
 pub loop-i-init : goal.loop-i-init
@@ -16,7 +16,7 @@ loop-i-init c =
     rw (← c.self.view_is) (record {
       low = (walk_start_le b a.lefts i.result i.ensures, walk_start_le b a.rights j.result j.ensures, walk_start_le b a.premises k.result k.ensures);
       few = omega arith;
-      counted = some_three i.result;
+      counted = λ ne. omega arith;
       whole = sym (from_start b (step_in b _) a.body a.context a.lefts a.rights a.premises i.ensures j.ensures k.ensures);
     })
 
@@ -31,7 +31,7 @@ returns-then-not-carries c =
     let k = c.read_link-p.ensures in
     rw (← c.self.view_is)
     (position_fails b (step_in b _) a.body a.context l.i l.j l.k l.read (all_some l.i l.j l.k c.loop-i-test.true) v.low v.whole i.0 j.0 k.0
-    (rw (← c.self.view_is) at c.carries.ensures) (three_more l.read i.2 j.2 k.2) c.if-not-carries.true)
+    (rw (← c.self.view_is) at c.carries.ensures) (omega (arith, i.2, j.2, k.2)) c.if-not-carries.true)
 
 pub loop-i-smaller : goal.loop-i-smaller
 loop-i-smaller c =
@@ -55,12 +55,11 @@ loop-i-preserved c =
     let ni = next_is b l.i i.1 (rw c.links-links.ensures.0 at c.followed-i.ensures) in
     let nj = next_is b l.j j.1 (rw c.links-links.ensures.0 at c.followed-j.ensures) in
     let nk = next_is b l.k k.1 (rw c.links-links.ensures.0 at c.followed-k.ensures) in
-    let read = three_more l.read i.2 j.2 k.2 in
     rw (← c.self.view_is) (record {
       low = (walk_le b l.i _ ni, walk_le b l.j _ nj, walk_le b l.k _ nk);
-      few = omega (arith, read, v.counted some.0, v.low.0);
-      counted = λ ne. omega (arith, read, v.counted some.0, walk_up b l.i _ ni ne);
+      few = omega (arith, i.2, j.2, k.2, v.counted some.0, v.low.0);
+      counted = λ ne. omega (arith, i.2, j.2, k.2, v.counted some.0, walk_up b l.i _ ni ne);
       whole =
           position_passes b (step_in b _) a.body a.context l.i l.j l.k l.read some v.low v.whole i.0 j.0 k.0
-          (rw (← c.self.view_is) at c.carries.ensures) read ni nj nk c.if-not-carries.false;
+          (rw (← c.self.view_is) at c.carries.ensures) (omega (arith, i.2, j.2, k.2)) ni nj nk c.if-not-carries.false;
     })

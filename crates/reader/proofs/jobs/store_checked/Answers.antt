@@ -38,7 +38,7 @@ store_file-requires c =
       word,
       omega arith,
       omega (arith, (areas_long c.requires.2).output, c.text_fault.auto.area),
-      rw c.scratch.ensures (held_version held (declared_version c.requires.2)),
+      rw (c.view.ensures ∙ c.scratch.ensures) (held_version held (declared_version c.requires.2)),
     )
 
 -- `reads` is the formula of the text, which nothing refuses
@@ -61,4 +61,4 @@ returns c =
     let reads = settled c.args.bundle.now c.args.text.now (fault 0 0) c.in_ok-text_fault.ensures refl in
     let held = held_done reads.1 (c.of-filed.ensures ∙ c.copy_job.ensures) c.read_records.ensures some in
     let s = c.store_file.ensures in
-    stored_read held reads.1 c.scratch.ensures d (s.0 ∙ c.text_fault.auto.area) (omega arith) refl s.1 s.2 s.3
+    stored_read held reads.1 (c.view.ensures ∙ c.scratch.ensures) d (s.0 ∙ c.text_fault.auto.area) (omega arith) refl s.1 s.2 s.3

@@ -19,7 +19,7 @@ store_file-requires c =
       text.word,
       omega arith,
       (areas_long c.requires.2).output,
-      rw c.scratch.ensures (held_version (passed_held copied text) (declared_version c.requires.2)),
+      rw (c.view.ensures ∙ c.scratch.ensures) (held_version (passed_held copied text) (declared_version c.requires.2)),
     )
 
 pub returns : goal.returns
@@ -29,5 +29,5 @@ returns c =
     let s = c.store_file.ensures in (
       s.0,
       omega arith,
-      λ f sets d. stored_read (passed_held copied text) (passed_settled copied text) c.scratch.ensures d s.0 (omega arith) refl s.1 s.2 s.3,
+      λ f sets d. stored_read (passed_held copied text) (passed_settled copied text) (c.view.ensures ∙ c.scratch.ensures) d s.0 (omega arith) refl s.1 s.2 s.3,
     )

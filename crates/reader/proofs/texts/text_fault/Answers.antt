@@ -1,15 +1,11 @@
 -- `texts::text_fault` meets its contract: the verdict of the scan, then that of the sorts.
 use mathlib.Core.Path.{refl, sym, ap, ◌∙◌}
 use mathlib.Core.Bool.{Bool, cond}
-use native.Mathlib.Omega.{arith}
 use Rattle.std.proofs.lemmas.Result.{err_from_is_err_and}
 use Rattle.logic.specs.Tests.{fault}
 use Rattle.logic.proofs.CheckNumbers.{number_some}
 use Rattle.reader.proofs.TextTests.{scan_refuses, scan_passes}
 use Rattle.reader.proofs.texts.text_fault.Goals as goal
-
-pub scan-requires : goal.scan-requires
-scan-requires c = (omega (arith, c.requires), omega (arith, c.symbols-symbols.ensures.1), omega (arith, c.variables-variables.ensures.1))
 
 pub returns-in_err-scan : goal.returns-in_err-scan
 returns-in_err-scan c =

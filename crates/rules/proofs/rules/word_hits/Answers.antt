@@ -69,17 +69,6 @@ overflow_add-z-in-loop-left c =
     let r = c.lowest_bit-i in
     omega (arith, small c.loop-left.left r.result r.ensures c.loop-left.invariant.fits c.loop-left-test.true)
 
-pub returns-then-z-variables : goal.returns-then-z-variables
-returns-then-z-variables c =
-    let a = c.args in
-    let last : ℕ = length a.sets.now.bundle.variables in
-    let hit = hit_by (free_in a.sets.now) (image_at last a.images.now a.context) a.y in
-    let l = c.loop-left in
-    let r = c.lowest_bit-i in (
-      (λ e. none_left a.word a.base last hit l.left l.invariant (λ i low few. below l.left r.result r.ensures i (omega (arith, rw c.bundle-bundle.ensures at c.variables.ensures.0)))),
-      (λ e. absurd (false≢true e)),
-    )
-
 pub returns-then-free_in_image : goal.returns-then-free_in_image
 returns-then-free_in_image c =
     let l = c.loop-left in
@@ -116,13 +105,3 @@ loop-left-preserved c =
     rw c.without_bit-left.ensures
     (left_on a.word a.base last hit l.left l.invariant r.result (omega (arith, c.without_bit-left.ensures))
     (rw (← (rw (c.variables-in-loop-left.ensures.0, c.bundle-bundle.ensures) at c.image_of-image.ensures), ← c.free_in_image.ensures, c.if-free_in_image.false)))
-
-pub returns : goal.returns
-returns c =
-    let a = c.args in
-    let last : ℕ = length a.sets.now.bundle.variables in
-    let hit = hit_by (free_in a.sets.now) (image_at last a.images.now a.context) a.y in
-    let l = c.loop-left in (
-      (λ e. none_left a.word a.base last hit l.left l.invariant (λ i low few. rw c.loop-left-test.false (bit_none i))),
-      (λ e. absurd (false≢true e)),
-    )

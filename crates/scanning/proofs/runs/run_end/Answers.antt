@@ -1,7 +1,8 @@
 -- `runs::run_end` meets its contract. The invariant: so far all are symbol characters.
 use native.Mathlib.Omega.{arith}
-use mathlib.Core.Path.{◌≡◌}
+use mathlib.Core.Path.{◌≡◌, ap}
 use lib.ListN.{length}
+use Rattle.lexing.specs.Codes.{class_code}
 use Rattle.spots.proofs.RunLaws.{running_start, running_end, running_found, running_on}
 use Rattle.scanning.proofs.runs.run_end.Goals as goal
 
@@ -10,11 +11,11 @@ loop-j-init c = running_start _ _ c.requires
 
 pub loop-j-preserved : goal.loop-j-preserved
 loop-j-preserved c =
-    running_on _ _ c.loop-j.j c.loop-j.invariant (omega arith) _ c.class_code-class.ensures c.if-not-class.false
+    running_on _ _ c.loop-j.j c.loop-j.invariant (omega arith) _ (ap class_code c.class_of-class.ensures) (rw c.goes_on.ensures at c.if-not-goes_on.false)
 
-pub returns-then-not-class : goal.returns-then-not-class
-returns-then-not-class c =
-    running_found _ _ c.loop-j.j c.loop-j.invariant (omega arith) _ c.class_code-class.ensures c.if-not-class.true
+pub returns-then-not-goes_on : goal.returns-then-not-goes_on
+returns-then-not-goes_on c =
+    running_found _ _ c.loop-j.j c.loop-j.invariant (omega arith) _ (ap class_code c.class_of-class.ensures) (rw c.goes_on.ensures at c.if-not-goes_on.true)
 
 pub returns : goal.returns
 returns c =

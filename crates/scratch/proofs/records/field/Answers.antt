@@ -2,7 +2,6 @@
 use native.Mathlib.Omega.{arith}
 use mathlib.Core.Path.{sym, ◌∙◌}
 use Rattle.bundle.proofs.Tab.{at_tab, tab_none}
-use Rattle.bundle.proofs.Fields.{record_within}
 use Rattle.bundle.specs.File.{record_by}
 use Rattle.scratch.specs.Scratch.{word_in}
 use Rattle.scratch.proofs.records.field.Goals as goal
@@ -11,22 +10,6 @@ pub returns-then-i-count : goal.returns-then-i-count
 returns-then-i-count c =
     let a = c.args in
     (sym (tab_none 0 (λ j. record_by (word_in a.words.now) a.start a.size j a.k) a.count a.i c.if-i-count.true), omega arith)
-
-pub overflow_mul-size : goal.overflow_mul-size
-overflow_mul-size c = let a = c.args in omega (arith, record_within a.size a.count a.i c.if-i-eq0.false c.if-i-count.false)
-
-pub overflow_add-start : goal.overflow_add-start
-overflow_add-start c = let a = c.args in omega (arith, record_within a.size a.count a.i c.if-i-eq0.false c.if-i-count.false)
-
-pub overflow_add-start-2 : goal.overflow_add-start-2
-overflow_add-start-2 c = let a = c.args in omega (arith, record_within a.size a.count a.i c.if-i-eq0.false c.if-i-count.false)
-
-pub offset_bounds-words-start : goal.offset_bounds-words-start
-offset_bounds-words-start c = let a = c.args in omega (arith, record_within a.size a.count a.i c.if-i-eq0.false c.if-i-count.false)
-
-pub bounds-words-start : goal.bounds-words-start
-bounds-words-start c = let a = c.args in
-    omega (arith, record_within a.size a.count a.i c.if-i-eq0.false c.if-i-count.false)
 
 pub returns : goal.returns
 returns c =

@@ -1,6 +1,7 @@
 -- `notes::sort_by` meets its contract: the definition, by the kind.
+use Rattle.logic.proofs.Trees.{truth_of_binder}
 use Rattle.logic.specs.Sorts.{sort_as, sort_by}
-use Rattle.sorting.proofs.SortOf.{signature_is, truth_of_binder}
+use Rattle.sorting.proofs.SortOf.{signature_is}
 use Rattle.sorting.proofs.notes.sort_by.Goals as goal
 
 pub returns-in-Some-Variable : goal.returns-in-Some-Variable

@@ -28,14 +28,15 @@ pub step_fault-requires : goal.step_fault-requires
 step_fault-requires c =
     let l = c.loop-k in
     let count : c.steps-steps.result ≡ length c.args.known.now.sets.bundle.steps = rw c.bundle.ensures at c.steps-steps.ensures.0 in
-    (l.invariant.noted, l.invariant.some, omega (arith, count))
+    rw c.of-judging.ensures (l.invariant.noted, l.invariant.some, omega (arith, count))
 
 pub returns-in-Err : goal.returns-in-Err
 returns-in-Err c =
     let k = c.args.known.now in
     let l = c.loop-k in
     let words : Words k.sets.words = rw (c.words-words.ensures.0, c.sets.ensures.0) at c.words-words.ensures.2 in
-    let right = c.in-Err.ensures.fact.number ∙ fault_right k c.requires.0 words _ (omega arith) l.k in
+    let s = rw c.of-judging.ensures at c.in-Err.ensures in
+    let right = s.fact.number ∙ fault_right k c.requires.0 words _ (omega arith) l.k in
     record {
       fault = sym (l.invariant.rest ∙ rest_here _ _ _ right (omega arith) (number_some c.in-Err.check));
       pairs = tt;
@@ -45,7 +46,7 @@ pub loop-k-preserved : goal.loop-k-preserved
 loop-k-preserved c =
     let k = c.args.known.now in
     let l = c.loop-k in
-    let s = c.in-Ok.ensures in
+    let s = rw c.of-judging.ensures at c.in-Ok.ensures in
     let words : Words k.sets.words = rw (c.words-words.ensures.0, c.sets.ensures.0) at c.words-words.ensures.2 in
     let right = s.fact.number ∙ fault_right k c.requires.0 words _ (omega arith) l.k in
     let walk = s.fact.pairs ∙ pairs_right k c.requires.0 words _ (omega arith) l.k in record {

@@ -11,7 +11,7 @@ use Rattle.steps.proofs.steps.steps_fault_in.Given as goal
 abbrev pub invariant-loop-k : goal.invariant-loop-k
 invariant-loop-k l = record {
   some : 1 ≤ l.k;
-  rest : steps_fault l.known.sets.bundle ≡ rest_fault (step_fault l.known.sets.bundle) l.steps l.k;
-  noted : LowerNoted l.known.sets.bundle (l.k - 1) l.earlier;
-  told : l.pairs ≡ last_pairs l.known.sets.bundle (l.k - 1);
+  rest : steps_fault l.fn.known.sets.bundle ≡ rest_fault (step_fault l.fn.known.sets.bundle) l.steps l.k;
+  noted : LowerNoted l.fn.known.sets.bundle (l.k - 1) l.earlier;
+  told : l.pairs ≡ last_pairs l.fn.known.sets.bundle (l.k - 1);
 }

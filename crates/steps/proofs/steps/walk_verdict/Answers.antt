@@ -1,14 +1,7 @@
 -- `steps::walk_verdict` meets its contract, case by case.
-use native.Mathlib.Omega.{arith}
-use mathlib.Core.Path.{sym, ap, subst}
-use Rattle.logic.specs.ReflWalk.{pair_limit}
-use Rattle.steps.specs.Verdicts.{LeavesAtMost, walk_verdict}
+use mathlib.Core.Path.{sym, ap}
+use Rattle.steps.specs.Verdicts.{walk_verdict}
 use Rattle.steps.proofs.steps.walk_verdict.Goals as goal
-
-pub overflow_sub-result : goal.overflow_sub-result
-overflow_sub-result c =
-    let few = subst (LeavesAtMost pair_limit) c.in-Same.is c.requires in
-    omega (arith, few)
 
 pub returns-in-Same : goal.returns-in-Same
 unfolding walk_verdict

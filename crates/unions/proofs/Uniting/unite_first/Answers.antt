@@ -1,7 +1,6 @@
 -- `Uniting::unite_first` meets its contract.
-use native.Mathlib.Omega.{arith}
 use Rattle.bundle.proofs.Walks.{walk_start, walk_start_le, walk_le, walk_cons}
-use Rattle.unions.proofs.Puts.{room_kept, partly_refl, partly_on}
+use Rattle.unions.proofs.Puts.{partly_refl, partly_on}
 use Rattle.unions.proofs.Uniting.unite_first.Goals as goal
 
 pub loop-init : goal.loop-init
@@ -9,11 +8,6 @@ loop-init c =
     let b = c.self.inside.bundle.now in
     let r = c.first_link-i in
     record { link = walk_start_le b c.args.list r.result r.ensures; part = rw (walk_start b c.args.list r.result r.ensures) partly_refl }
-
-pub unite_term-requires : goal.unite_term-requires
-unite_term-requires c = let a = c.args in
-    let u = c.self.inside in
-    room_kept a.area.now c.loop.area u.n u.t a.at (rw (← c.self.view_is) at c.requires) c.loop.invariant.part.kept
 
 pub loop-preserved : goal.loop-preserved
 loop-preserved c =
@@ -25,9 +19,3 @@ loop-preserved c =
           (walk_cons b l.i c.link_field-term.result c.next_link-i.result c.if-i-eq0.false l.invariant.link c.link_field-term.ensures c.next_link-i.ensures)
           c.unite_term.ensures;
     }
-
-pub returns : goal.returns
-returns c = rw (← c.self.view_is) (c.loop.invariant.link, c.loop.invariant.part)
-
-pub returns-then-i-eq0 : goal.returns-then-i-eq0
-returns-then-i-eq0 c = rw (← c.self.view_is) (omega arith, rw c.if-i-eq0.true at c.loop.invariant.part)

@@ -7,18 +7,6 @@ use Rattle.unions.specs.Unions.{known}
 use Rattle.unions.proofs.Unions.{unknown_some, unions_fewer, fewer_refl, fewer_on, links_seen}
 use Rattle.unions.proofs.Uniting.walk_out.Goals as goal
 
-pub loop-self-init : goal.loop-self-init
-loop-self-init c = record { last = omega arith; link = c.requires; same = c.self.view_is; unions = c.self.invariant }
-
-pub bounds-self-inside-i : goal.bounds-self-inside-i
-bounds-self-inside-i c = let l = c.loop-self in omega (arith, links_seen l.invariant.same, l.invariant.link, l.invariant.unions.marked)
-
-pub invariant_of-self : goal.invariant_of-self
-invariant_of-self c = c.loop-self.invariant.unions
-
-pub overflow_cast-self : goal.overflow_cast-self
-overflow_cast-self c = omega (arith, c.links-links.ensures.0, c.links-links.ensures.1, links_seen c.self.view_is, c.loop-self.invariant.last)
-
 pub loop-self-smaller : goal.loop-self-smaller
 loop-self-smaller c =
     let l = c.loop-self in
@@ -44,6 +32,3 @@ loop-self-preserved c =
           (unknown_some u.marks.now l.i new)
           (omega (arith, c.links-links.ensures.0, c.links-links.ensures.1, links_seen c.self.view_is, l.invariant.last)));
     }
-
-pub returns : goal.returns
-returns c = (c.loop-self.invariant.last, c.loop-self.invariant.same)

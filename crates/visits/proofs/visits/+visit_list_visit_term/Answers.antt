@@ -54,31 +54,31 @@ visit_list-returns-then-list-eq0 t c =
 
 pub visit_list-visit_term-requires : goal.visit_list-visit_term-requires
 visit_list-visit_term-requires t c =
-    let reads = link_reads c.scratch-scratch.ensures c.if-list-eq0.false c.link_field-value.ensures.0 c.link_field-next.ensures.0 in
+    let reads = link_reads (c.view-view.ensures ∙ c.scratch-scratch.ensures) c.if-list-eq0.false c.link_field-value.ensures.0 c.link_field-next.ensures.0 in
     let k = first_asks c.requires reads in
     (omega (arith, c.decreases, k.1), k.0)
 
 pub visit_list-returns-in_err-visited : goal.visit_list-returns-in_err-visited
 visit_list-returns-in_err-visited t c =
-    let reads = link_reads c.scratch-scratch.ensures c.if-list-eq0.false c.link_field-value.ensures.0 c.link_field-next.ensures.0 in
+    let reads = link_reads (c.view-view.ensures ∙ c.scratch-scratch.ensures) c.if-list-eq0.false c.link_field-value.ensures.0 c.link_field-next.ensures.0 in
     rw c.from_residual.ensures (first_full c.requires reads c.visit_term.ensures c.in_err-visited.was)
 
 -- a place for the pair
 pub visit_list-prove-unreachable-requires-2 : goal.visit_list-prove-unreachable-requires-2
 visit_list-prove-unreachable-requires-2 t c =
-    let reads = link_reads c.scratch-scratch.ensures c.if-list-eq0.false c.link_field-value.ensures.0 c.link_field-next.ensures.0 in
+    let reads = link_reads (c.view-view.ensures ∙ c.scratch-scratch.ensures) c.if-list-eq0.false c.link_field-value.ensures.0 c.link_field-next.ensures.0 in
     let k = first_height c.requires reads c.visit_term.ensures c.in_ok-visited.was in
     omega (arith, k.2)
 
 pub visit_list-visit_list-requires : goal.visit_list-visit_list-requires
 visit_list-visit_list-requires t c =
-    let reads = link_reads c.scratch-scratch.ensures c.if-list-eq0.false c.link_field-value.ensures.0 c.link_field-next.ensures.0 in
+    let reads = link_reads (c.view-view.ensures ∙ c.scratch-scratch.ensures) c.if-list-eq0.false c.link_field-value.ensures.0 c.link_field-next.ensures.0 in
     let k = rest_asks c.requires reads c.visit_term.ensures c.in_ok-visited.was (pair c.pack.ensures.0 c.pack.ensures.1) in
     (omega (arith, c.decreases, k.1), k.0)
 
 pub visit_list-returns : goal.visit_list-returns
 visit_list-returns t c =
-    let reads = link_reads c.scratch-scratch.ensures c.if-list-eq0.false c.link_field-value.ensures.0 c.link_field-next.ensures.0 in
+    let reads = link_reads (c.view-view.ensures ∙ c.scratch-scratch.ensures) c.if-list-eq0.false c.link_field-value.ensures.0 c.link_field-next.ensures.0 in
     list_more c.requires reads c.visit_term.ensures c.in_ok-visited.was (pair c.pack.ensures.0 c.pack.ensures.1) c.visit_list.ensures
 
 -- ---- the visit to a term
@@ -91,7 +91,7 @@ visit_term-close_variable-requires t c =
 
 pub visit_term-returns-in-Some-Variable : goal.visit_term-returns-in-Some-Variable
 visit_term-returns-in-Some-Variable t c =
-    let read = arm c.scratch-scratch.ensures c.term_words-words.ensures.0 c.of.ensures c.in-Some-Variable.is c.in-Some-Variable.field-0-is in
+    let read = arm (c.view.ensures ∙ c.scratch-scratch.ensures) c.term_words-words.ensures.0 c.of.ensures c.in-Some-Variable.is c.in-Some-Variable.field-0-is in
     term_variable c.requires read.0 read.1 c.close_variable.ensures.0 c.close_variable.ensures.1
 
 -- ---- a quantifier
@@ -103,24 +103,24 @@ visit_term-open_quantifier-requires t c =
 
 pub visit_term-returns-in_err-opened-in-Some-Binder : goal.visit_term-returns-in_err-opened-in-Some-Binder
 visit_term-returns-in_err-opened-in-Some-Binder t c =
-    let read = arm c.scratch-scratch.ensures c.term_words-words.ensures.0 c.of.ensures c.in-Some-Binder.is c.in-Some-Binder.field-0-is in
+    let read = arm (c.view.ensures ∙ c.scratch-scratch.ensures) c.term_words-words.ensures.0 c.of.ensures c.in-Some-Binder.is c.in-Some-Binder.field-0-is in
     rw c.from_residual-in_err-opened-in-Some-Binder.ensures (scope_closed c.requires read.0 read.1 c.open_quantifier.ensures c.in_err-opened-in-Some-Binder.was)
 
 pub visit_term-visit_term-requires : goal.visit_term-visit_term-requires
 visit_term-visit_term-requires t c =
-    let read = arm c.scratch-scratch.ensures c.term_words-words.ensures.0 c.of.ensures c.in-Some-Binder.is c.in-Some-Binder.field-0-is in
+    let read = arm (c.view.ensures ∙ c.scratch-scratch.ensures) c.term_words-words.ensures.0 c.of.ensures c.in-Some-Binder.is c.in-Some-Binder.field-0-is in
     let k = scope_asks c.requires read.0 read.1 c.open_quantifier.ensures c.in_ok-opened-in-Some-Binder.was in
     (omega (arith, c.decreases, k.1), k.0)
 
 pub visit_term-returns-in_err-body-in-Some-Binder : goal.visit_term-returns-in_err-body-in-Some-Binder
 visit_term-returns-in_err-body-in-Some-Binder t c =
-    let read = arm c.scratch-scratch.ensures c.term_words-words.ensures.0 c.of.ensures c.in-Some-Binder.is c.in-Some-Binder.field-0-is in
+    let read = arm (c.view.ensures ∙ c.scratch-scratch.ensures) c.term_words-words.ensures.0 c.of.ensures c.in-Some-Binder.is c.in-Some-Binder.field-0-is in
     rw c.from_residual-in_err-body-in-Some-Binder.ensures
     (scope_full c.requires read.0 read.1 c.open_quantifier.ensures c.in_ok-opened-in-Some-Binder.was c.visit_term.ensures c.in_err-body-in-Some-Binder.was)
 
 pub visit_term-close_quantifier-requires : goal.visit_term-close_quantifier-requires
 visit_term-close_quantifier-requires t c =
-    let read = arm c.scratch-scratch.ensures c.term_words-words.ensures.0 c.of.ensures c.in-Some-Binder.is c.in-Some-Binder.field-0-is in
+    let read = arm (c.view.ensures ∙ c.scratch-scratch.ensures) c.term_words-words.ensures.0 c.of.ensures c.in-Some-Binder.is c.in-Some-Binder.field-0-is in
     let w = within c.scratch-scratch.ensures c.counts.ensures in
     let k = term_words_lem c.requires w in
     let fits = subst VisitFits c.in_ok-body-in-Some-Binder.was c.visit_term.ensures.words in
@@ -128,7 +128,7 @@ visit_term-close_quantifier-requires t c =
 
 pub visit_term-returns-in_ok-body-in-Some-Binder : goal.visit_term-returns-in_ok-body-in-Some-Binder
 visit_term-returns-in_ok-body-in-Some-Binder t c =
-    let read = arm c.scratch-scratch.ensures c.term_words-words.ensures.0 c.of.ensures c.in-Some-Binder.is c.in-Some-Binder.field-0-is in
+    let read = arm (c.view.ensures ∙ c.scratch-scratch.ensures) c.term_words-words.ensures.0 c.of.ensures c.in-Some-Binder.is c.in-Some-Binder.field-0-is in
     scope_done c.requires read.0 read.1 c.open_quantifier.ensures c.in_ok-opened-in-Some-Binder.was c.visit_term.ensures c.in_ok-body-in-Some-Binder.was c.close_quantifier.ensures.0
     c.close_quantifier.ensures.1
 
@@ -136,19 +136,19 @@ visit_term-returns-in_ok-body-in-Some-Binder t c =
 
 pub visit_term-visit_list-requires : goal.visit_term-visit_list-requires
 visit_term-visit_list-requires t c =
-    let read = arm c.scratch-scratch.ensures c.term_words-words.ensures.0 c.of.ensures c.in-Some-Application.is c.in-Some-Application.field-0-is in
+    let read = arm (c.view.ensures ∙ c.scratch-scratch.ensures) c.term_words-words.ensures.0 c.of.ensures c.in-Some-Application.is c.in-Some-Application.field-0-is in
     (omega (arith, c.decreases, left_le c.term_words-words.result.second), args_asks c.requires read.0 (inl read.1))
 
 pub visit_term-returns-in_err-top-in-Some-Application : goal.visit_term-returns-in_err-top-in-Some-Application
 visit_term-returns-in_err-top-in-Some-Application t c =
-    let read = arm c.scratch-scratch.ensures c.term_words-words.ensures.0 c.of.ensures c.in-Some-Application.is c.in-Some-Application.field-0-is in
+    let read = arm (c.view.ensures ∙ c.scratch-scratch.ensures) c.term_words-words.ensures.0 c.of.ensures c.in-Some-Application.is c.in-Some-Application.field-0-is in
     rw c.from_residual.ensures (args_full c.requires read.0 (inl read.1) c.visit_list.ensures c.in_err-top-in-Some-Application.was)
 
 -- the pairs are on the stack
 
 pub visit_term-prove-unreachable-requires-in-Some-Application : goal.visit_term-prove-unreachable-requires-in-Some-Application
 visit_term-prove-unreachable-requires-in-Some-Application t c =
-    let read = arm c.scratch-scratch.ensures c.term_words-words.ensures.0 c.of.ensures c.in-Some-Application.is c.in-Some-Application.field-0-is in
+    let read = arm (c.view.ensures ∙ c.scratch-scratch.ensures) c.term_words-words.ensures.0 c.of.ensures c.in-Some-Application.is c.in-Some-Application.field-0-is in
     let k = args_ready c.requires read.0 (inl read.1) c.visit_list.ensures c.in_ok-top-in-Some-Application.was in
     grind (arith, nat_tests)
 
@@ -159,7 +159,7 @@ visit_term-close_application-requires t c =
 
 pub visit_term-returns-in_ok-top-in-Some-Application : goal.visit_term-returns-in_ok-top-in-Some-Application
 visit_term-returns-in_ok-top-in-Some-Application t c =
-    let read = arm c.scratch-scratch.ensures c.term_words-words.ensures.0 c.of.ensures c.in-Some-Application.is c.in-Some-Application.field-0-is in
+    let read = arm (c.view.ensures ∙ c.scratch-scratch.ensures) c.term_words-words.ensures.0 c.of.ensures c.in-Some-Application.is c.in-Some-Application.field-0-is in
     apply_done c.requires read.0 (inl read.1) c.visit_list.ensures c.in_ok-top-in-Some-Application.was read.1 c.close_application.ensures.0
     c.close_application.ensures.1
 
@@ -167,19 +167,19 @@ visit_term-returns-in_ok-top-in-Some-Application t c =
 
 pub visit_term-visit_list-requires-in-Some-Let : goal.visit_term-visit_list-requires-in-Some-Let
 visit_term-visit_list-requires-in-Some-Let t c =
-    let read = arm c.scratch-scratch.ensures c.term_words-words.ensures.0 c.of.ensures c.in-Some-Let.is c.in-Some-Let.field-0-is in
+    let read = arm (c.view.ensures ∙ c.scratch-scratch.ensures) c.term_words-words.ensures.0 c.of.ensures c.in-Some-Let.is c.in-Some-Let.field-0-is in
     (omega (arith, c.decreases, left_le c.term_words-words.result.second), args_asks c.requires read.0 (inr read.1))
 
 pub visit_term-returns-in_err-top-in-Some-Let : goal.visit_term-returns-in_err-top-in-Some-Let
 visit_term-returns-in_err-top-in-Some-Let t c =
-    let read = arm c.scratch-scratch.ensures c.term_words-words.ensures.0 c.of.ensures c.in-Some-Let.is c.in-Some-Let.field-0-is in
+    let read = arm (c.view.ensures ∙ c.scratch-scratch.ensures) c.term_words-words.ensures.0 c.of.ensures c.in-Some-Let.is c.in-Some-Let.field-0-is in
     rw c.from_residual-in_err-top-in-Some-Let.ensures (args_full c.requires read.0 (inr read.1) c.visit_list-in-Some-Let.ensures c.in_err-top-in-Some-Let.was)
 
 -- the pairs are on the stack
 
 pub visit_term-prove-unreachable-requires-in-Some-Let : goal.visit_term-prove-unreachable-requires-in-Some-Let
 visit_term-prove-unreachable-requires-in-Some-Let t c =
-    let read = arm c.scratch-scratch.ensures c.term_words-words.ensures.0 c.of.ensures c.in-Some-Let.is c.in-Some-Let.field-0-is in
+    let read = arm (c.view.ensures ∙ c.scratch-scratch.ensures) c.term_words-words.ensures.0 c.of.ensures c.in-Some-Let.is c.in-Some-Let.field-0-is in
     let k = args_ready c.requires read.0 (inr read.1) c.visit_list-in-Some-Let.ensures c.in_ok-top-in-Some-Let.was in
     grind (arith, nat_tests)
 
@@ -190,19 +190,19 @@ visit_term-open_let-requires t c =
 
 pub visit_term-returns-in_err-inner-in-Some-Let : goal.visit_term-returns-in_err-inner-in-Some-Let
 visit_term-returns-in_err-inner-in-Some-Let t c =
-    let read = arm c.scratch-scratch.ensures c.term_words-words.ensures.0 c.of.ensures c.in-Some-Let.is c.in-Some-Let.field-0-is in
+    let read = arm (c.view.ensures ∙ c.scratch-scratch.ensures) c.term_words-words.ensures.0 c.of.ensures c.in-Some-Let.is c.in-Some-Let.field-0-is in
     rw c.from_residual-in_err-inner-in-Some-Let.ensures
     (let_closed c.requires read.0 (inr read.1) c.visit_list-in-Some-Let.ensures c.in_ok-top-in-Some-Let.was read.1 c.open_let.ensures c.in_err-inner-in-Some-Let.was)
 
 pub visit_term-visit_term-requires-in-Some-Let : goal.visit_term-visit_term-requires-in-Some-Let
 visit_term-visit_term-requires-in-Some-Let t c =
-    let read = arm c.scratch-scratch.ensures c.term_words-words.ensures.0 c.of.ensures c.in-Some-Let.is c.in-Some-Let.field-0-is in
+    let read = arm (c.view.ensures ∙ c.scratch-scratch.ensures) c.term_words-words.ensures.0 c.of.ensures c.in-Some-Let.is c.in-Some-Let.field-0-is in
     let k = body_asks c.requires read.0 (inr read.1) c.visit_list-in-Some-Let.ensures c.in_ok-top-in-Some-Let.was read.1 c.open_let.ensures c.in_ok-inner-in-Some-Let.was in
     (omega (arith, c.decreases, k.1), k.0)
 
 pub visit_term-returns-in_err-body-in-Some-Let : goal.visit_term-returns-in_err-body-in-Some-Let
 visit_term-returns-in_err-body-in-Some-Let t c =
-    let read = arm c.scratch-scratch.ensures c.term_words-words.ensures.0 c.of.ensures c.in-Some-Let.is c.in-Some-Let.field-0-is in
+    let read = arm (c.view.ensures ∙ c.scratch-scratch.ensures) c.term_words-words.ensures.0 c.of.ensures c.in-Some-Let.is c.in-Some-Let.field-0-is in
     rw c.from_residual-in_err-body-in-Some-Let.ensures
     (body_full c.requires read.0 (inr read.1) c.visit_list-in-Some-Let.ensures c.in_ok-top-in-Some-Let.was read.1 c.open_let.ensures c.in_ok-inner-in-Some-Let.was c.visit_term-in-Some-Let.ensures c.in_err-body-in-Some-Let.was)
 
@@ -210,7 +210,7 @@ visit_term-returns-in_err-body-in-Some-Let t c =
 
 pub visit_term-prove-unreachable-requires-in-Some-Let-2 : goal.visit_term-prove-unreachable-requires-in-Some-Let-2
 visit_term-prove-unreachable-requires-in-Some-Let-2 t c =
-    let read = arm c.scratch-scratch.ensures c.term_words-words.ensures.0 c.of.ensures c.in-Some-Let.is c.in-Some-Let.field-0-is in
+    let read = arm (c.view.ensures ∙ c.scratch-scratch.ensures) c.term_words-words.ensures.0 c.of.ensures c.in-Some-Let.is c.in-Some-Let.field-0-is in
     let k = body_ready c.requires read.0 (inr read.1) c.visit_list-in-Some-Let.ensures c.in_ok-top-in-Some-Let.was read.1 c.open_let.ensures c.in_ok-inner-in-Some-Let.was c.visit_term-in-Some-Let.ensures c.in_ok-body-in-Some-Let.was in
     omega (arith, k)
 
@@ -222,7 +222,7 @@ visit_term-conclude-requires t c =
 
 pub visit_term-returns-in_ok-body-in-Some-Let : goal.visit_term-returns-in_ok-body-in-Some-Let
 visit_term-returns-in_ok-body-in-Some-Let t c =
-    let read = arm c.scratch-scratch.ensures c.term_words-words.ensures.0 c.of.ensures c.in-Some-Let.is c.in-Some-Let.field-0-is in
+    let read = arm (c.view.ensures ∙ c.scratch-scratch.ensures) c.term_words-words.ensures.0 c.of.ensures c.in-Some-Let.is c.in-Some-Let.field-0-is in
     body_done c.requires read.0 (inr read.1) c.visit_list-in-Some-Let.ensures c.in_ok-top-in-Some-Let.was read.1 c.open_let.ensures c.in_ok-inner-in-Some-Let.was c.visit_term-in-Some-Let.ensures c.in_ok-body-in-Some-Let.was (pair c.pack.ensures.0 c.pack.ensures.1)
     (rw c.number.ensures at c.conclude.ensures.0) c.conclude.ensures.1
 
@@ -230,5 +230,5 @@ visit_term-returns-in_ok-body-in-Some-Let t c =
 
 pub visit_term-unreachable-requires : goal.visit_term-unreachable-requires
 visit_term-unreachable-requires t c =
-    let reads = term_reads c.scratch-scratch.ensures c.term_words-words.ensures.0 in
+    let reads = term_reads (c.view.ensures ∙ c.scratch-scratch.ensures) c.term_words-words.ensures.0 in
     term_kind c.requires reads (c.of.ensures ∙ ap kind_named c.in-None.is)

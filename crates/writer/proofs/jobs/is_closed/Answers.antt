@@ -1,26 +1,12 @@
--- `jobs::is_closed` meets its contract. The invariant: the variables so far are not free in the term.
-use native.Mathlib.Omega.{arith}
-use mathlib.Core.Path.{◌≡◌, sym, ap, ◌∙◌}
-use Prim.Native.Nat.{ℕ}
-use lib.ListN.{length}
-use borrow.Author.Count.{below_none, below_more}
-use Rattle.bundle.specs.Bundle.{Bundle}
-use Rattle.writer.proofs.JobTests.{all_pass, one_fails}
+-- `jobs::is_closed` meets its contract.
+use Rattle.std.proofs.Common.{rules, not, refl, ◌∙◌, arith}
+use Rattle.std.proofs.lemmas.Iterator.{YieldsList-from_range}
+use Rattle.std.proofs.lemmas.Iterator.Search.{all_from_yields_List}
+use Rattle.free_variables.specs.TermSets.{free_in}
+use Rattle.writer.proofs.JobTests.{all_up_to}
 use Rattle.writer.proofs.jobs.is_closed.Goals as goal
 
--- how many variables there are
-count : {b s : Bundle} {n : ℕ} → n ≡ length b.variables → b ≡ s → n ≡ length s.variables
-count e f = e ∙ ap (λ (b : Bundle). length b.variables) f
-
-pub loop-k-init : goal.loop-k-init
-loop-k-init c = below_none _
-
-pub returns-then-is_free : goal.returns-then-is_free
-returns-then-is_free c =
-    sym (one_fails _ _ c.loop-k.k (omega (arith, c.loop-k-test.true, count c.variables-k-end.ensures.0 c.bundle.ensures)) (rw (← c.is_free.ensures, c.if-is_free.true)))
-
-pub loop-k-preserved : goal.loop-k-preserved
-loop-k-preserved c = below_more _ c.loop-k.k c.loop-k.invariant (rw (← c.is_free.ensures, c.if-is_free.false))
-
 pub returns : goal.returns
-returns c = sym (all_pass _ _ (λ k l. c.loop-k.invariant k (omega (arith, l, c.loop-k-test.false, count c.variables-k-end.ensures.0 c.bundle.ensures))))
+returns c =
+    all_from_yields_List (λ x. not (free_in c.args.sets.now c.args.t x)) _ _ _ c.all.ensures.ran (YieldsList-from_range _ _ _ refl (omega (arith, rw c.bundle.ensures at c.variables.ensures.0))) (λ x b q k. search rules)
+    ∙ all_up_to _ _

@@ -18,20 +18,6 @@ returns-then-not-left-terms c =
     let known = rw (c.claim_left-left.ensures.0, c.terms-terms.ensures.0) at c.if-not-left-terms.true in
     (refl, not_known c.args.bundle.now empty known)
 
-pub free_sets-requires : goal.free_sets-requires
-free_sets-requires c =
-    let w = c.words_for-n.ensures in (
-      w.0,
-      w.1,
-      omega (arith, mul-le-mul_right (length c.args.bundle.now.terms) w.1, c.requires),
-      omega (arith, w.2, c.variables.ensures.0),
-    )
-
-pub of-requires : goal.of-requires
-of-requires c =
-    let n = c.words_for-n in
-    omega (arith, mul-le-mul_right (length c.args.bundle.now.terms) n.ensures.1, c.requires, c.free_sets.auto.area)
-
 pub returns-then-not-is_closed : goal.returns-then-not-is_closed
 returns-then-not-is_closed c =
     let b = c.args.bundle.now in

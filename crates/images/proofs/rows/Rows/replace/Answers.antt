@@ -10,7 +10,7 @@ use Rattle.bundle.specs.Lists.{numbers, each, different}
 use Rattle.logic.specs.Contexts.{lookup, or_above, is_variable, as_image, moved_by}
 use Rattle.logic.proofs.Tests.{numbers_of_lem, and_left, and_right}
 use Rattle.images.specs.ContextRows.{as_mention, mention_in}
-use Rattle.images.proofs.ContextRows.{untouched_refl, untouched_trans, room_on, replacing_on, different_rest, as_replaced}
+use Rattle.images.proofs.ContextRows.{untouched_trans, room_on, replacing_on, different_rest, as_replaced}
 use Rattle.images.proofs.rows.Rows.replace.Goals as goal
 
 each_head : (n x : ℕ) (xs : List ℕ) → each (numbers n) (x ∷ xs) ≡ true → (1 ≤ x) × (x ≤ n)
@@ -24,22 +24,6 @@ each_rest n x xs e = and_right (numbers n x) (each (numbers n) xs) e
 moved_if : (b : Bundle) (t x : ℕ) → 1 ≤ t → t ≤ 1024 → not (is_variable b t x) ≡ moved_by b (as_image (as_mention t)) x
 unfolding moved_by as_image
 moved_if b t x one few = sym (ap (λ m. moved_by b (as_image m) x) (as_replaced t (λ z. omega arith) (λ z. omega arith)))
-
-pub loop-x-init : goal.loop-x-init
-loop-x-init c =
-    let a = c.args in
-    let p = c.requires in
-    let b = ap (λ r. r.bundle) c.self.view_is in
-    let vs = c.into_iter-x-iterator.ensures.into_iter_gives ∙ (rw b at c.items-x-items.ensures) in
-    let ts = rw b at c.items-others.ensures in
-    record {
-      lower = untouched_refl a.self.now a.k;
-      agrees = p.5;
-      whole = λ y. rw (vs, ts);
-      variables = rw vs p.2;
-      terms = rw ts p.3;
-      different = rw vs p.4;
-    }
 
 pub returns-in_default : goal.returns-in_default
 unfolding lookup or_above

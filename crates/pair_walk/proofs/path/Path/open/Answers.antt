@@ -21,8 +21,3 @@ invariant_of-self c =
     kept_same s.binders s.agenda.now c.open-self-inside.new.agenda s.most s.height _ s.depth c.self.invariant
     (omega (arith, e.1, (kept_room c.self.invariant h.0).0)) e.0
     (ap crossed_by e.2 ∙ opened_crossed s.binders.sets.bundle a.l a.r (frames s.agenda.now s.height))
-
-pub returns : goal.returns
-returns c =
-    let e = rw c.bundle.ensures at c.open-self-inside.ensures in
-    rw (← c.self.view_is, e.2)

@@ -6,9 +6,6 @@ use Rattle.logic.specs.Sorts.{sort_at}
 use Rattle.sorting.proofs.SortLists.{replicate_cons, no_more}
 use Rattle.sorting.proofs.sorted_bundle.SortedBundle.all_of_sort.Goals as goal
 
-pub loop-init : goal.loop-init
-loop-init c = let all : c.args.count - 0 ≡ c.args.count = omega arith in rw (all, ← c.self.view_is, c.items-rest.ensures)
-
 pub returns-in_default : goal.returns-in_default
 unfolding same_list
 returns-in_default c =

@@ -1,0 +1,3 @@
+-- What the contracts cite.
+--     Levels   the terms of a level
+pub mod Levels
