@@ -1,11 +1,11 @@
 //! Looks for the proved library's two archives and sets `proved` where both are there: its
-//! four calls are then linked, and an archive that lacks one of its own does not link.
+//! five calls are then linked, and an archive that lacks one of its own does not link.
 //! Without both the project builds Rust-only.
 
 use std::env;
 use std::path::PathBuf;
 
-/// The archives: check, expand and read are in the first, links in the second.
+/// The archives: check, both ways to expand and read are in the first, links in the second.
 const ARCHIVES: [&str; 2] = ["nezkaldo", "nezkaldo_links"];
 
 fn main() {

@@ -30,6 +30,11 @@ uint64_t nezkaldo_check(const uint8_t *file, size_t file_length, uint64_t *free,
 
 /* Expands the lets of the rule of the job at `job`: a bundle with no contexts, no steps and right 0, whose left is the rule.
  *
+ * Names: the call is the choice. nezkaldo_expand keeps: a quantifier's variable stays as it is where exactly one term record of the job binds it (of all
+ * T, also those that the rule does not reach) and no let of the job lists it; else the quantifier gets a new variable, a record after the job's. So the
+ * right side may be an old record, even the rule itself. nezkaldo_expand_renamed gives every quantifier a new variable (document 02, Req 06). All that
+ * follows is so of both; a job may be refused by 16 under one choice and not under the other.
+ *
  * Returns the length of the file that now stands at the start of `out`, at most 58,916: nezkaldo_check, lent four words for each of its terms, accepts
  * it, its left is the rule, its right holds no let. Else number * 2^32 + record of the first check of document 01 that fails (record 0 for 1 to 4 and
  * 15 to 18), which is at least 2^32.
@@ -41,6 +46,8 @@ uint64_t nezkaldo_check(const uint8_t *file, size_t file_length, uint64_t *free,
  *
  * No pointer is null; with length 0 it may point anywhere that is aligned. The areas do not overlap. */
 uint64_t nezkaldo_expand(
+    const uint8_t *job, size_t job_length, uint8_t *out, size_t out_length, uint32_t *words, size_t words_length, uint64_t *sets, size_t sets_length);
+uint64_t nezkaldo_expand_renamed(
     const uint8_t *job, size_t job_length, uint8_t *out, size_t out_length, uint32_t *words, size_t words_length, uint64_t *sets, size_t sets_length);
 
 /* Reads the formula text at `text`, an SMT-LIB 2 term (document 02, Req 01), beside the declarations at `declarations`: a bundle with no terms, no

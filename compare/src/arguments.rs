@@ -3,7 +3,7 @@
 use std::collections::BTreeMap;
 
 /// Options that take no value.
-const FLAGS: [&str; 3] = ["self", "job", "text"];
+const FLAGS: [&str; 4] = ["self", "job", "text", "rename"];
 
 #[derive(Debug, Default)]
 pub struct Arguments {

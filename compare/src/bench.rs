@@ -9,9 +9,9 @@ use crate::check::{MOST_PAIRS, walk};
 use crate::compare::Checker;
 use crate::compare_reader::Reader;
 use crate::compare_writer::Writer;
-use crate::expand::written;
+use crate::expand::{Names, written};
 use crate::generate::derive::REFL;
-use crate::generate::jobs::{self, OLD_BYTES};
+use crate::generate::jobs::{self, OLD_BYTES, QUANTIFIERS};
 use crate::generate::whole::{self, Length};
 use crate::generate::{large, texts};
 use crate::read;
@@ -102,8 +102,9 @@ impl Share {
     }
 }
 
+/// With all names renamed, as before Req 06, so that the files stay the same.
 fn expansion(job: Vec<u32>) -> Vec<u8> {
-    written(&to_bytes(&job)).expect("the job was made to fit")
+    written(&to_bytes(&job), Names::RenameAll).expect("the job was made to fit")
 }
 
 /// The expansions, by the size of the file that the writer makes.
@@ -225,22 +226,41 @@ pub fn time_check(
     }
 }
 
-/// Times the writers on the job whose file has about so many bytes. The floor is
-/// the time to clear the areas.
+/// A job to time.
+#[derive(Clone, Debug)]
+pub struct Rule {
+    pub name: String,
+    pub job: Vec<u8>,
+}
+
+/// Those of the expansions, whose lets list every variable that a quantifier binds, so that
+/// none is kept; and one of quantifiers over different variables, all of them kept unless all
+/// are renamed.
+pub fn jobs() -> Vec<Rule> {
+    let sized = SIZES.map(|(name, bytes)| (name.to_string(), jobs::of_size(bytes)));
+    let quantified = (format!("{QUANTIFIERS} quantifiers"), jobs::quantified(QUANTIFIERS));
+    sized
+        .into_iter()
+        .chain([quantified])
+        .map(|(name, words)| Rule { name, job: to_bytes(&words) })
+        .collect()
+}
+
+/// Times the writers on a job. The floor is the time to clear the areas.
 pub fn time_writer(
-    (name, bytes): (&str, usize),
+    Rule { name, job }: &Rule,
+    names: Names,
     proved: Option<Writer>,
     rust: Writer,
     budget: Duration,
 ) -> Row {
-    let job = to_bytes(&jobs::of_size(bytes));
-    let file = written(&job).expect("the job was made to fit");
+    let file = written(job, names).expect("the job was made to fit");
     let (mut out, mut words, mut sets) =
         (vec![0; MAX_BYTES], vec![0; MAX_WORDS], vec![0; MAX_SETS]);
     let once = |write: Writer| {
         clear(&mut out, &mut words, &mut sets);
         let begun = Instant::now();
-        let answer = write(black_box(&job), &mut out, &mut words, &mut sets);
+        let answer = write(black_box(job), names, &mut out, &mut words, &mut sets);
         let time = begun.elapsed();
         assert_eq!(answer, file.len() as u64, "the jobs of the benchmark are written");
         time
@@ -249,7 +269,7 @@ pub fn time_writer(
     let floor = time_clearing(&mut out, &mut words, &mut sets, budget);
     let counts = counts_of(&file).unwrap_or_default();
     Row {
-        name: name.into(),
+        name: name.clone(),
         bytes: file.len(),
         terms: counts[Section::Terms],
         steps: counts[Section::Steps],
@@ -377,6 +397,8 @@ impl Times {
 mod tests {
     use super::*;
     use crate::check::check;
+    use crate::compare_writer::Quantified;
+    use crate::expand::expand;
     use crate::generate::derive::BIND;
     use crate::naive::{self, Step, Tree};
     use std::collections::BTreeSet;
@@ -406,6 +428,35 @@ mod tests {
                 assert!((most * 8 / 10..=most).contains(&count), "{count} of {most}");
             }
         }
+    }
+
+    /// The jobs of the expansions keep no name, the one of quantifiers all of them, which
+    /// makes its file shorter.
+    #[test]
+    fn jobs_are_what_they_say() {
+        let writer: Writer = &|job, names, out, words, sets| {
+            expand(job, names, out, words, sets).map_or(0, |length| length as u64)
+        };
+        let jobs = jobs();
+        for (place, rule) in jobs.iter().enumerate() {
+            let mut quantified = Quantified::default();
+            quantified.add(&written(&rule.job, Names::Keep).expect("it fits"));
+            let last = place == SIZES.len();
+            let kinds = Quantified {
+                kept: u64::from(last),
+                // The smallest has no quantifier.
+                renamed: u64::from(!last && place > 0),
+                both: 0,
+            };
+            assert_eq!(quantified, kinds, "{}", rule.name);
+            let bytes = Names::ALL.map(|names| {
+                let row = time_writer(rule, names, None, writer, Duration::from_micros(1));
+                assert!(row.rust > 0.0 && row.proved.is_none() && row.name == rule.name);
+                row.bytes
+            });
+            assert_eq!(bytes[0] < bytes[1], last, "{}", rule.name);
+        }
+        assert_eq!(jobs.len(), SIZES.len() + 1);
     }
 
     /// Pairs of the files in which REFL walks; the others have none.

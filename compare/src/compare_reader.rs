@@ -1,15 +1,15 @@
 //! The comparison of the proved reader with the Rust reader on the same declarations
 //! and texts: same answer, same bytes and words of every lent area. A share of the short
 //! texts goes to the plain reading too, and a share of all to the program read. What is
-//! written has to be a job with the formula that was printed, and its expansion has to be
-//! accepted and have the formula's value.
+//! written has to be a job with the formula that was printed, and its expansion, under both
+//! choices of names, has to be accepted and have the formula's value.
 
 use crate::answer::{PackedLength, Reason, Refusal};
 use crate::bundle::{RIGHT, to_words};
 use crate::compare::{Checker, SMALL};
 use crate::compare_writer::{Areas, difference, filled, lengths, misfit};
 use crate::eval::{Evaluator, World};
-use crate::expand::written;
+use crate::expand::{Names, written};
 use crate::generate::texts::{Text, TextFamily, case};
 use crate::naive::{Plain, Tree, load, tables};
 use crate::programs::{self, TextProgram};
@@ -64,10 +64,10 @@ pub struct Report {
     pub tally: Tally<TextFamily>,
     /// Jobs with the formula that was printed.
     pub formulas: u64,
-    /// Jobs whose expansion was accepted.
-    pub expanded: u64,
+    /// Jobs whose expansion was accepted, under each choice of names.
+    pub expanded: [u64; 2],
     /// Those of them whose right was seen to have the printed formula's value.
-    pub values: u64,
+    pub values: [u64; 2],
     pub differences: Vec<Difference>,
 }
 
@@ -87,8 +87,8 @@ impl Default for Report {
             calls: 0,
             tally: Tally::new(PLAIN, PROGRAM),
             formulas: 0,
-            expanded: 0,
-            values: 0,
+            expanded: [0; 2],
+            values: [0; 2],
             differences: Vec::new(),
         }
     }
@@ -184,26 +184,35 @@ impl Report {
             }
             self.formulas += 1;
         }
-        match written(job) {
-            Ok(file) => {
-                if let Some(text) = misfit(checkers, job, &file) {
-                    return Some(format!("the expansion: {text}"));
+        Names::ALL.into_iter().find_map(|names| {
+            let problem = match written(job, names) {
+                Ok(file) => {
+                    let problem = misfit(checkers, job, &file);
+                    self.expanded[names as usize] += u64::from(problem.is_none());
+                    let compared = printed.as_ref().filter(|_| file.len() <= SMALL);
+                    problem
+                        .map(|text| format!("the expansion: {text}"))
+                        .or_else(|| self.compare_values(compared?, &file, names, index))
                 }
-                self.expanded += 1;
-                let printed = printed.filter(|_| file.len() <= SMALL)?;
-                self.compare_values(&printed, &file, index)
-            }
-            Err(refusal) => match refusal.reason {
-                Reason::Full => None,
-                Reason::Open if !plain.free(plain.left).is_empty() => None,
-                _ => Some(format!("the job is not expanded: {refusal}")),
-            },
-        }
+                Err(refusal) => match refusal.reason {
+                    Reason::Full => None,
+                    Reason::Open if !plain.free(plain.left).is_empty() => None,
+                    _ => Some(format!("the job is not expanded: {refusal}")),
+                },
+            };
+            problem.map(|text| format!("{names}: {text}"))
+        })
     }
 
     /// Whether the printed formula and the right of an expansion, both closed, differ in
     /// some world.
-    fn compare_values(&mut self, printed: &Plain, file: &[u8], index: u64) -> Option<String> {
+    fn compare_values(
+        &mut self,
+        printed: &Plain,
+        file: &[u8],
+        names: Names,
+        index: u64,
+    ) -> Option<String> {
         let expanded = load(file, usize::MAX).ok()?;
         let right = to_words(file)[RIGHT];
         let mut rng = Rng::new(index);
@@ -221,7 +230,7 @@ impl Report {
                 }
             }
         }
-        self.values += u64::from(compared);
+        self.values[names as usize] += u64::from(compared);
         None
     }
 
@@ -282,12 +291,15 @@ impl fmt::Display for Report {
     fn fmt(&self, out: &mut fmt::Formatter<'_>) -> fmt::Result {
         writeln!(out, "{} texts, {} bytes, {} calls", self.texts, self.bytes, self.calls)?;
         self.tally.write(out, "texts", "written", numbers())?;
-        writeln!(
-            out,
-            "{} jobs with the formula that was printed; the expansions of {} jobs accepted, {} of \
-             them with the printed formula's value",
-            self.formulas, self.expanded, self.values
-        )?;
+        writeln!(out, "{} jobs with the formula that was printed", self.formulas)?;
+        for names in Names::ALL {
+            let (expanded, values) = (self.expanded[names as usize], self.values[names as usize]);
+            writeln!(
+                out,
+                "{names}: the expansions of {expanded} jobs accepted, {values} of them with the \
+                 printed formula's value"
+            )?;
+        }
         for difference in &self.differences {
             writeln!(out, "DIFFERENCE: text {difference}")?;
         }

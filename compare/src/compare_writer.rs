@@ -1,23 +1,27 @@
-//! The comparison of the proved writer with the Rust writer on the same jobs: same
-//! answer, same bytes and words of every lent area. A share of the jobs goes to the
-//! plain reading and to the program expand too. What is written has to be accepted.
+//! The comparison of the proved writer with the Rust writer on the same jobs, under both
+//! choices of names: same answer, same bytes and words of every lent area. A share of the
+//! jobs goes to the plain reading and to the program expand too. What is written has to be
+//! accepted.
 
 use crate::answer::{Packed, PackedLength, Reason, Refusal};
 use crate::bundle::{LEFT, MAX_BYTES, MAX_SETS, MAX_WORDS, RIGHT, Section, counts_of, to_words};
 use crate::compare::{Checker, SMALL, WORLDS};
 use crate::eval::claim_holds;
-use crate::expand::written;
+use crate::expand::{Names, written};
+use crate::generate::derive::BIND;
 use crate::generate::jobs::{Job, JobFamily, job};
 use crate::naive::{Plain, Tree, load};
-use crate::programs::{self, Program};
+use crate::programs::{self, JobProgram};
 use crate::rng::Rng;
 use crate::tally::{self, ENOUGH, Tally, first_difference};
 use std::path::Path;
 use std::{fmt, io};
 
-/// A writer as the proved library offers it: the length where written, else
-/// number * 2^32 + record; the output and both scratch areas are written.
-pub type Writer<'a> = &'a dyn Fn(&[u8], &mut [u8], &mut [u32], &mut [u64]) -> u64;
+/// A writer as the proved library offers it, of a job and a choice of names: the length
+/// where written, else number * 2^32 + record; the output and both scratch areas are
+/// written.
+pub type Writing<'a> = dyn Fn(&[u8], Names, &mut [u8], &mut [u32], &mut [u64]) -> u64 + 'a;
+pub type Writer<'a> = &'a Writing<'a>;
 
 /// A writer's answer in that form.
 pub fn packed(outcome: Result<usize, Refusal>) -> u64 {
@@ -62,9 +66,15 @@ pub fn filled([out, words, sets]: [usize; 3], junk: u64) -> Areas {
 }
 
 /// The answer, and the areas after the call; they held junk before.
-pub fn call(write: Writer, job: &[u8], lengths: [usize; 3], junk: u64) -> (u64, Areas) {
+pub fn call(
+    write: Writer,
+    job: &[u8],
+    names: Names,
+    lengths: [usize; 3],
+    junk: u64,
+) -> (u64, Areas) {
     let mut areas = filled(lengths, junk);
-    let answer = write(job, &mut areas.out, &mut areas.words, &mut areas.sets);
+    let answer = write(job, names, &mut areas.out, &mut areas.words, &mut areas.sets);
     (answer, areas)
 }
 
@@ -79,19 +89,61 @@ pub struct Writers<'a> {
     /// The plain reading.
     pub plain: Option<Writer<'a>>,
     /// The program expand.
-    pub program: Option<Program<'a>>,
+    pub program: Option<JobProgram<'a>>,
     /// Each has to accept what is written.
     pub checkers: &'a [Checker<'a>],
 }
 
 pub type Difference = tally::Difference<JobFamily>;
 
+/// Files by what became of the names of their quantifiers.
+#[derive(Clone, Copy, Debug, Default, PartialEq, Eq)]
+pub struct Quantified {
+    /// A variable is kept.
+    pub kept: u64,
+    /// A variable is renamed.
+    pub renamed: u64,
+    /// One is kept and another renamed.
+    pub both: u64,
+}
+
+impl Quantified {
+    /// Counts a file, by the two sides of its BIND steps.
+    pub fn add(&mut self, file: &[u8]) {
+        let counts = counts_of(file).unwrap_or_default();
+        let words = to_words(file);
+        let word = |section, record, field| words[counts.place(section, record, field)];
+        let variable = |term| word(Section::Terms, term, 1);
+        let (mut kept, mut renamed) = (false, false);
+        for step in 1..=counts[Section::Steps] {
+            let [rule, left, right] = [0, 2, 3].map(|field| word(Section::Steps, step, field));
+            if rule == BIND {
+                let same = variable(left) == variable(right);
+                kept |= same;
+                renamed |= !same;
+            }
+        }
+        self.kept += u64::from(kept);
+        self.renamed += u64::from(renamed);
+        self.both += u64::from(kept && renamed);
+    }
+
+    /// The kinds that were counted fewer than `least` times.
+    pub fn unseen(&self, least: u64) -> Vec<&'static str> {
+        let kinds = [("kept", self.kept), ("renamed", self.renamed), ("both", self.both)];
+        kinds.into_iter().filter(|&(_, count)| count < least).map(|(kind, _)| kind).collect()
+    }
+}
+
 #[derive(Clone, Debug)]
 pub struct Report {
     pub jobs: u64,
     pub calls: u64,
     pub written_bytes: u64,
-    pub tally: Tally<JobFamily>,
+    /// Under each choice of names, in the order of `Names::ALL`: its own answers.
+    pub tallies: [Tally<JobFamily>; 2],
+    /// The files written where names are kept.
+    pub quantified: Quantified,
     pub differences: Vec<Difference>,
 }
 
@@ -105,7 +157,8 @@ impl Default for Report {
             jobs: 0,
             calls: 0,
             written_bytes: 0,
-            tally: Tally::new(PLAIN, PROGRAM),
+            tallies: Names::ALL.map(|_| Tally::new(PLAIN, PROGRAM)),
+            quantified: Quantified::default(),
             differences: Vec::new(),
         }
     }
@@ -123,31 +176,39 @@ impl Report {
     /// Compares on one job and counts it.
     pub fn add(&mut self, writers: Writers, index: u64, job: &Job) {
         self.jobs += 1;
-        self.tally.add_family(job.family);
-        if let Some(text) = self.problem(writers, index, job) {
+        self.tallies.iter_mut().for_each(|tally| tally.add_family(job.family));
+        let problem = Names::ALL.into_iter().find_map(|names| {
+            let text = self.problem(writers, index, job, names)?;
+            Some(format!("{names}: {text}"))
+        });
+        if let Some(text) = problem {
             self.differences.push(Difference { index, family: job.family, text, written: None });
         }
     }
 
-    /// What is wrong on a job, if something is.
-    fn problem(&mut self, writers: Writers, index: u64, job: &Job) -> Option<String> {
+    /// What is wrong on a job under a choice of names, if something is.
+    fn problem(&mut self, writers: Writers, index: u64, job: &Job, names: Names) -> Option<String> {
         let (job, family) = (&job.bytes, job.family);
+        let tally = &mut self.tallies[names as usize];
         let mut answer = 0;
         let mut plain = None;
         for (place, lengths) in lengths(index).into_iter().enumerate() {
-            let expected = call(writers.reference, job, lengths, index);
-            let found = call(writers.subject, job, lengths, index);
+            let called = |write| call(write, job, names, lengths, index);
+            let expected = called(writers.reference);
+            let found = called(writers.subject);
             self.calls += 1;
-            self.tally.add_call(expected.0, place == 0);
+            tally.add_call(expected.0, place == 0);
             if place == 0 {
                 answer = expected.0;
-                plain = writers.plain.filter(|_| self.tally.plain.takes(family, answer));
+                plain = writers.plain.filter(|_| tally.plain.takes(family, answer));
             }
-            let mut problem = difference(&found, &expected, "the Rust writer").or_else(|| {
-                difference(&found, &call(plain?, job, lengths, index), "the plain reading")
-            });
+            let mut problem = difference(&found, &expected, "the Rust writer")
+                .or_else(|| difference(&found, &called(plain?), "the plain reading"));
             if answer >> 32 == 0 && place == 0 {
                 self.written_bytes += answer;
+                if names == Names::Keep {
+                    self.quantified.add(&expected.1.out[..answer as usize]);
+                }
                 let out = &found.1.out;
                 let file = &out[..(found.0 as usize).min(out.len())];
                 problem = problem.or_else(|| misfit(writers.checkers, job, file));
@@ -156,15 +217,21 @@ impl Report {
                 return Some(format!("areas of {lengths:?}: {text}"));
             }
         }
-        let program = writers.program.filter(|_| self.tally.program.takes(family, answer))?;
-        match written(job) {
-            Ok(file) => programs::difference(program, job, &file, b""),
-            Err(refusal) => programs::difference(program, job, b"", refusal.line().as_bytes()),
+        let program = writers.program.filter(|_| tally.program.takes(family, answer))?;
+        let program = |job: &[u8]| program(job, names);
+        match written(job, names) {
+            Ok(file) => programs::difference(&program, job, &file, b""),
+            Err(refusal) => programs::difference(&program, job, b"", refusal.line().as_bytes()),
         }
     }
 
-    pub fn unseen(&self, least: u64) -> Vec<u32> {
-        self.tally.unseen(numbers(), least)
+    /// The numbers that were answered too seldom, each with the choice of names.
+    pub fn unseen(&self, least: u64) -> Vec<(Names, u32)> {
+        let unseen = |names: Names| {
+            let tally = &self.tallies[names as usize];
+            tally.unseen(numbers(), least).into_iter().map(move |number| (names, number))
+        };
+        Names::ALL.into_iter().flat_map(unseen).collect()
     }
 
     pub fn agrees(&self) -> bool {
@@ -265,7 +332,18 @@ impl fmt::Display for Report {
             "{} jobs, {} calls, {} bytes written",
             self.jobs, self.calls, self.written_bytes
         )?;
-        self.tally.write(out, "jobs", "written", numbers())?;
+        self.tallies[0].write_families(out)?;
+        for (names, tally) in Names::ALL.into_iter().zip(&self.tallies) {
+            writeln!(out, "{names}:")?;
+            tally.write_table(out, "jobs", "written", numbers())?;
+        }
+        let Quantified { kept, renamed, both } = self.quantified;
+        writeln!(
+            out,
+            "of the files written with {}, {kept} have a variable kept, {renamed} one renamed, \
+             {both} both",
+            Names::Keep
+        )?;
         for difference in &self.differences {
             writeln!(out, "DIFFERENCE: job {difference}")?;
         }

@@ -1,38 +1,65 @@
 //! The writer of let expansions, from document 01. It takes a job and writes
-//! the file of the derivation that expands every let and renames every
-//! quantifier.
+//! the file of the derivation that expands every let and renames the
+//! quantifiers, all of them or those whose names are not kept (Req 06).
 
 use crate::answer::{Reason, Refusal};
 use crate::bundle::{Counts, MAX_BYTES, MAX_SETS, MAX_WORDS, SET_WORDS, Section, to_bytes};
 use crate::check::{Lookup, Quantifier, Tables, Term};
 use crate::fault::{Exact, Fault, OLD_VARIABLES, Rules};
+use crate::set::Set;
+use std::fmt;
 
 const REFL: u32 = 1;
 const CONG: u32 = 2;
 const BIND: u32 = 4;
 const LET: u32 = 5;
 
+/// Which quantifiers keep their variable.
+#[derive(Clone, Copy, Debug, Default, PartialEq, Eq, PartialOrd, Ord, Hash)]
+pub enum Names {
+    /// Those whose variable exactly one term record of the job binds and no let lists.
+    #[default]
+    Keep,
+    /// None.
+    RenameAll,
+}
+
+impl Names {
+    pub const ALL: [Names; 2] = [Names::Keep, Names::RenameAll];
+}
+
+impl fmt::Display for Names {
+    fn fmt(&self, out: &mut fmt::Formatter<'_>) -> fmt::Result {
+        out.write_str(match self {
+            Names::Keep => "names kept",
+            Names::RenameAll => "all renamed",
+        })
+    }
+}
+
 /// Writes the expansion of a job into `out` and answers its length. On refusal
 /// every area is zero; otherwise `out` is zero after the file and the scratch
 /// areas are zero.
 pub fn expand(
     job: &[u8],
+    names: Names,
     out: &mut [u8],
     words: &mut [u32],
     sets: &mut [u64],
 ) -> Result<usize, Refusal> {
-    expand_with(Exact, job, out, words, sets)
+    expand_with(Exact, job, names, out, words, sets)
 }
 
 /// The file that the writer makes of a job, without lent areas.
-pub fn written(job: &[u8]) -> Result<Vec<u8>, Refusal> {
-    file_of(Exact, job, true)
+pub fn written(job: &[u8], names: Names) -> Result<Vec<u8>, Refusal> {
+    file_of(Exact, job, names, true)
 }
 
 /// The writer by the given rules: the exact ones in [`expand`].
 pub(crate) fn expand_with<R: Rules>(
     rules: R,
     job: &[u8],
+    names: Names,
     out: &mut [u8],
     words: &mut [u32],
     sets: &mut [u64],
@@ -46,7 +73,7 @@ pub(crate) fn expand_with<R: Rules>(
         && words.len() >= MAX_WORDS - less(Fault::WordsOfOldLimit, new_variables)
         && sets.len()
             >= if rules.has(Fault::SetsOfTerms) { MAX_SETS / SET_WORDS } else { MAX_SETS };
-    let file = file_of(rules, job, suffice);
+    let file = file_of(rules, job, names, suffice);
     if !rules.has(Fault::ScratchKept) {
         words.fill(0);
         sets.fill(0);
@@ -59,7 +86,12 @@ pub(crate) fn expand_with<R: Rules>(
     Ok(file.len())
 }
 
-fn file_of<R: Rules>(rules: R, job: &[u8], areas_suffice: bool) -> Result<Vec<u8>, Refusal> {
+fn file_of<R: Rules>(
+    rules: R,
+    job: &[u8],
+    names: Names,
+    areas_suffice: bool,
+) -> Result<Vec<u8>, Refusal> {
     let mut tables = Tables::decode(Exact, job, |_| areas_suffice)?;
     let lookup = std::mem::take(&mut tables.lookup);
     let header = tables.header;
@@ -78,7 +110,7 @@ fn file_of<R: Rules>(rules: R, job: &[u8], areas_suffice: bool) -> Result<Vec<u8
     }
     if rules.has(Fault::FullBeforeOpen) {
         let full = |Full| Refusal::whole(Reason::Full);
-        Writer::new(rules, &tables, lookup.clone()).visit(header.left, 0).map_err(full)?;
+        Writer::new(rules, &tables, names, lookup.clone()).visit(header.left, 0).map_err(full)?;
     }
     let mut free = tables.terms.free(Exact, header.left);
     if rules.has(Fault::OpenFirstWord) {
@@ -87,11 +119,83 @@ fn file_of<R: Rules>(rules: R, job: &[u8], areas_suffice: bool) -> Result<Vec<u8
     if !free.is_empty() && !rules.has(Fault::OpenTaken) {
         return refused(Reason::Open);
     }
-    let mut writer = Writer::new(rules, &tables, lookup);
+    let mut writer = Writer::new(rules, &tables, names, lookup);
     match writer.visit(header.left, 0) {
         Ok(Carried { result, .. }) => Ok(to_bytes(&writer.words(header.left, result))),
         Err(Full) => refused(Reason::Full),
     }
+}
+
+/// The variables that keep their names, from one pass over the job's terms, also those that
+/// the left does not reach.
+fn kept<R: Rules>(rules: R, job: &Tables, names: Names) -> Set {
+    let renames = (names == Names::RenameAll || rules.has(Fault::AlwaysRenames))
+        && !rules.has(Fault::AlwaysKeeps);
+    if renames {
+        return Set::EMPTY;
+    }
+    // Only faults ask which terms the left reaches.
+    let narrow = rules.has(Fault::BindersOfReached) || rules.has(Fault::ListedOfReached);
+    let reached = if narrow { reached(job) } else { Vec::new() };
+    let passed_over = |fault, term: u32| rules.has(fault) && !reached[term as usize];
+    let (mut bound, mut again, mut listed) = (Set::EMPTY, Set::EMPTY, Set::EMPTY);
+    for number in 1..=job.terms.count() {
+        match job.terms.get(number).term {
+            Term::Quantifier { kind, variable, .. } => {
+                if passed_over(Fault::BindersOfReached, number)
+                    || kind == Quantifier::Exists && rules.has(Fault::ForAllsCounted)
+                    || kind == Quantifier::ForAll && rules.has(Fault::ExistsCounted)
+                {
+                    continue;
+                }
+                if bound.has(variable) {
+                    again.insert(variable);
+                }
+                bound.insert(variable);
+            }
+            Term::Let { variables, .. } => {
+                if passed_over(Fault::ListedOfReached, number) {
+                    continue;
+                }
+                let most = if rules.has(Fault::FirstListedCounts) { 1 } else { usize::MAX };
+                job.lists.values(variables).take(most).for_each(|variable| listed.insert(variable));
+            }
+            Term::Variable(_) | Term::Application { .. } => {}
+        }
+    }
+    if rules.has(Fault::KeptThoughBoundAgain) {
+        again = Set::EMPTY;
+    }
+    if rules.has(Fault::KeptThoughListed) {
+        listed = Set::EMPTY;
+    }
+    if rules.has(Fault::KeptFirstWord) {
+        bound = bound.intersection((1..=OLD_VARIABLES).collect());
+    }
+    bound.without(again).without(listed)
+}
+
+/// Whether the left is or holds a term, by its number; for faults alone.
+fn reached(job: &Tables) -> Vec<bool> {
+    let mut reached = vec![false; job.terms.count() as usize + 1];
+    reached[job.header.left as usize] = true;
+    for number in (1..=job.header.left).rev() {
+        if !reached[number as usize] {
+            continue;
+        }
+        let mut parts = Vec::new();
+        match job.terms.get(number).term {
+            Term::Variable(_) => {}
+            Term::Application { arguments, .. } => parts.extend(job.lists.values(arguments)),
+            Term::Quantifier { body, .. } => parts.push(body),
+            Term::Let { bounds, body, .. } => {
+                parts.extend(job.lists.values(bounds));
+                parts.push(body);
+            }
+        }
+        parts.into_iter().for_each(|part| reached[part as usize] = true);
+    }
+    reached
 }
 
 /// A section is at its limit and needs another record.
@@ -112,18 +216,21 @@ struct Writer<'a, R> {
     /// Sections in the file's order, as words.
     sections: [Vec<u32>; 6],
     lookup: Lookup,
+    /// The variables that keep their names.
+    kept: Set,
     /// What each variable of the job is replaced by here, by number - 1; 0 where
     /// nothing replaces it.
     images: Vec<u32>,
 }
 
 impl<'a, R: Rules> Writer<'a, R> {
-    fn new(rules: R, job: &'a Tables, lookup: Lookup) -> Self {
+    fn new(rules: R, job: &'a Tables, names: Names, lookup: Lookup) -> Self {
         Writer {
             rules,
             job,
             sections: Section::ALL.map(|section| job.section(section).to_vec()),
             lookup,
+            kept: kept(rules, job, names),
             images: vec![0; job.signature.variable_count() as usize],
         }
     }
@@ -269,20 +376,38 @@ impl<'a, R: Rules> Writer<'a, R> {
         body: u32,
         context: u32,
     ) -> Result<(u32, Carried), Full> {
-        let sort = self.job.signature.variable(x).word();
-        let sort = if self.rules.has(Fault::NewVariableIsItem) { 1 } else { sort };
-        let y = self.push(Section::Variables, &[sort])?;
-        let y_term = self.term([1, y, 0, 0])?;
-        let fixing = self.push(Section::Contexts, &[1, y, 0, context])?;
-        let (xs, ys) = if self.rules.has(Fault::NewLinkFirst) {
-            let ys = self.push_list([y_term].into_iter())?;
-            (self.push_list([x].into_iter())?, ys)
+        let kept = self.keeps(x);
+        let y = if kept {
+            x
         } else {
-            (self.push_list([x].into_iter())?, self.push_list([y_term].into_iter())?)
+            let sort = self.job.signature.variable(x).word();
+            let sort = if self.rules.has(Fault::NewVariableIsItem) { 1 } else { sort };
+            self.push(Section::Variables, &[sort])?
         };
-        let renaming = self.push(Section::Contexts, &[2, xs, ys, fixing])?;
-        let outer = std::mem::replace(&mut self.images[x as usize - 1], y_term);
-        let carried = self.visit(body, renaming)?;
+        let record = [1, y, 0, 0];
+        let y_term = if kept && self.rules.has(Fault::KeptTermNotLookedUp) {
+            self.push_term(record, record)?
+        } else {
+            self.term(record)?
+        };
+        let fixing = if kept && self.rules.has(Fault::KeptNotFixed) {
+            context
+        } else {
+            self.push(Section::Contexts, &[1, y, 0, context])?
+        };
+        let (inner, image) = if kept && self.rules.has(Fault::KeptNotReplaced) {
+            (fixing, 0)
+        } else {
+            let (xs, ys) = if self.rules.has(Fault::NewLinkFirst) {
+                let ys = self.push_list([y_term].into_iter())?;
+                (self.push_list([x].into_iter())?, ys)
+            } else {
+                (self.push_list([x].into_iter())?, self.push_list([y_term].into_iter())?)
+            };
+            (self.push(Section::Contexts, &[2, xs, ys, fixing])?, y_term)
+        };
+        let outer = std::mem::replace(&mut self.images[x as usize - 1], image);
+        let carried = self.visit(body, inner)?;
         if !self.rules.has(Fault::ImagesKept) {
             self.images[x as usize - 1] = outer;
         }
@@ -290,7 +415,31 @@ impl<'a, R: Rules> Writer<'a, R> {
             Quantifier::ForAll => 3,
             Quantifier::Exists => 4,
         };
-        Ok((self.term([kind, y, carried.result, 0])?, carried))
+        let record = [kind, y, carried.result, 0];
+        let result = if kept && self.rules.has(Fault::KeptResultNotLookedUp) {
+            self.push_term(record, record)?
+        } else {
+            self.term(record)?
+        };
+        Ok((result, carried))
+    }
+
+    /// Whether a quantifier over this variable keeps it.
+    fn keeps(&self, x: u32) -> bool {
+        let mut kept = self.kept.has(x);
+        if self.rules.has(Fault::BindersOfGrowingFile) {
+            let terms = self.sections[Section::Terms as usize].chunks(Section::Terms.width());
+            kept &= terms.filter(|term| matches!(term[0], 3 | 4) && term[1] == x).count() == 1;
+        }
+        if self.rules.has(Fault::KeptFirstTimeOnly) {
+            let steps = self.sections[Section::Steps as usize].chunks(Section::Steps.width());
+            let mut carried = steps.filter(|step| step[0] == BIND).map(|step| step[2]);
+            kept &= !carried.any(|term| {
+                let own = &self.job.terms.get(term).term;
+                matches!(own, Term::Quantifier { variable, .. } if *variable == x)
+            });
+        }
+        kept
     }
 
     /// The body of a let where its variables are replaced by what its bound

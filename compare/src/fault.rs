@@ -230,6 +230,23 @@ faults! {
         ResultsAfterBody: "the links of a let's results come after its body",
         ImagesKept: "a binder's images stay after it",
         LastArgumentFirst: "arguments are visited from the last",
+        // Names that are kept.
+        AlwaysKeeps: "names are kept where all are to be renamed",
+        AlwaysRenames: "all are renamed where names are to be kept",
+        KeptThoughBoundAgain: "a variable that two records bind is kept",
+        KeptThoughListed: "a variable that a let lists is kept",
+        BindersOfReached: "only binders that the left reaches are counted",
+        ListedOfReached: "only lets that the left reaches are looked at",
+        FirstListedCounts: "only a let's first variable is looked at",
+        ForAllsCounted: "only for-alls are counted",
+        ExistsCounted: "only exists are counted",
+        BindersOfGrowingFile: "binders that the writer has appended are counted too",
+        KeptFirstTimeOnly: "a record visited again is renamed",
+        KeptFirstWord: "only variables 1 to 64 are kept",
+        KeptTermNotLookedUp: "a kept variable's term is appended, there or not",
+        KeptResultNotLookedUp: "the result of a kept name is appended, there or not",
+        KeptNotFixed: "a kept variable is not fixed",
+        KeptNotReplaced: "a kept variable is not replaced by itself",
     }
     READER: {
         // Areas and declarations.

@@ -6,6 +6,8 @@ use crate::compare::Checker;
 use crate::compare_links::Counter;
 use crate::compare_reader::Reader;
 use crate::compare_writer::Writer;
+#[cfg(proved)]
+use crate::expand::Names;
 
 /// The proved library.
 #[allow(missing_debug_implementations)]
@@ -38,6 +40,16 @@ unsafe extern "C" {
         sets: *mut u64,
         sets_len: usize,
     ) -> u64;
+    fn nezkaldo_expand_renamed(
+        job: *const u8,
+        job_len: usize,
+        out: *mut u8,
+        out_len: usize,
+        words: *mut u32,
+        words_len: usize,
+        sets: *mut u64,
+        sets_len: usize,
+    ) -> u64;
     fn nezkaldo_read(
         declarations: *const u8,
         declarations_len: usize,
@@ -61,10 +73,14 @@ fn check(file: &[u8], free: &mut [u64]) -> u64 {
 }
 
 #[cfg(proved)]
-fn expand(job: &[u8], out: &mut [u8], words: &mut [u32], sets: &mut [u64]) -> u64 {
-    // SAFETY: as above; the call reads the first slice and writes the others.
+fn expand(job: &[u8], names: Names, out: &mut [u8], words: &mut [u32], sets: &mut [u64]) -> u64 {
+    let call = match names {
+        Names::Keep => nezkaldo_expand,
+        Names::RenameAll => nezkaldo_expand_renamed,
+    };
+    // SAFETY: as above; either call reads the first slice and writes the others.
     unsafe {
-        nezkaldo_expand(
+        call(
             job.as_ptr(),
             job.len(),
             out.as_mut_ptr(),

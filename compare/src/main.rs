@@ -8,6 +8,7 @@ use nezkaldo_compare::bundle::MAX_SETS;
 use nezkaldo_compare::compare::{Calls, Checkers};
 use nezkaldo_compare::compare_reader::Readers;
 use nezkaldo_compare::compare_writer::Writers;
+use nezkaldo_compare::expand::Names;
 use nezkaldo_compare::ffi::Library;
 use nezkaldo_compare::mutants::Verdict;
 use nezkaldo_compare::report::Results;
@@ -16,6 +17,7 @@ use nezkaldo_compare::{
     answer, bench, check, compare, compare_reader, compare_writer, expand, ffi, generate, mutants,
     naive, naive_expand, naive_read, plot, programs, read as reader, smt, vectors,
 };
+use std::fmt::Debug;
 use std::io::{self, Read};
 use std::path::{Path, PathBuf};
 use std::process::ExitCode;
@@ -38,7 +40,8 @@ usage: compare COMMAND [OPTIONS]
            [--only TEXT]        only rows whose name has this text
            [--write DIR]        write BENCHMARK.md and benchmark.svg there
   check    [FILE]               judge a file, or standard input
-  expand   JOB FILE             write the expansion of a job
+  expand   JOB FILE             write the expansion of a job, with names kept
+           [--rename]           with all quantifiers renamed
   read     DECLARATIONS TEXT JOB
                                 write the job of a text
   vectors  FILE                 the library and the Rust programs against cases with answers
@@ -96,12 +99,24 @@ fn plain_links(file: &[u8], step: usize) -> u64 {
 const EXACT: Calls = Calls { check: &exact_check, links: &exact_links };
 const PLAIN: Calls = Calls { check: &plain_check, links: &plain_links };
 
-fn exact_expand(job: &[u8], out: &mut [u8], words: &mut [u32], sets: &mut [u64]) -> u64 {
-    compare_writer::packed(expand::expand(job, out, words, sets))
+fn exact_expand(
+    job: &[u8],
+    names: Names,
+    out: &mut [u8],
+    words: &mut [u32],
+    sets: &mut [u64],
+) -> u64 {
+    compare_writer::packed(expand::expand(job, names, out, words, sets))
 }
 
-fn plain_expand(job: &[u8], out: &mut [u8], words: &mut [u32], sets: &mut [u64]) -> u64 {
-    compare_writer::packed(naive_expand::expand(job, out, words, sets))
+fn plain_expand(
+    job: &[u8],
+    names: Names,
+    out: &mut [u8],
+    words: &mut [u32],
+    sets: &mut [u64],
+) -> u64 {
+    compare_writer::packed(naive_expand::expand(job, names, out, words, sets))
 }
 
 fn exact_read(
@@ -163,7 +178,7 @@ fn run_compare(arguments: &Arguments) -> Result<ExitCode, String> {
         let Library { check, expand, read, links } = library()?;
         let folder = Path::new(arguments.text("programs").unwrap_or(programs::FOLDER));
         let check_program = programs::program(folder, programs::CHECK)?;
-        let expand_program = programs::program(folder, programs::EXPAND)?;
+        let expand_program = programs::job_program(folder, programs::EXPAND)?;
         let read_program = programs::text_program(folder, programs::READ)?;
         println!("the proved library and the programs against the Rust programs");
         let checkers = Checkers {
@@ -243,7 +258,10 @@ impl Run {
         let report =
             compare_writer::run(writers, self.seed, self.jobs, failures).map_err(unwritten)?;
         print!("{report}");
-        let good = self.ended(begun, &report.unseen(self.least)) & report.agrees() & good;
+        let good = self.ended(begun, &report.unseen(self.least))
+            & self.seen("names", &report.quantified.unseen(self.least))
+            & report.agrees()
+            & good;
         let begun = Instant::now();
         let report =
             compare_reader::run(readers, self.seed, self.texts, failures).map_err(unwritten)?;
@@ -252,13 +270,13 @@ impl Run {
     }
 
     /// Prints the time, and which numbers were answered too seldom; whether none was.
-    fn ended(&self, begun: Instant, unseen: &[u32]) -> bool {
+    fn ended(&self, begun: Instant, unseen: &[impl Debug]) -> bool {
         println!("seed {}, {:.1} s", self.seed, begun.elapsed().as_secs_f64());
         self.seen("answers", unseen)
     }
 
-    /// Prints which numbers were seen too seldom; whether none was.
-    fn seen(&self, what: &str, unseen: &[u32]) -> bool {
+    /// Prints what was seen too seldom; whether nothing was.
+    fn seen(&self, what: &str, unseen: &[impl Debug]) -> bool {
         if !unseen.is_empty() {
             println!("{what} seen fewer than {} times: {unseen:?}", self.least);
         }
@@ -308,14 +326,14 @@ fn run_bench(arguments: &Arguments) -> Result<ExitCode, String> {
         checks: rows(bench::subjects()),
         terms: rows(bench::doubling(Share::Term)),
         doubling: rows(bench::doubling(Share::Step)),
-        writers: bench::SIZES
-            .into_iter()
-            .filter(|(name, _)| name.contains(only))
-            .map(|size| {
-                let proved = proved.map(|library| library.expand);
-                bench::time_writer(size, proved, &exact_expand, budget)
-            })
-            .collect(),
+        writers: Names::ALL.map(|names| {
+            let proved = proved.map(|library| library.expand);
+            bench::jobs()
+                .iter()
+                .filter(|job| job.name.contains(only))
+                .map(|job| bench::time_writer(job, names, proved, &exact_expand, budget))
+                .collect()
+        }),
         readers: bench::texts()
             .iter()
             .filter(|typed| typed.name.contains(only))
@@ -371,11 +389,12 @@ fn run_smt(arguments: &Arguments) -> Result<ExitCode, String> {
 }
 
 fn run_expand(arguments: &Arguments) -> Result<ExitCode, String> {
-    arguments.allow(&[], 2)?;
+    arguments.allow(&["rename"], 2)?;
     let [job, out] = arguments.plain() else {
         return Err("expand needs a job and the file to write".into());
     };
-    match expand::written(&read(job)?) {
+    let names = if arguments.flag("rename") { Names::RenameAll } else { Names::Keep };
+    match expand::written(&read(job)?, names) {
         Ok(file) => {
             write(out, &file)?;
             println!("written {}", file.len());

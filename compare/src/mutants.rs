@@ -7,8 +7,8 @@ use crate::check::{check, check_with, links_with};
 use crate::compare::{Checker, areas, call};
 use crate::compare_links::{self, Counter};
 use crate::compare_reader::{self, Reader, Reading};
-use crate::compare_writer::{self, Writer, lengths};
-use crate::expand::expand_with;
+use crate::compare_writer::{self, Writer, Writing, lengths};
+use crate::expand::{Names, expand_with};
 use crate::fault::{Broken, Fault};
 use crate::generate::jobs::job;
 use crate::generate::{case, texts};
@@ -25,10 +25,10 @@ pub fn broken_links(fault: Fault) -> impl Fn(&[u8], usize) -> u64 {
 }
 
 /// The writer with one fault.
-pub fn broken_writer(fault: Fault) -> impl Fn(&[u8], &mut [u8], &mut [u32], &mut [u64]) -> u64 {
-    move |job, out, words, sets| {
-        compare_writer::packed(expand_with(Broken(fault), job, out, words, sets))
-    }
+pub fn broken_writer(fault: Fault) -> Box<Writing<'static>> {
+    Box::new(move |job, names, out, words, sets| {
+        compare_writer::packed(expand_with(Broken(fault), job, names, out, words, sets))
+    })
 }
 
 /// The reader with one fault.
@@ -118,18 +118,22 @@ pub fn try_walks(exact: Counter, seed: u64, files: u64, until_told: bool) -> Vec
     })
 }
 
-/// The broken writers on the jobs.
+/// The broken writers on the jobs, under both choices.
 pub fn try_writers(exact: Writer, seed: u64, jobs: u64, until_told: bool) -> Vec<Verdict> {
     let expect = |index| {
         let job = job(seed, index).bytes;
-        let expected = lengths(index)
-            .map(|lengths| (lengths, compare_writer::call(exact, &job, lengths, index)));
+        let expected = Names::ALL.map(|names| {
+            let call = |lengths| compare_writer::call(exact, &job, names, lengths, index);
+            (names, lengths(index).map(|lengths| (lengths, call(lengths))))
+        });
         (job, expected)
     };
     try_faults(Fault::WRITER, jobs, until_told, expect, |fault, index, (job, expected)| {
         let broken = broken_writer(fault);
-        expected.iter().all(|(lengths, expected)| {
-            compare_writer::call(&broken, job, *lengths, index) == *expected
+        expected.iter().all(|(names, expected)| {
+            expected.iter().all(|(lengths, expected)| {
+                compare_writer::call(&broken, job, *names, *lengths, index) == *expected
+            })
         })
     })
 }

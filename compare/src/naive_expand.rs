@@ -6,11 +6,13 @@ use crate::answer::{Reason, Refusal};
 use crate::bundle::{
     Counts, MAX_BYTES, MAX_SETS, MAX_WORDS, Section, counts_of, to_bytes, to_words,
 };
+use crate::expand::Names;
 use crate::naive::{Plain, Tree, tables};
 
 /// Same answers and same areas as [`crate::expand::expand`].
 pub fn expand(
     job: &[u8],
+    names: Names,
     out: &mut [u8],
     words: &mut [u32],
     sets: &mut [u64],
@@ -19,12 +21,12 @@ pub fn expand(
     out.fill(0);
     words.fill(0);
     sets.fill(0);
-    let file = file_of(job, areas)?;
+    let file = file_of(job, names, areas)?;
     out[..file.len()].copy_from_slice(&file);
     Ok(file.len())
 }
 
-fn file_of(job: &[u8], areas: bool) -> Result<Vec<u8>, Refusal> {
+fn file_of(job: &[u8], names: Names, areas: bool) -> Result<Vec<u8>, Refusal> {
     let plain = tables(job, |_| areas)?;
     let counts = counts_of(job).unwrap_or_default();
     let whole = |reason| Err(Refusal::whole(reason));
@@ -49,6 +51,7 @@ fn file_of(job: &[u8], areas: bool) -> Result<Vec<u8>, Refusal> {
         contexts: Vec::new(),
         steps: Vec::new(),
         plain: &plain,
+        names,
     };
     for (term, tree) in writer.terms.iter_mut().zip(&plain.terms) {
         term.1 = Some(tree.clone());
@@ -71,7 +74,9 @@ fn file_of(job: &[u8], areas: bool) -> Result<Vec<u8>, Refusal> {
 }
 
 struct Writer<'a> {
+    /// The job.
     plain: &'a Plain,
+    names: Names,
     /// Record, and the term by value.
     terms: Vec<(Vec<u32>, Option<Tree>)>,
     variables: Vec<u32>,
@@ -234,17 +239,39 @@ impl Writer<'_> {
         Some((results, steps))
     }
 
-    /// Visits a quantifier's body under a new variable.
+    /// Whether a quantifier over x keeps it, counted anew each time.
+    fn keeps(&self, x: u32) -> bool {
+        let mut binders = 0;
+        let mut lists = 0;
+        for tree in &self.plain.terms {
+            match tree {
+                Tree::ForAll(variable, _) | Tree::Exists(variable, _) if *variable == x => {
+                    binders += 1;
+                }
+                Tree::Let(variables, _, _) if variables.contains(&x) => lists += 1,
+                _ => {}
+            }
+        }
+        match self.names {
+            Names::Keep => binders == 1 && lists == 0,
+            Names::RenameAll => false,
+        }
+    }
+
+    /// Visits a quantifier's body under its own variable, where that is kept, or a new one.
     fn rename(&mut self, x: u32, body: u32, context: u32) -> Option<(u32, u32, u32)> {
-        self.variables.push(self.variables[x as usize - 1]);
-        let y = self.variables.len() as u32;
+        let mut y = x;
+        if !self.keeps(x) {
+            self.variables.push(self.variables[x as usize - 1]);
+            y = self.variables.len() as u32;
+        }
         let y_term = self.term(Tree::Variable(y));
         let fixing = self.context([1, y, 0, context]);
         let xs = self.list(&[x]);
         let ys = self.list(&[y_term]);
-        let renaming = self.context([2, xs, ys, fixing]);
+        let replacing = self.context([2, xs, ys, fixing]);
         self.fits()?;
-        let (result, step) = self.visit(body, renaming)?;
+        let (result, step) = self.visit(body, replacing)?;
         Some((y, result, step))
     }
 }

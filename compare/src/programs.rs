@@ -1,6 +1,8 @@
-//! The programs: check and expand, each run on a file on its standard input, and read,
-//! run on a text there with the declarations in a file that it is named.
+//! The programs: check and expand, each run on a file on its standard input, expand with or
+//! without --rename, and read, run on a text there with the declarations in a file that it is
+//! named.
 
+use crate::expand::Names;
 use crate::tally::first_difference;
 use std::io::{self, ErrorKind, Write};
 use std::path::{Path, PathBuf};
@@ -10,6 +12,8 @@ use std::{env, fs, process, thread};
 
 /// What a program leaves for an input.
 pub type Program<'a> = &'a dyn Fn(&[u8]) -> io::Result<Output>;
+/// What it leaves for a job and a choice of names.
+pub type JobProgram<'a> = &'a dyn Fn(&[u8], Names) -> io::Result<Output>;
 /// What it leaves for declarations and a text.
 pub type TextProgram<'a> = &'a dyn Fn(&[u8], &[u8]) -> io::Result<Output>;
 
@@ -26,6 +30,22 @@ pub const LONGEST_TEXT: usize = 1 << 20;
 pub fn program(folder: &Path, name: &str) -> Result<impl Fn(&[u8]) -> io::Result<Output>, String> {
     let path = place(folder, name)?;
     Ok(move |input: &[u8]| run(&mut Command::new(&path), input))
+}
+
+/// The same of the program expand, which renames all names where it is told to.
+pub fn job_program(
+    folder: &Path,
+    name: &str,
+) -> Result<impl Fn(&[u8], Names) -> io::Result<Output>, String> {
+    let path = place(folder, name)?;
+    Ok(move |job: &[u8], names| {
+        let mut command = Command::new(&path);
+        match names {
+            Names::Keep => {}
+            Names::RenameAll => _ = command.arg("--rename"),
+        }
+        run(&mut command, job)
+    })
 }
 
 /// The same of a program that takes declarations too.

@@ -1,6 +1,7 @@
 //! The benchmark's tables, as text and as Markdown.
 
 use crate::bench::{FULL, Row, Share};
+use crate::expand::Names;
 use std::fmt::Write;
 use std::time::{SystemTime, UNIX_EPOCH};
 
@@ -10,7 +11,8 @@ pub struct Results {
     pub checks: Vec<Row>,
     pub terms: Vec<Row>,
     pub doubling: Vec<Row>,
-    pub writers: Vec<Row>,
+    /// Under each choice of names, in the order of `Names::ALL`.
+    pub writers: [Vec<Row>; 2],
     pub readers: Vec<Row>,
 }
 
@@ -19,6 +21,11 @@ const MISSING: &str = "The proved library was not there: Rust alone.";
 impl Results {
     fn has_proved(&self) -> bool {
         self.checks.iter().any(|row| row.proved.is_some())
+    }
+
+    /// The rows of the writers, each with its choice: first the one that all were before Req 06.
+    fn writers(&self) -> impl Iterator<Item = (Names, &Vec<Row>)> {
+        Names::ALL.into_iter().zip(&self.writers).rev()
     }
 
     /// The files in which REFL walks.
@@ -67,8 +74,15 @@ impl Results {
             "\n## Time a step as steps double\n\nExpansions of the same kind, nanoseconds of the whole check a step.\n\n",
         );
         page.push_str(&share_table(&self.doubling, Share::Step, true));
-        page.push_str("\n## Writing\n\nThe largest jobs with files of these sizes; \"clear\" is the time to clear the three areas.\n\n");
-        page.push_str(&table(&self.writers, Share::Step, "clear µs", true));
+        page.push_str(
+            "\n## Writing\n\nThe largest jobs with files of these sizes, the same as before Req 06: their lets list every variable \
+             that a quantifier binds, so no name is kept under either choice; and a rule of quantifiers over different variables, whose names are all kept or all renamed. \
+             \"Clear\" is the time to clear the three areas.\n",
+        );
+        for (names, rows) in self.writers() {
+            let _ = writeln!(page, "\n### With {names}\n");
+            page.push_str(&table(rows, Share::Step, "clear µs", true));
+        }
         page.push_str("\n## Reading\n\nTexts of these sizes, with the terms of their jobs; \"clear\" as above.\n\n");
         page.push_str(&table(&self.readers, Share::Term, "clear µs", true));
         page.push_str(include_str!("bench_notes.md"));
@@ -88,8 +102,10 @@ impl Results {
         text.push_str(&share_table(&self.terms, Share::Term, false));
         text.push('\n');
         text.push_str(&share_table(&self.doubling, Share::Step, false));
-        text.push('\n');
-        text.push_str(&table(&self.writers, Share::Step, "clear µs", false));
+        for (names, rows) in self.writers() {
+            let _ = writeln!(text, "\nwith {names}:");
+            text.push_str(&table(rows, Share::Step, "clear µs", false));
+        }
         text.push('\n');
         text.push_str(&table(&self.readers, Share::Term, "clear µs", false));
         for line in self.findings() {
@@ -101,11 +117,13 @@ impl Results {
     /// What the run shows, where the proved library was there.
     fn findings(&self) -> Vec<String> {
         let mut lines = Vec::new();
-        for (rows, name) in [(&self.writers, "writer"), (&self.readers, "reader")] {
+        let writers =
+            self.writers().map(|(names, rows)| (rows, "writer", format!(" with {names}")));
+        for (rows, name, choice) in writers.chain([(&self.readers, "reader", String::new())]) {
             let ratios: Vec<f64> = rows.iter().filter_map(Row::ratio).collect();
             if let Some((least, most)) = range(&ratios) {
                 lines.push(format!(
-                    "The proved {name} takes {least:.2} to {most:.2} times as long as the Rust {name}."
+                    "The proved {name} takes {least:.2} to {most:.2} times as long as the Rust {name}{choice}."
                 ));
             }
         }
@@ -316,16 +334,20 @@ mod tests {
         Row { name, bytes: 1024, terms: 2, steps: 4, pairs: 0, copy, proved, rust }
     }
 
-    /// Texts have a table of their own, with the ratio, a line of what it shows, and bars.
+    /// Writers have a table for each choice of names; texts one of their own, with the ratio, a
+    /// line of what it shows, and bars.
     #[test]
     fn texts_are_shown() {
         let text = |name: &str, proved| Row { name: name.into(), ..row(Some(proved)) };
         let readers = vec![text("text, 1 KB", 1.0), text("text, 58 KB", 1.5), text("deep", 3.0)];
         let rows = || vec![row(Some(3.0)), row(Some(3.0))];
-        let (checks, terms, doubling, writers) = (rows(), rows(), rows(), rows());
+        let (checks, terms, doubling) = (rows(), rows(), rows());
+        let writers = [rows(), vec![text("renamed", 5.0)]];
         let results = Results { checks, terms, doubling, writers, readers };
         for page in [results.markdown(), results.text()] {
             for line in [
+                "The proved writer takes 1.50 to 1.50 times as long as the Rust writer with names kept.\n",
+                "The proved writer takes 2.50 to 2.50 times as long as the Rust writer with all renamed.\n",
                 "The proved reader takes 0.50 to 1.50 times as long as the Rust reader.\n",
                 "The time a byte of text stays within 1.50 times from 1 to 58 KB.\n",
             ] {
@@ -333,6 +355,9 @@ mod tests {
             }
         }
         let page = results.markdown();
+        let (_, renamed) = page.split_once("\n### With all renamed\n").unwrap();
+        let (renamed, kept) = renamed.split_once("\n### With names kept\n").unwrap();
+        assert!(renamed.contains("| renamed |") && !kept.contains("| renamed |"), "{page}");
         let (_, reading) = page.split_once("\n## Reading\n").unwrap();
         assert!(reading.contains("| text, 58 KB | 1,024 |     2 |"), "{reading}");
         assert!(reading.contains("|  0.75 |\n"), "{reading}");

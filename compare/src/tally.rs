@@ -108,8 +108,26 @@ impl<F: Ord + Debug> Tally<F> {
         unseen(&self.calls, numbers, least)
     }
 
-    /// The samples, the families, and a table of the numbers. `good` is the word for 0.
+    /// The families and the table.
     pub fn write(
+        &self,
+        out: &mut fmt::Formatter<'_>,
+        inputs: &str,
+        good: &str,
+        numbers: impl Iterator<Item = Reason>,
+    ) -> fmt::Result {
+        self.write_families(out)?;
+        self.write_table(out, inputs, good, numbers)
+    }
+
+    pub fn write_families(&self, out: &mut fmt::Formatter<'_>) -> fmt::Result {
+        let families: Vec<String> =
+            self.families.iter().map(|(family, count)| format!("{family:?} {count}")).collect();
+        writeln!(out, "families: {}", families.join(", "))
+    }
+
+    /// The samples, and a table of the numbers. `good` is the word for 0.
+    pub fn write_table(
         &self,
         out: &mut fmt::Formatter<'_>,
         inputs: &str,
@@ -121,9 +139,6 @@ impl<F: Ord + Debug> Tally<F> {
         if sampled {
             writeln!(out, "{plain} {inputs} also to the plain reading, {program} to the program")?;
         }
-        let families: Vec<String> =
-            self.families.iter().map(|(family, count)| format!("{family:?} {count}")).collect();
-        writeln!(out, "families: {}", families.join(", "))?;
         let mut line = |[answer, inputs, calls, plain, program]: [&dyn Display; 5], text: &str| {
             write!(out, "{answer:>6} {inputs:>9} {calls:>9}")?;
             if sampled {

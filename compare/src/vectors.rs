@@ -7,6 +7,7 @@ use crate::compare::{self, Checker};
 use crate::compare_links::Counter;
 use crate::compare_reader::{self, Reader};
 use crate::compare_writer::{self, Areas, Writer};
+use crate::expand::Names;
 use crate::padding::Question;
 use std::collections::BTreeMap;
 use std::fmt;
@@ -19,7 +20,7 @@ pub const SHORT: usize = 8_000;
 pub enum Call {
     Check { lent: usize, file: Vec<u8> },
     Sets { lent: usize, file: Vec<u8> },
-    Write { lengths: [usize; 3], job: Vec<u8> },
+    Write { names: Names, lengths: [usize; 3], job: Vec<u8> },
     Read { lengths: [usize; 3], declarations: Vec<u8>, text: Vec<u8> },
     Links { step: usize, file: Vec<u8> },
     Walk { context: u32, sides: [u32; 2], file: Vec<u8> },
@@ -44,9 +45,14 @@ impl Call {
         match words[..] {
             ["check", lent, file] => Ok(Call::Check { lent: number(lent)?, file: bytes(file)? }),
             ["sets", lent, file] => Ok(Call::Sets { lent: number(lent)?, file: bytes(file)? }),
-            ["write", "rename", out, words, sets, job] => {
+            ["write", names, out, words, sets, job] => {
+                let names = match names {
+                    "keep" => Names::Keep,
+                    "rename" => Names::RenameAll,
+                    _ => return Err(format!("there is no such choice of names: {names}")),
+                };
                 let lengths = [number(out)?, number(words)?, number(sets)?];
-                Ok(Call::Write { lengths, job: bytes(job)? })
+                Ok(Call::Write { names, lengths, job: bytes(job)? })
             }
             ["read", out, words, sets, declarations, text] => Ok(Call::Read {
                 lengths: [number(out)?, number(words)?, number(sets)?],
@@ -67,7 +73,8 @@ impl Call {
         match self {
             Call::Check { .. } => "check",
             Call::Sets { .. } => "sets",
-            Call::Write { .. } => "write",
+            Call::Write { names: Names::Keep, .. } => "write keep",
+            Call::Write { names: Names::RenameAll, .. } => "write rename",
             Call::Read { .. } => "read",
             Call::Links { .. } => "links",
             Call::Walk { .. } => "walk",
@@ -95,8 +102,8 @@ impl Call {
                     area[..used].iter().map(|word| format!("{word:016x}")).collect();
                 Some((if used == 0 { "-".into() } else { sets.join(" ") }, None))
             }
-            Call::Write { lengths, job } => {
-                Some(written(compare_writer::call(party.expand, job, *lengths, junk)))
+            Call::Write { names, lengths, job } => {
+                Some(written(compare_writer::call(party.expand, job, *names, *lengths, junk)))
             }
             Call::Read { lengths, declarations, text } => {
                 (text.len() <= party.longest_text).then(|| {
@@ -341,7 +348,7 @@ mod tests {
         let party = |name, longest_text| Party {
             name,
             check: &|_, _| 1 << 32,
-            expand: &|_, _, _, _| 1 << 32,
+            expand: &|_, _, _, _, _| 1 << 32,
             read: &|_, _, out: &mut [u8], _: &mut [u32], _: &mut [u64]| {
                 out.fill(0);
                 1 << 32
@@ -371,8 +378,36 @@ mod tests {
 
     #[test]
     fn other_calls_are_named() {
-        let report = run("cut 7 2 = 3 1\nnonsense\n", &BTreeMap::new(), &[]);
-        assert_eq!(report.differences.len(), 2);
+        let text = "cut 7 2 = 3 1\nnonsense\nwrite none 0 0 0 - = refused 1 0\n";
+        let report = run(text, &BTreeMap::new(), &[]);
+        assert_eq!(report.differences.len(), 3);
         assert!(report.to_string().contains("no such call here: cut"), "{report}");
+        assert!(report.to_string().contains("no such choice of names: none"), "{report}");
+    }
+
+    /// A line's choice is handed on.
+    #[test]
+    fn each_line_has_its_choice() {
+        let party = Party {
+            name: "a",
+            check: &|_, _| 1 << 32,
+            expand: &|_, names, _, _, _| match names {
+                Names::Keep => 4 << 32,
+                Names::RenameAll => 5 << 32,
+            },
+            read: &|_, _, _, _, _| 1 << 32,
+            links: &|_, _| 1 << 32,
+            longest_text: 0,
+        };
+        let differences = |keep: u32, rename: u32| {
+            let text = format!(
+                "write keep 0 0 0 - = refused {keep} 0\nwrite rename 0 0 0 - = refused {rename} 0\n"
+            );
+            let report = run(&text, &BTreeMap::new(), &[party]);
+            let calls: Vec<&str> = report.answered.keys().map(|(_, call)| *call).collect();
+            assert_eq!(calls, ["write keep", "write rename"]);
+            report.differences.len()
+        };
+        assert_eq!([differences(4, 5), differences(5, 4)], [0, 2]);
     }
 }

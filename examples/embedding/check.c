@@ -1,11 +1,13 @@
 /* Checks a bundle, or expands a job and checks what comes out: check-c FILE.
  * Reads a rule typed as SMT-LIB beside its declarations, expands it and checks what comes out: check-c DECLARATIONS TEXT.
+ * A quantifier's variable that nothing else in the job binds keeps its name; with --rename before the files every quantifier gets a new one.
  *
  *   cc -std=c11 -O2 -I include -o check-c examples/embedding/check.c target/staticlib/libnezkaldo.a */
 #include "nezkaldo.h"
 
 #include <inttypes.h>
 #include <stdio.h>
+#include <string.h>
 
 enum { INPUT = 65536, TEXT = 1048576, OUT = 58916, WORDS = 14729, SETS = 4096 };
 
@@ -16,6 +18,8 @@ static uint8_t out[OUT];
 static uint32_t words[WORDS];
 static uint64_t sets[SETS];
 static uint64_t free_sets[SETS];
+/* --rename was given. */
+static int rename_all;
 
 /* Word k of a file: 7 is the claim's left, 8 its right. */
 static uint32_t word_at(const uint8_t *file, size_t k)
@@ -44,10 +48,11 @@ static int check(const uint8_t *file, size_t length)
     return 0;
 }
 
-/* Expands a job and checks the file. */
+/* Expands a job and checks the file. The choice of names is by the call. */
 static int expand(const uint8_t *from, size_t length)
 {
-    uint64_t answer = nezkaldo_expand(from, length, out, OUT, words, WORDS, sets, SETS);
+    uint64_t answer = rename_all ? nezkaldo_expand_renamed(from, length, out, OUT, words, WORDS, sets, SETS)
+                                 : nezkaldo_expand(from, length, out, OUT, words, WORDS, sets, SETS);
     if (answer >> 32 != 0) {
         print_refusal(answer);
         return 1;
@@ -70,8 +75,13 @@ static int load(const char *path, uint8_t *room, size_t size, size_t *length)
 int main(int count, char **arguments)
 {
     size_t length, text_length;
+    if (count > 1 && strcmp(arguments[1], "--rename") == 0) {
+        rename_all = 1;
+        count--;
+        arguments++;
+    }
     if (count < 2 || count > 3 || !load(arguments[1], input, INPUT, &length) || (count == 3 && !load(arguments[2], text, TEXT, &text_length))) {
-        fputs("usage: check-c FILE\n       check-c DECLARATIONS TEXT\n", stderr);
+        fputs("usage: check-c [--rename] FILE\n       check-c [--rename] DECLARATIONS TEXT\n", stderr);
         return 2;
     }
     if (count == 3) {

@@ -5,7 +5,7 @@ use super::derive::Care;
 use super::{derivation, examples, limits};
 use crate::bundle::{LEFT, MAX_BYTES, RIGHT, Section, counts_of, to_bytes};
 use crate::damage::{Draft, random_bytes, random_words};
-use crate::expand::written;
+use crate::expand::{Names, written};
 use crate::fault::OLD_VARIABLES;
 use crate::rng::Rng;
 
@@ -13,6 +13,8 @@ use crate::rng::Rng;
 pub enum JobFamily {
     /// Closed rules.
     Closed,
+    /// Closed rules about names that are kept, or not, or only just.
+    Named,
     /// Rules with free variables, often too large as well.
     Open,
     /// Jobs whose expansion fills a section, or needs one record more.
@@ -36,7 +38,8 @@ pub fn job(seed: u64, index: u64) -> Job {
     // A stream of its own, apart from that of the files.
     let mut rng = Rng::for_file(seed ^ 0x6a6f_6273, index);
     let family = match rng.below(100) {
-        0..42 => JobFamily::Closed,
+        0..26 => JobFamily::Closed,
+        26..42 => JobFamily::Named,
         42..50 => JobFamily::Open,
         50..58 => JobFamily::Limit,
         58..66 => JobFamily::NotBare,
@@ -45,6 +48,7 @@ pub fn job(seed: u64, index: u64) -> Job {
     };
     let words = match family {
         JobFamily::Closed => closed(rng),
+        JobFamily::Named => named(rng),
         JobFamily::Open => open(rng),
         JobFamily::Limit => {
             let past = rng.chance(50);
@@ -52,10 +56,10 @@ pub fn job(seed: u64, index: u64) -> Job {
         }
         JobFamily::NotBare => not_bare(rng),
         JobFamily::Damaged => {
-            let mut draft = Draft::new(if rng.chance(10) {
-                examples::JOB.to_vec()
-            } else {
-                closed(rng.clone())
+            let mut draft = Draft::new(match rng.below(10) {
+                0 => examples::JOB.to_vec(),
+                1..4 => named(rng.clone()),
+                _ => closed(rng.clone()),
             });
             if rng.chance(70) {
                 draft.spoil(&mut rng);
@@ -93,6 +97,122 @@ pub fn closed(rng: Rng) -> Vec<u32> {
         b.random_term(sort, 2);
     }
     b.words(rule, 0)
+}
+
+/// A rule about names, with variables of its own that random choices do not draw: each is
+/// bound by one record or by more, or listed by a let, in the rule or beside it.
+pub fn named(rng: Rng) -> Vec<u32> {
+    let (mut b, rule) = named_rule(rng);
+    b.words(rule, 0)
+}
+
+fn named_rule(rng: Rng) -> (Builder, u32) {
+    let mut b = builder(rng);
+    let count = b.rng.between(1, 6).min(b.room(Section::Variables));
+    let mut own: Vec<u32> = (0..count)
+        .map(|_| {
+            let sort = if b.rng.chance(70) { ITEM } else { TRUTH };
+            b.spare_variable(sort)
+        })
+        .collect();
+    if own.is_empty() {
+        own = b.drawn().to_vec();
+    }
+    beside(&mut b, &own);
+    let mut rule = b.random_term(TRUTH, 1);
+    for &x in &own {
+        // One that does not occur often has no term.
+        if b.rng.chance(75) {
+            let x_term = b.variable_term(x);
+            let mut atom = x_term;
+            if b.variable_sort(x) == ITEM {
+                let other = b.random_leaf(ITEM);
+                atom = b.apply(8, &[x_term, other]);
+            }
+            let connective = b.rng.between(4, 7);
+            rule = b.apply(connective, &[atom, rule]);
+        }
+    }
+    b.rng.shuffle(&mut own);
+    for &x in &own {
+        rule = bound(&mut b, x, rule);
+    }
+    let rule = b.close(rule);
+    beside(&mut b, &own);
+    (b, rule)
+}
+
+/// Binds a variable in a rule: mostly once.
+fn bound(b: &mut Builder, x: u32, rule: u32) -> u32 {
+    let (kind, other) = b.rng.one_of([(FOR_ALL, EXISTS), (EXISTS, FOR_ALL)]);
+    let one = match b.rng.below(12) {
+        // No quantifier at all.
+        0 => return listed(b, x, rule),
+        _ => b.quantify(kind, x, rule),
+    };
+    let parts = match b.rng.below(12) {
+        // Another record binds it too: another quantifier, another body, around the first.
+        0 => [one, b.quantify(other, x, rule)],
+        1 => {
+            let negated = b.apply(3, &[rule]);
+            [one, b.quantify(kind, x, negated)]
+        }
+        2 => {
+            let kind = b.rng.one_of([kind, other]);
+            return b.quantify(kind, x, one);
+        }
+        // A let lists it beside the quantifier.
+        3 => [one, listed(b, x, rule)],
+        // One record is visited twice, in the same context or in two.
+        4 => [one, one],
+        5 | 6 => {
+            let drawn = b.free(one).members().find(|variable| b.drawn().contains(variable));
+            let variable = drawn.unwrap_or_else(|| b.draw_variable());
+            let sort = b.variable_sort(variable);
+            [0, 1].map(|_| {
+                let value = b.random_term(sort, 1);
+                b.bind_let(&[variable], &[value], one)
+            })
+        }
+        _ => return one,
+    };
+    let connective = b.rng.between(4, 7);
+    b.apply(connective, &parts)
+}
+
+/// A let that lists a variable, first or after another one.
+fn listed(b: &mut Builder, x: u32, body: u32) -> u32 {
+    let mut variables = vec![x];
+    let before = b.draw_variable();
+    if before != x && b.rng.chance(60) {
+        variables.insert(0, before);
+    }
+    let bounds: Vec<u32> = variables
+        .iter()
+        .map(|&variable| {
+            let sort = b.variable_sort(variable);
+            b.random_leaf(sort)
+        })
+        .collect();
+    b.bind_let(&variables, &bounds, body)
+}
+
+/// Records that the rule does not need: for a few of the variables a term, a binder or a let.
+fn beside(b: &mut Builder, own: &[u32]) {
+    for &x in own {
+        match b.rng.below(12) {
+            0 => _ = b.variable_term(x),
+            1 => {
+                let (body, kind) = (b.random_leaf(TRUTH), b.rng.one_of([FOR_ALL, EXISTS]));
+                b.quantify(kind, x, body);
+            }
+            2 => {
+                let body = b.random_leaf(TRUTH);
+                listed(b, x, body);
+            }
+            _ => {}
+        }
+    }
 }
 
 /// A rule with free variables; sometimes its expansion does not fit either.
@@ -152,31 +272,90 @@ fn not_bare(mut rng: Rng) -> Vec<u32> {
     }
 }
 
-/// A job whose written file has a section exactly at its limit; one record more
-/// where `past`.
+/// A job whose written file has a section exactly at its limit, under one of the choices
+/// of names; one record more where `past`.
 fn at_limit(mut rng: Rng, past: bool) -> Vec<u32> {
     let more = u32::from(past);
-    match rng.below(5) {
+    match rng.below(6) {
         0 => many_lets(rng, Section::Contexts.limit() + more),
         1 => many_steps(rng, Section::Steps.limit() + more),
+        2 => {
+            // Renamed, they have all variables; kept, they need none. A quantifier takes two
+            // contexts.
+            let most = Section::Contexts.limit() / 2;
+            let count = rng.between(1, most + 1);
+            many_names(rng, count, count.max(Section::Variables.limit() - count + more))
+        }
         choice => {
-            let mut b = builder(rng);
-            let depth = b.rng.between(2, 4);
-            let term = b.random_compound(TRUTH, depth);
-            let rule = b.close(term);
+            let (mut b, rule) = if rng.chance(50) {
+                named_rule(rng)
+            } else {
+                let mut b = builder(rng);
+                let depth = b.rng.between(2, 4);
+                let term = b.random_compound(TRUTH, depth);
+                let rule = b.close(term);
+                (b, rule)
+            };
+            // Bound in what fills up, so that no name of the rule's is bound again.
+            let spare = (b.room(Section::Variables) > 0).then(|| b.spare_variable(TRUTH));
             let job = b.words(rule, 0);
-            let Ok(file) = written(&to_bytes(&job)) else { return job };
+            let names = b.rng.one_of(Names::ALL);
+            let Ok(file) = written(&to_bytes(&job), names) else { return job };
             let after = counts_of(&file).unwrap_or_default();
             let section = match choice {
-                2 => Section::Variables,
-                3 => Section::Terms,
+                3 => Section::Variables,
+                4 => Section::Terms,
                 _ => Section::Links,
             };
             let grown = after[section] - b.count(section);
-            limits::fill(&mut b, section, section.limit() - grown + more);
+            let target = section.limit() - grown + more;
+            match spare {
+                Some(spare) if section == Section::Terms => fill_terms(&mut b, spare, target),
+                _ => limits::fill(&mut b, section, target),
+            }
             b.words(rule, 0)
         }
     }
+}
+
+/// Adds quantifiers over this variable, one on the other, until there are so many terms.
+fn fill_terms(b: &mut Builder, variable: u32, target: u32) {
+    let mut last = b.apply(1, &[]);
+    while b.count(Section::Terms) < target {
+        let kind = b.rng.one_of([FOR_ALL, EXISTS]);
+        last = b.quantify(kind, variable, last);
+    }
+}
+
+/// How many quantifiers the benchmark's rule of them has: all that fit, with new names too.
+pub const QUANTIFIERS: u32 = 128;
+
+/// So many quantifiers over different variables, a few of them over truth values.
+pub fn quantified(count: u32) -> Vec<u32> {
+    many_names(Rng::new(1), count, count)
+}
+
+/// Quantifiers over the first of these variables, which occur in pairs; one without a
+/// partner has no term.
+fn many_names(rng: Rng, quantifiers: u32, variables: u32) -> Vec<u32> {
+    let mut b = Builder::new(rng, 100);
+    let p = b.symbol(TRUTH, &[ITEM, ITEM]);
+    for index in 0..variables {
+        b.spare_variable(if index / 2 % 4 == 3 { TRUTH } else { ITEM });
+    }
+    let own: Vec<u32> = (1..=quantifiers).collect();
+    let mut rule = b.apply(1, &[]);
+    for pair in own.chunks_exact(2) {
+        let symbol = if b.variable_sort(pair[0]) == TRUTH { 7 } else { p };
+        let (one, other) = (b.variable_term(pair[0]), b.variable_term(pair[1]));
+        let atom = b.apply(symbol, &[one, other]);
+        rule = b.apply(4, &[atom, rule]);
+    }
+    for (index, &variable) in own.iter().enumerate().rev() {
+        let kind = if index % 3 == 2 { EXISTS } else { FOR_ALL };
+        rule = b.quantify(kind, variable, rule);
+    }
+    b.words(rule, 0)
 }
 
 /// Nested lets, some over several variables and some shadowing, with `contexts`
@@ -242,14 +421,14 @@ fn with_visits(b: &mut Builder, full: &[(u32, u32)], visits: u32) -> u32 {
     }
 }
 
-/// The largest job of its kind whose written file `fits`, for the benchmark. Its
-/// rule is a conjunction of parts that let, quantify and apply.
+/// The largest job of its kind whose written file `fits`, for the benchmark, with all names
+/// renamed. Its rule is a conjunction of parts that let, quantify and apply.
 pub fn largest(fits: impl Fn(&[u8]) -> bool) -> Vec<u32> {
     conjunction(largest_width(fits)).0
 }
 
 fn largest_width(fits: impl Fn(&[u8]) -> bool) -> u32 {
-    let file = |width: u32| written(&to_bytes(&conjunction(width).0));
+    let file = |width: u32| written(&to_bytes(&conjunction(width).0), Names::RenameAll);
     (1..).take_while(|&width| file(width).is_ok_and(|file| fits(&file))).last().unwrap_or(1)
 }
 
@@ -261,7 +440,7 @@ pub const OLD_BYTES: usize = MAX_BYTES - 4 * (Section::Variables.limit() - OLD_V
 /// larger, terms, links, variables and symbols that it does not need fill up.
 pub fn of_size(bytes: usize) -> Vec<u32> {
     let (job, mut b, rule) = conjunction(largest_width(|file| file.len() <= bytes));
-    let Ok(file) = written(&to_bytes(&job)) else { return job };
+    let Ok(file) = written(&to_bytes(&job), Names::RenameAll) else { return job };
     let after = counts_of(&file).unwrap_or_default();
     let mut missing = bytes.saturating_sub(file.len());
     for section in [Section::Terms, Section::Links, Section::Variables, Section::Symbols] {

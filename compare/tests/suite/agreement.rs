@@ -8,7 +8,7 @@ use nezkaldo_compare::compare::{self, Calls, Checkers};
 use nezkaldo_compare::compare_reader::{self, Readers};
 use nezkaldo_compare::compare_writer::{self, Writers};
 use nezkaldo_compare::ffi::{self, Library};
-use nezkaldo_compare::programs::{self, Program, TextProgram};
+use nezkaldo_compare::programs::{self, JobProgram, Program, TextProgram};
 use std::path::Path;
 
 const SEED: u64 = 20;
@@ -34,13 +34,14 @@ fn check_jobs(writers: Writers) {
     let report = compare_writer::run(writers, SEED, JOBS, failures()).unwrap();
     assert!(report.agrees(), "{report}");
     assert_eq!(report.unseen(1), [], "{report}");
+    assert_eq!(report.quantified.unseen(JOBS / 20), <[&str; 0]>::default(), "{report}");
 }
 
 fn check_texts(readers: Readers) {
     let report = compare_reader::run(readers, SEED, TEXTS, failures()).unwrap();
     assert!(report.agrees(), "{report}");
     assert_eq!(report.unseen(1), [], "{report}");
-    assert!(report.values > TEXTS / 10, "{report}");
+    assert!(report.values.iter().all(|&values| values > TEXTS / 10), "{report}");
 }
 
 #[test]
@@ -91,7 +92,7 @@ fn the_proved_writer_agrees() {
         eprintln!("no proved library in this build: not compared");
         return;
     };
-    let program = programs::program(Path::new(programs::FOLDER), programs::EXPAND).ok();
+    let program = programs::job_program(Path::new(programs::FOLDER), programs::EXPAND).ok();
     if program.is_none() {
         eprintln!("no program expand: not compared");
     }
@@ -99,7 +100,7 @@ fn the_proved_writer_agrees() {
         subject: expand,
         reference: &exact_expand,
         plain: Some(&plain_expand),
-        program: program.as_ref().map(|program| program as Program),
+        program: program.as_ref().map(|program| program as JobProgram),
         checkers: &[check, &exact],
     });
 }

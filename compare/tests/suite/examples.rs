@@ -4,7 +4,7 @@ use crate::{judge, judge_bytes};
 use nezkaldo_compare::bundle::{MAX_BYTES, MAX_SETS, MAX_WORDS, SET_WORDS, to_bytes, to_words};
 use nezkaldo_compare::check::check;
 use nezkaldo_compare::eval::{Evaluator, World};
-use nezkaldo_compare::expand::{expand, written};
+use nezkaldo_compare::expand::{Names, expand, written};
 use nezkaldo_compare::generate::examples;
 use nezkaldo_compare::naive::{self, Plain};
 
@@ -95,8 +95,10 @@ fn example_10_repeated_variable() {
 #[test]
 fn example_11_written_file() {
     let job = to_bytes(examples::JOB);
-    let file = written(&job).unwrap();
+    // There is no quantifier, so both choices of names write the same.
+    let [file, renamed] = Names::ALL.map(|names| written(&job, names).unwrap());
     assert_eq!(to_words(&file), examples::WRITTEN);
+    assert_eq!(renamed, file);
     assert_eq!(judge_bytes(&file).0, (0, 0));
     // Steps CONG, REFL, REFL, CONG, LET; right is term 5.
     let steps: Vec<u32> =
@@ -106,7 +108,7 @@ fn example_11_written_file() {
 
     let (mut out, mut words, mut sets) =
         (vec![9; MAX_BYTES], vec![9; MAX_WORDS], vec![9; MAX_SETS]);
-    assert_eq!(expand(&job, &mut out, &mut words, &mut sets), Ok(file.len()));
+    assert_eq!(expand(&job, Names::Keep, &mut out, &mut words, &mut sets), Ok(file.len()));
     assert_eq!(out[..file.len()], file);
     assert!(out[file.len()..].iter().all(|&byte| byte == 0));
     assert!(words.iter().all(|&word| word == 0) && sets.iter().all(|&set| set == 0));

@@ -4,6 +4,7 @@ mod agreement;
 mod examples;
 mod limits;
 mod long_texts;
+mod names;
 mod parties;
 mod reader;
 mod stray;
@@ -18,6 +19,7 @@ mod writer;
 use nezkaldo_compare::answer::{packed, packed_walk};
 use nezkaldo_compare::bundle::{MAX_SETS, to_bytes};
 use nezkaldo_compare::compare::Calls;
+use nezkaldo_compare::expand::Names;
 use nezkaldo_compare::{
     check, compare_reader, compare_writer, expand, naive, naive_expand, naive_read, read,
 };
@@ -59,12 +61,24 @@ pub fn plain_links(file: &[u8], step: usize) -> u64 {
 pub const EXACT: Calls = Calls { check: &exact, links: &exact_links };
 pub const PLAIN: Calls = Calls { check: &plain, links: &plain_links };
 
-pub fn exact_expand(job: &[u8], out: &mut [u8], words: &mut [u32], sets: &mut [u64]) -> u64 {
-    compare_writer::packed(expand::expand(job, out, words, sets))
+pub fn exact_expand(
+    job: &[u8],
+    names: Names,
+    out: &mut [u8],
+    words: &mut [u32],
+    sets: &mut [u64],
+) -> u64 {
+    compare_writer::packed(expand::expand(job, names, out, words, sets))
 }
 
-pub fn plain_expand(job: &[u8], out: &mut [u8], words: &mut [u32], sets: &mut [u64]) -> u64 {
-    compare_writer::packed(naive_expand::expand(job, out, words, sets))
+pub fn plain_expand(
+    job: &[u8],
+    names: Names,
+    out: &mut [u8],
+    words: &mut [u32],
+    sets: &mut [u64],
+) -> u64 {
+    compare_writer::packed(naive_expand::expand(job, names, out, words, sets))
 }
 
 pub fn exact_read(

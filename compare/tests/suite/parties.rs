@@ -2,18 +2,21 @@
 //! from an otherwise exact comparison is noticed.
 
 use crate::{EXACT, exact, exact_expand, exact_read};
-use nezkaldo_compare::answer::{Accepted, Refusal, line};
+use nezkaldo_compare::answer::{Accepted, Reason, Refusal, line};
 use nezkaldo_compare::bundle::{MAX_SETS, to_bytes};
 use nezkaldo_compare::check::check;
 use nezkaldo_compare::compare::{self, Calls, Checkers};
 use nezkaldo_compare::compare_reader::{self, Readers};
-use nezkaldo_compare::compare_writer::{self, Writers};
-use nezkaldo_compare::expand::written;
+use nezkaldo_compare::compare_writer::{self, Quantified, Writers, numbers};
+use nezkaldo_compare::expand::{Names, written};
 use nezkaldo_compare::fault::Fault;
+use nezkaldo_compare::generate::builder::{Builder, EXISTS, FOR_ALL, TRUTH};
+use nezkaldo_compare::generate::jobs::{Job, JobFamily};
 use nezkaldo_compare::generate::texts::{Text, TextFamily};
 use nezkaldo_compare::mutants::{broken_checker, broken_reader, broken_writer};
-use nezkaldo_compare::programs::{self, Program, TextProgram};
+use nezkaldo_compare::programs::{self, JobProgram, Program, TextProgram};
 use nezkaldo_compare::read::job;
+use nezkaldo_compare::rng::Rng;
 use nezkaldo_compare::tally::Sample;
 use std::io::{self, ErrorKind};
 use std::os::unix::process::ExitStatusExt;
@@ -29,7 +32,7 @@ fn checkers(program: Program) -> Checkers {
     Checkers { program: Some(program), ..Checkers::two(EXACT, EXACT) }
 }
 
-fn writers(program: Option<Program>) -> Writers {
+fn writers(program: Option<JobProgram>) -> Writers {
     Writers {
         subject: &exact_expand,
         reference: &exact_expand,
@@ -45,7 +48,7 @@ fn said_of_check(program: Program) -> Option<String> {
     report.differences.first().map(|difference| difference.text.clone())
 }
 
-fn said_of_expand(program: Program) -> Option<String> {
+fn said_of_expand(program: JobProgram) -> Option<String> {
     let report = compare_writer::run(writers(Some(program)), SEED, JOBS, None).unwrap();
     report.differences.first().map(|difference| difference.text.clone())
 }
@@ -73,7 +76,7 @@ fn check_but(
 #[test]
 fn the_right_programs_agree() {
     assert_eq!(said_of_check(&check_but(|answer| answer)), None);
-    let expand = |job: &[u8]| match written(job) {
+    let expand = |job: &[u8], names| match written(job, names) {
         Ok(file) => prints(file, ""),
         Err(refusal) => prints("", refusal.line()),
     };
@@ -104,21 +107,123 @@ fn another_claim_or_refusal_is_noticed() {
 
 #[test]
 fn another_file_or_refusal_is_noticed() {
-    let one_byte = |job: &[u8]| match written(job) {
+    let one_byte = |job: &[u8], names| match written(job, names) {
         Ok(mut file) => {
             *file.last_mut().unwrap() ^= 1;
             prints(file, "")
         }
         Err(refusal) => prints("", refusal.line()),
     };
-    let silent = |job: &[u8]| prints(written(job).unwrap_or_default(), "");
-    let on_output = |job: &[u8]| match written(job) {
+    let silent = |job: &[u8], names| prints(written(job, names).unwrap_or_default(), "");
+    let on_output = |job: &[u8], names| match written(job, names) {
         Ok(file) => prints(file, ""),
         Err(refusal) => prints(refusal.line(), ""),
     };
-    for program in [&one_byte as Program, &silent, &on_output] {
+    for program in [&one_byte as JobProgram, &silent, &on_output] {
         assert!(said_of_expand(program).is_some());
     }
+}
+
+/// The program is told to rename all, and to keep names it is told nothing; one that does not
+/// listen is noticed under the choice that it does not take.
+#[test]
+fn expand_is_told_the_choice() {
+    let echo = programs::job_program(Path::new("/bin"), "echo").unwrap();
+    assert_eq!(echo(b"", Names::Keep).unwrap().stdout, b"\n");
+    assert_eq!(echo(b"", Names::RenameAll).unwrap().stdout, b"--rename\n");
+    for (only, other) in [(Names::Keep, Names::RenameAll), (Names::RenameAll, Names::Keep)] {
+        let deaf = |job: &[u8], _: Names| match written(job, only) {
+            Ok(file) => prints(file, ""),
+            Err(refusal) => prints("", refusal.line()),
+        };
+        let said = said_of_expand(&deaf).expect("the program is wrong");
+        assert!(said.starts_with(&format!("{other}: the program's")), "{said}");
+    }
+}
+
+/// A writer that does not listen to the choice is noticed in the library's place and in the
+/// plain reading's, and the difference says under which choice.
+#[test]
+fn another_choice_is_noticed() {
+    for (fault, names) in
+        [(Fault::AlwaysKeeps, Names::RenameAll), (Fault::AlwaysRenames, Names::Keep)]
+    {
+        let broken = broken_writer(fault);
+        for (writers, from) in [
+            (Writers { subject: &broken, ..writers(None) }, "the Rust writer"),
+            (Writers { plain: Some(&broken), ..writers(None) }, "the plain reading"),
+        ] {
+            let report = compare_writer::run(writers, SEED, JOBS, None).unwrap();
+            assert!(!report.agrees(), "{fault:?}");
+            for difference in &report.differences {
+                let text = &difference.text;
+                assert!(text.starts_with(&format!("{names}: areas of")), "{text}");
+                assert!(text.contains(from), "{text}");
+            }
+        }
+    }
+}
+
+/// Every job goes through both choices, with a table for each, and a kind of names that was
+/// not seen is named.
+#[test]
+fn names_not_seen_are_named() {
+    let report = compare_writer::run(writers(None), SEED, JOBS, None).unwrap();
+    assert_eq!((report.jobs, report.calls), (JOBS, 4 * JOBS));
+    for tally in &report.tallies {
+        assert_eq!(tally.inputs.values().sum::<u64>(), JOBS);
+        assert_eq!(tally.calls.values().sum::<u64>(), 2 * JOBS);
+    }
+    let Quantified { kept, renamed, both } = report.quantified;
+    assert!(both > 0 && both < kept.min(renamed), "{report}");
+    let text = report.to_string();
+    let line = format!("{kept} have a variable kept, {renamed} one renamed, {both} both\n");
+    assert!(text.contains(&line), "{text}");
+    assert!(text.contains("names kept:\n") && text.contains("all renamed:\n"), "{text}");
+
+    let none = Quantified::default();
+    assert_eq!(none.unseen(1), ["kept", "renamed", "both"]);
+    // A rule without quantifiers, one whose name is kept, one with two binders of x, and one
+    // with another name kept beside these.
+    let file = |kinds: [usize; 2]| {
+        let mut b = Builder::new(Rng::new(1), 0);
+        let (x, y) = (b.variable(TRUTH), b.variable(TRUTH));
+        let mut rule = b.apply(1, &[]);
+        (0..kinds[0]).for_each(|_| rule = b.quantify(FOR_ALL, x, rule));
+        (0..kinds[1]).for_each(|_| rule = b.quantify(EXISTS, y, rule));
+        written(&to_bytes(&b.words(rule, 0)), Names::Keep).unwrap()
+    };
+    for (quantifiers, unseen) in [
+        ([0, 0], vec!["kept", "renamed", "both"]),
+        ([1, 0], vec!["renamed", "both"]),
+        ([1, 1], vec!["renamed", "both"]),
+        ([0, 2], vec!["kept", "both"]),
+        ([2, 1], vec![]),
+    ] {
+        let mut quantified = none;
+        quantified.add(&file(quantifiers));
+        assert_eq!(quantified.unseen(1), unseen, "{quantifiers:?}");
+    }
+}
+
+/// A number counts under the choice that answers it.
+#[test]
+fn numbers_count_by_the_choice() {
+    let mut report = compare_writer::Report::default();
+    let count = numbers().count();
+    assert_eq!(report.unseen(1).len(), 2 * (count + 1));
+    // 256 variables, and one more for each new name.
+    let mut b = Builder::new(Rng::new(1), 0);
+    (0..256).for_each(|_| _ = b.variable(TRUTH));
+    let truth = b.apply(1, &[]);
+    let rule = b.quantify(FOR_ALL, 1, truth);
+    let bytes = to_bytes(&b.words(rule, 0));
+    report.add(writers(None), 0, &Job { family: JobFamily::Limit, bytes });
+    assert!(report.agrees(), "{report}");
+    let unseen = report.unseen(1);
+    let full = Reason::Full.number();
+    assert!(unseen.contains(&(Names::Keep, full)) && unseen.contains(&(Names::RenameAll, 0)));
+    assert!(!unseen.contains(&(Names::Keep, 0)) && !unseen.contains(&(Names::RenameAll, full)));
 }
 
 /// What read says of a refusal starts with number and record; more may follow.
@@ -229,6 +334,7 @@ fn other_programs_are_noticed() {
     for name in ["true", "false", "cat"] {
         let other = programs::program(Path::new("/bin"), name).unwrap();
         assert!(said_of_check(&other).is_some(), "{name}");
+        let other = programs::job_program(Path::new("/bin"), name).unwrap();
         assert!(said_of_expand(&other).is_some(), "{name}");
     }
     let failing = |file: &[u8]| {

@@ -11,6 +11,7 @@ use nezkaldo_compare::bundle::{
 use nezkaldo_compare::compare::{self, Checker};
 use nezkaldo_compare::compare_reader::{self, Reader};
 use nezkaldo_compare::compare_writer::{self, Writer, misfit};
+use nezkaldo_compare::expand::Names;
 use nezkaldo_compare::ffi;
 use nezkaldo_compare::generate::builder::{Builder, EXISTS, FOR_ALL, ITEM, TRUTH};
 use nezkaldo_compare::generate::derive::{BIND, CONG, LET, REFL, TRANS};
@@ -387,14 +388,15 @@ fn areas_of_four_words_a_term() {
 
 const ENOUGH: [usize; 3] = [MAX_BYTES, MAX_WORDS, MAX_SETS];
 
-/// The answer and the areas of all writers.
-fn expanded(job: &[u8]) -> (u64, Vec<u8>) {
+/// The answer and the areas of all writers, which rename all.
+fn renamed(job: &[u8]) -> (u64, Vec<u8>) {
     let library = ffi::library();
     let mut writers: Vec<Writer> = vec![&plain_expand];
     writers.extend(library.as_ref().map(|library| library.expand));
-    let (answer, mut areas) = compare_writer::call(&exact_expand, job, ENOUGH, 1);
+    let call = |write| compare_writer::call(write, job, Names::RenameAll, ENOUGH, 1);
+    let (answer, mut areas) = call(&exact_expand);
     for write in writers {
-        assert!(compare_writer::call(write, job, ENOUGH, 1) == (answer, areas.clone()));
+        assert!(call(write) == (answer, areas.clone()));
     }
     if answer >> 32 == 0 {
         areas.out.truncate(answer as usize);
@@ -423,7 +425,7 @@ fn renamed_up_to_the_last_variable() {
         for (variables, quantifiers) in [(2, 62), (2, 63), (64, 65), (128, 128), (253, 3), (254, 2)]
         {
             let job = quantified(variables, quantifiers);
-            let (answer, file) = expanded(&job);
+            let (answer, file) = renamed(&job);
             assert_eq!(answer, file.len() as u64, "{variables} and {quantifiers}");
             let counts = counts_of(&file).unwrap();
             assert_eq!(counts[Section::Variables], variables + quantifiers);
@@ -435,7 +437,7 @@ fn renamed_up_to_the_last_variable() {
             assert_eq!(words[outermost..outermost + 2], [3, variables + 1]);
         }
         for (variables, quantifiers) in [(129, 128), (254, 3), (255, 2), (256, 2)] {
-            let (answer, out) = expanded(&quantified(variables, quantifiers));
+            let (answer, out) = renamed(&quantified(variables, quantifiers));
             assert_eq!(answer, 16 << 32, "{variables} and {quantifiers}");
             assert!(out.iter().all(|&byte| byte == 0));
         }

@@ -9,7 +9,7 @@ use nezkaldo_compare::ffi::{self, Library};
 use nezkaldo_compare::vectors::{self, Party, Report};
 
 /// The last request that has landed.
-const LANDED: u32 = 5;
+const LANDED: u32 = 6;
 
 const MOVES: &str = include_str!("../../vectors/moves.txt");
 const REQ_01: &str = include_str!("../../vectors/req01.txt");
@@ -17,6 +17,7 @@ const REQ_02: &str = include_str!("../../vectors/req02.txt");
 const REQ_03: &str = include_str!("../../vectors/req03.txt");
 const REQ_04: &str = include_str!("../../vectors/req04.txt");
 const REQ_05: &str = include_str!("../../vectors/req05.txt");
+const REQ_06: &str = include_str!("../../vectors/req06.txt");
 
 fn held(name: &str, text: &str) -> Report {
     let moved = vectors::moves(MOVES, name, LANDED).unwrap();
@@ -82,7 +83,7 @@ fn vectors_of_req_02() {
     with_stack(|| {
         let report = held("req02", REQ_02);
         assert_eq!((report.cases, report.moved), (281, 36));
-        assert_eq!(by_call(&report, ["check", "read", "sets", "write"]), [195, 17, 22, 47]);
+        assert_eq!(by_call(&report, ["check", "read", "sets", "write rename"]), [195, 17, 22, 47]);
     });
 }
 
@@ -109,4 +110,13 @@ fn vectors_of_req_05() {
     assert_eq!((report.cases, report.moved), (249, 0));
     assert_eq!(by_call(&report, ["check"]), [249]);
     assert!(vectors::refusals(REQ_05).contains(&22));
+}
+
+/// Nearly every job under both choices.
+#[test]
+fn vectors_of_req_06() {
+    let report = held("req06", REQ_06);
+    assert_eq!((report.cases, report.moved), (335, 0));
+    assert_eq!(by_call(&report, ["write keep", "write rename"]), [169, 166]);
+    assert_eq!(vectors::refusals(REQ_06), (1..=9).chain(15..=18).collect::<Vec<u32>>());
 }

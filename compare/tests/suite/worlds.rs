@@ -2,9 +2,9 @@
 
 use nezkaldo_compare::bundle::{MAX_SETS, to_bytes};
 use nezkaldo_compare::eval::{claim_holds, steps_hold};
-use nezkaldo_compare::expand::written;
+use nezkaldo_compare::expand::{Names, written};
 use nezkaldo_compare::generate::derive::Care;
-use nezkaldo_compare::generate::jobs::closed;
+use nezkaldo_compare::generate::jobs::{closed, named};
 use nezkaldo_compare::generate::{case, derivation, large};
 use nezkaldo_compare::naive;
 use nezkaldo_compare::rng::Rng;
@@ -58,13 +58,18 @@ fn large_derivations_are_accepted_and_hold() {
 
 #[test]
 fn written_expansions_hold() {
-    let mut written_files = 0;
-    for index in 0..2_000 {
-        let job = to_bytes(&closed(Rng::for_file(SEED, index)));
-        if let Ok(file) = written(&job) {
-            assert!(holds(&file, index).is_some(), "the expansion of job {index} is refused");
-            written_files += 1;
+    for make in [closed, named] {
+        for names in Names::ALL {
+            let mut written_files = 0;
+            for index in 0..1_000 {
+                let job = to_bytes(&make(Rng::for_file(SEED, index)));
+                if let Ok(file) = written(&job, names) {
+                    let held = holds(&file, index);
+                    assert!(held.is_some(), "the expansion of job {index} is refused, {names}");
+                    written_files += 1;
+                }
+            }
+            assert!(written_files > 500, "{written_files} files, {names}");
         }
     }
-    assert!(written_files > 1_000);
 }

@@ -6,13 +6,16 @@ use nezkaldo_compare::bundle::{
     LEFT, MAX_BYTES, MAX_SETS, MAX_WORDS, RIGHT, Section, counts_of, to_bytes,
 };
 use nezkaldo_compare::compare_writer::misfit;
-use nezkaldo_compare::expand::{expand, written};
+use nezkaldo_compare::expand::{Names, expand, written};
 use nezkaldo_compare::generate::builder::{Builder, FOR_ALL, ITEM, TRUTH};
 use nezkaldo_compare::generate::{examples, jobs, limits};
 use nezkaldo_compare::rng::Rng;
 
+/// The refusal of a job, the same under both choices of names.
 fn reason(words: &[u32]) -> Option<Reason> {
-    written(&to_bytes(words)).err().map(|refusal| {
+    let [kept, renamed] = Names::ALL.map(|names| written(&to_bytes(words), names).err());
+    assert_eq!(kept, renamed);
+    kept.map(|refusal| {
         assert!(refusal.record == 0 || refusal.reason < Reason::Context);
         refusal.reason
     })
@@ -65,11 +68,13 @@ fn short_areas_are_refused_and_cleared() {
         [MAX_BYTES, MAX_WORDS, MAX_SETS - 1],
         [0, 0, 0],
     ] {
-        let (mut out, mut words, mut sets) = (vec![7; out], vec![7; words], vec![7; sets]);
-        let refused = Err(Refusal::whole(Reason::Area));
-        assert_eq!(expand(&job, &mut out, &mut words, &mut sets), refused);
-        assert!(out.iter().all(|&byte| byte == 0));
-        assert!(words.iter().all(|&word| word == 0) && sets.iter().all(|&set| set == 0));
+        for names in Names::ALL {
+            let (mut out, mut words, mut sets) = (vec![7; out], vec![7; words], vec![7; sets]);
+            let refused = Err(Refusal::whole(Reason::Area));
+            assert_eq!(expand(&job, names, &mut out, &mut words, &mut sets), refused);
+            assert!(out.iter().all(|&byte| byte == 0));
+            assert!(words.iter().all(|&word| word == 0) && sets.iter().all(|&set| set == 0));
+        }
     }
 }
 
@@ -81,9 +86,11 @@ fn each_section_fits_to_its_limit() {
     ] {
         for seed in 0..8 {
             let fits = to_bytes(&job(Rng::new(seed), section.limit()));
-            let file = written(&fits).expect("the limit itself fits");
-            assert_eq!(counts_of(&file).unwrap()[section], section.limit());
-            assert_eq!(misfit(&[&exact], &fits, &file), None);
+            for names in Names::ALL {
+                let file = written(&fits, names).expect("the limit itself fits");
+                assert_eq!(counts_of(&file).unwrap()[section], section.limit());
+                assert_eq!(misfit(&[&exact], &fits, &file), None);
+            }
             assert_eq!(reason(&job(Rng::new(seed), section.limit() + 1)), Some(Reason::Full));
         }
     }
@@ -94,7 +101,7 @@ fn each_section_fits_to_its_limit() {
     }
 }
 
-/// What a small job that fills a section is written as, and one with a record
+/// What a small job that fills a section is written as, all renamed, and one with a record
 /// more.
 fn filled(section: Section) -> (Result<Vec<u8>, Refusal>, Result<Vec<u8>, Refusal>) {
     let mut b = Builder::new(Rng::new(1), 0);
@@ -106,12 +113,12 @@ fn filled(section: Section) -> (Result<Vec<u8>, Refusal>, Result<Vec<u8>, Refusa
     let body = b.apply(p, &[x_term, y_term]);
     let bound = b.bind_let(&[y], &[a_term], body);
     let rule = b.quantify(FOR_ALL, x, bound);
-    let small = written(&to_bytes(&b.words(rule, 0))).unwrap();
+    let small = written(&to_bytes(&b.words(rule, 0)), Names::RenameAll).unwrap();
     let grown = counts_of(&small).unwrap()[section] - b.count(section);
     limits::fill(&mut b, section, section.limit() - grown);
-    let exactly = written(&to_bytes(&b.words(rule, 0)));
+    let exactly = written(&to_bytes(&b.words(rule, 0)), Names::RenameAll);
     limits::fill(&mut b, section, section.limit() - grown + 1);
-    (exactly, written(&to_bytes(&b.words(rule, 0))))
+    (exactly, written(&to_bytes(&b.words(rule, 0)), Names::RenameAll))
 }
 
 /// Deep terms do not exhaust the stack.
@@ -122,6 +129,8 @@ fn deep_terms_are_written() {
     for _ in 0..1022 {
         rule = b.apply(3, &[rule]);
     }
-    let file = written(&to_bytes(&b.words(rule, 0))).unwrap();
-    assert_eq!(counts_of(&file).unwrap()[Section::Steps], 1023);
+    for names in Names::ALL {
+        let file = written(&to_bytes(&b.words(rule, 0)), names).unwrap();
+        assert_eq!(counts_of(&file).unwrap()[Section::Steps], 1023);
+    }
 }

@@ -1,14 +1,14 @@
 // What a visit opens and closes with, each against its definition without limits. `None` as soon as a section would pass its limit.
 #![tactic(auto)]
 
-ghost use Rattle.std.specs.Prelude.{◌≡◌, true, false, ℕ, List, ◌≤◌};
+ghost use Rattle.std.specs.Prelude.{◌≡◌, true, false, ℕ, List, [], ◌≤◌};
 ghost use Rattle.bundle.specs.Words.{largest_word};
 ghost use Rattle.bundle.specs.Bundle.{Bundle};
 ghost use Rattle.logic.specs.Named.{binder_in};
+ghost use Rattle.logic.specs.Contexts.{image};
 ghost use Rattle.logic.specs.Longer.{add_list, list_start};
 ghost use Rattle.scratch.specs.Stack.{halves_of};
-ghost use Rattle.expansion.specs.Nodes.{leaf};
-ghost use Rattle.expansion.specs.Visit.{visit, concluded, replacing, renaming, open_binder, close_application, close_binder};
+ghost use Rattle.expansion.specs.Visit.{concluded, image_term, replacing, name_of, renaming, open_binder, close_application, close_binder};
 ghost use Rattle.placing.specs.Outcomes.{VisitOutcome, VisitFits, OpenOutcome, BinderOutcome};
 
 use bundle::records::{ContextWords, StepWords};
@@ -18,7 +18,7 @@ use logic::kinds::{Binder, Entry};
 use logic::rules::Rule;
 use placing::{
     Opened, Visited, add_context, add_halves, add_step, add_value, place_application, place_binder,
-    place_fresh,
+    place_named,
 };
 use scratch::appends::Appends;
 
@@ -98,7 +98,9 @@ pub fn close_variable<S: Appends>(
     x: usize,
 ) -> Option<Visited>
     requires { (context ≤ largest_word) × (term ≤ largest_word) }
-    ensures { VisitOutcome (visit (leaf term x) context (S.bundle scratch.old)) (S.bundle scratch.new) result × VisitFits result }
+    ensures { VisitOutcome
+        (concluded (S.bundle scratch.old) 1 context term (image_term (image (S.bundle scratch.old) context x) term) []) (S.bundle scratch.new) result
+        × VisitFits result }
 {
     let right = match scratch.image(context, x) {
         Image::Own => term,
@@ -133,7 +135,7 @@ pub fn close_application(
     conclude(filed, Rule::Cong.number(), context, term, right, pairs)
 }
 
-// The contexts of a quantifier over x whose new variable is y, with the term t: y fixed, then x replaced by t.
+// The contexts of a quantifier over x whose result binds y, with the term t: y fixed, then x replaced by t.
 fn open_renaming<S: Appends>(
     scratch: &mut S,
     x: usize,
@@ -158,13 +160,25 @@ fn open_renaming<S: Appends>(
     open_replacing(scratch, variables, context, terms)
 }
 
-// The new variable, its term and the contexts of a quantifier over x. Its result binds the new variable.
-pub fn open_quantifier(filed: &mut Filed<'_>, x: usize, parent: usize) -> Option<Opened>
-    requires { (x ≤ largest_word) × (parent ≤ largest_word) }
-    ensures { BinderOutcome (open_binder filed.old x parent) filed.new result }
+// The variable of the result of a quantifier over x: x itself where it is kept, and else one more than all there are. A word.
+fn name_of(filed: &Filed<'_>, kept: bool, x: usize) -> usize
+    requires { x ≤ largest_word }
+    ensures { (result ≡ name_of kept filed.now x) × (result ≤ largest_word) }
 {
-    let variable = filed.scratch().variables() + 1;
-    let term = place_fresh(filed, x)?;
+    if kept {
+        x
+    } else {
+        filed.scratch().variables() + 1
+    }
+}
+
+// The variable of a quantifier's result, that one's term and the contexts.
+pub fn open_quantifier(filed: &mut Filed<'_>, kept: bool, x: usize, parent: usize) -> Option<Opened>
+    requires { (x ≤ largest_word) × (parent ≤ largest_word) }
+    ensures { BinderOutcome (open_binder kept filed.old x parent) filed.new result }
+{
+    let variable = name_of(filed, kept, x);
+    let term = place_named(filed, kept, x)?;
     let context = open_renaming(filed, x, variable, term, parent)?;
     Some(Opened { context, variable })
 }

@@ -44,14 +44,14 @@ bytes_exactly f = (there f, back f)
     back (x ∷ xs) h = (h 0, back xs (λ i. h (suc i)))
 
 pub refused_job_exactly : RefusedJobExactly
-refused_job_exactly f out words sets n i =
-    let finds = job_checks_find f out words sets in (
-      λ e. let r = (refused_job_where f out words sets n i).0 e in fails_first (all_job_checks f out words sets) n i r.0 (finds.first ∙ r.1),
-      λ h. (refused_job_where f out words sets n i).1 (failing_number finds h, sym finds.first ∙ first_fails (all_job_checks f out words sets) n i h),
+refused_job_exactly names f out words sets n i =
+    let finds = job_checks_find names f out words sets in (
+      λ e. let r = (refused_job_where names f out words sets n i).0 e in fails_first (all_job_checks names f out words sets) n i r.0 (finds.first ∙ r.1),
+      λ h. (refused_job_where names f out words sets n i).1 (failing_number finds h, sym finds.first ∙ first_fails (all_job_checks names f out words sets) n i h),
     )
 
 pub written_exactly : WrittenExactly
-written_exactly f out words sets = Iff.trans (written_where f out words sets) (job_exactly f out words sets)
+written_exactly names f out words sets = Iff.trans (written_where names f out words sets) (job_exactly names f out words sets)
 
 pub areas_left : AreasLeft
 areas_left = zeros_left
@@ -98,12 +98,12 @@ job_version formed = formed.header.version
 
 pub expansion_right : ExpansionRight
 unfolding expanded
-expansion_right f out words sets bytes formed closed fits long =
+expansion_right names f out words sets bytes formed closed fits long =
     let b : Bundle = bundle_of f in
-    let passes = (job_exactly f out words sets).1 (formed, closed, fits, long) in (
-      length (file_of (expanded b)),
-      job_answer f out words sets passes,
-      rw (job_file f out words sets passes)
-          (written_well f (expanded b) fits (expanded_small b (file_small f bytes) fits)
-          (derived b formed.tables formed.contexts formed.steps formed.left closed) (job_version formed)),
+    let passes = (job_exactly names f out words sets).1 (formed, closed, fits, long) in (
+      length (file_of (expanded names b)),
+      job_answer names f out words sets passes,
+      rw (job_file names f out words sets passes)
+          (written_well f (expanded names b) fits (expanded_small names b (file_small f bytes) fits)
+          (derived names b formed.tables formed.contexts formed.steps formed.left closed) (job_version formed)),
     )

@@ -1,7 +1,7 @@
--- THE WRITER'S THEOREM, on bundles: the expansion of a closed rule of a well-formed job is a derivation of what it claims.
+-- THE WRITER'S THEOREM, on bundles, under either choice of names: the expansion of a closed rule of a well-formed job is a derivation of what it claims.
 --     Derived, derived       THE THEOREM
 use mathlib.Core.Path.{◌≡◌, refl, sym, ap, ◌∙◌, subst}
-use Prim.Native.Nat.{ℕ}
+use Prim.Native.Nat.{ℕ, suc}
 use mathlib.Core.Bool.{false}
 use mathlib.Core.List.{[]}
 use native.Mathlib.Omega.{arith}
@@ -17,6 +17,8 @@ use Rattle.logic.specs.Longer.{Longer}
 use Rattle.logic.proofs.Images.{image_empty}
 use Rattle.logic.proofs.Kept.{tree_kept}
 use Rattle.judgement.specs.Demands.{LastIsClaim}
+use Rattle.expansion.specs.declared.Names.{Names}
+use Rattle.expansion.specs.Names.{keeps}
 use Rattle.expansion.specs.Nodes.{Node, node_at}
 use Rattle.expansion.specs.Visit.{Visit, visit, visited, expanded, claiming}
 use Rattle.expansion.proofs.Grown.{claiming_longer, expanded_longer}
@@ -24,6 +26,7 @@ use Rattle.expansion.proofs.AppendedChecked.{Checked, claiming_checked}
 use Rattle.expansion.proofs.Substitution.{Substitutes, own_gives}
 use Rattle.expansion.proofs.Conclusions.{Done, done_kept, Visited}
 use Rattle.expansion.proofs.Standing.{standing}
+use Rattle.expansion.proofs.Falling.{falls_at}
 use Rattle.expansion.proofs.Induction.{visit_visited}
 
 -- B is b with a derivation of B's claim appended
@@ -41,16 +44,16 @@ pub record Derived (b B : Bundle) : Type 0 where
   pub closed : Closed (tree B B.left) × Closed (tree B B.right)
 
 -- a job: its tables are well formed, it has no contexts and no steps, and its left is a closed term
-module _ (b : Bundle) (tables : TablesFormed b) (contexts : b.contexts ≡ []) (steps : b.steps ≡ []) (left : Number (length b.terms) b.left)
+module _ (names : Names) (b : Bundle) (tables : TablesFormed b) (contexts : b.contexts ≡ []) (steps : b.steps ≡ []) (left : Number (length b.terms) b.left)
     (closed : Closed (tree b b.left)) where
   -- where the visit starts: nothing to be checked, and no variable replaced
-  start_checked : Checked b
+  pub start_checked : Checked b
   start_checked = record {
     formed = record { tables = tables; contexts = λ i n. absurd (omega (arith, ap length contexts, n.0, n.1)) };
     steps = λ k n. absurd (omega (arith, ap length steps, n.0, n.1));
   }
 
-  start_substitutes : Substitutes (length b.variables) (λ x. ⊥) b 0
+  pub start_substitutes : Substitutes (length b.variables) (λ x. ⊥) b 0
   start_substitutes = record {
     here = omega arith;
     job = omega arith;
@@ -59,15 +62,16 @@ module _ (b : Bundle) (tables : TablesFormed b) (contexts : b.contexts ≡ []) (
     stays = λ x l. image_empty b x;
   }
 
-  rule_visited : Visited (λ x. ⊥) 0 b.left (visited b)
+  pub rule_visited : Visited (λ x. ⊥) 0 b.left (visited names b)
   unfolding visited
   rule_visited =
       let (is, stands) = standing b tables b.left left in
       let τ : Node = node_at b b.left in
-      subst (λ (t : ℕ). Visited (λ x. ⊥) 0 t (visit τ 0 b)) is
-      (visit_visited τ b 0 start_checked start_substitutes (λ x n. absurd n) stands (λ x f. absurd (closed x (rw is at f))))
+      subst (λ (t : ℕ). Visited (λ x. ⊥) 0 t (visit (keeps names b) τ 0 b)) is
+      (visit_visited names b τ (suc b.left) b 0 start_checked start_substitutes stands (λ x f. absurd (closed x (rw is at f)))
+      (falls_at b tables b.left left) (λ x n. absurd n))
 
-  pub derived : Derived b (expanded b)
+  pub derived : Derived b (expanded names b)
   unfolding expanded visited
   derived = record {
     formed = all.formed;
@@ -78,15 +82,15 @@ module _ (b : Bundle) (tables : TablesFormed b) (contexts : b.contexts ≡ []) (
       left = ap (λ (k : ℕ). (step_of B k).left) (sym rule_visited.last) ∙ done.left;
       right = ap (λ (k : ℕ). (step_of B k).right) (sym rule_visited.last) ∙ done.right;
     };
-    longer = expanded_longer b;
+    longer = expanded_longer names b;
     left = refl;
     right = done.result.is_term;
     plain = done.result.plain;
-    closed = (λ x f. closed x (rw (tree_kept (expanded_longer b) tables b.left left.1) at f), done.result.new);
+    closed = (λ x f. closed x (rw (tree_kept (expanded_longer names b) tables b.left left.1) at f), done.result.new);
   }
     where
       v : Visit
-      v = visited b
+      v = visited names b
 
       B : Bundle
       B = claiming v.bundle b.left v.result

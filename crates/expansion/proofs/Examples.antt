@@ -41,7 +41,8 @@ twelve_right =
     and (refl, refl)
     -- 10
     and (refl, refl)
-    -- 11, and its file checked
+    -- 11 under both choices, and its file checked
+    and (refl, refl, refl, refl)
     and (refl, refl, refl, refl)
     and (refl, refl)
     -- 12, to y and to x

@@ -1,10 +1,11 @@
 -- A visit only appends, whatever it is given.
 --     placed_longer, variable_longer, application_longer, binder_longer, let_longer    placed terms
---     concluded_longer, replacing_longer, fixing_longer, fresh_longer, open_longer     openers and closers
+--     concluded_longer, replacing_longer, fixing_longer, fresh_longer, named_longer, open_longer     openers and closers
 --     listed_longer, fixed_longer, renaming_longer                                     the contexts of a quantifier
 --     visit_longer, visit_all_longer                                                    the visits
 --     claiming, claiming_longer, expanded_longer                                       the bundle that is written
 use Prim.Native.Nat.{ℕ, zero, suc}
+use mathlib.Core.Bool.{Bool, true, false}
 use mathlib.Core.List.{List, [], ◌∷◌, ◌++◌}
 use Rattle.bundle.specs.Bundle.{Bundle, TermRecord, sort_of_variable}
 use Rattle.logic.specs.Terms.{Binder}
@@ -13,9 +14,12 @@ use Rattle.logic.specs.Longer.{Longer, with_variables, add_list, list_start}
 use Rattle.logic.proofs.Longer.{longer_refl, longer_trans, list_longer, terms_longer, variables_longer, contexts_longer, steps_longer}
 use Rattle.expansion.specs.Nodes.{Node, Nodes, leaf, node, scope, block, nil, cons, node_at}
 use Rattle.logic.specs.Lookup.{seek, same_variable, same_application, same_binder, same_let}
+use Rattle.expansion.specs.declared.Names.{Names}
+use Rattle.expansion.specs.Names.{keeps}
 use Rattle.expansion.specs.Placed.{placed, place_variable, place_application, place_binder, place_let}
 use Rattle.expansion.specs.Visit.{Visit, Visits, concluded, OpenedContext, replacing, fixing}
-use Rattle.expansion.specs.Visit.{image_term, new_variable, fresh, renaming, OpenedBinder, open_binder, visit, visit_all, visited, expanded, claiming}
+use Rattle.expansion.specs.Visit.{image_term, new_variable, fresh, name_of, named, renaming, OpenedBinder, open_binder, visit, visit_all}
+use Rattle.expansion.specs.Visit.{visited, expanded, claiming}
 
 -- b' is b with lists appended
 pub placed_longer : (b b' : Bundle) (r : TermRecord) (n : ℕ) → Longer b b' → Longer b (placed b b' r n).bundle
@@ -65,35 +69,41 @@ fixed_longer b x y t c = longer_trans (list_longer (fixing b y c).bundle (x ∷ 
 pub renaming_longer : (b : Bundle) (x y t c : ℕ) → Longer b (renaming b x y t c).bundle
 renaming_longer b x y t c = longer_trans (fixing_longer b y c) (fixed_longer b x y t c)
 
-pub open_longer : (b : Bundle) (x c : ℕ) → Longer b (open_binder b x c).bundle
-open_longer b x c = longer_trans (fresh_longer b x) (renaming_longer (fresh b x).bundle x (new_variable b) (fresh b x).term c)
+named_longer : (kept : Bool) (b : Bundle) (x : ℕ) → Longer b (named kept b x).bundle
+named_longer true b x = variable_longer b x
+named_longer false b x = fresh_longer b x
 
-mutual
-  unfolding visit
+pub open_longer : (kept : Bool) (b : Bundle) (x c : ℕ) → Longer b (open_binder kept b x c).bundle
+open_longer kept b x c =
+    longer_trans (named_longer kept b x) (renaming_longer (named kept b x).bundle x (name_of kept b x) (named kept b x).term c)
 
-  pub visit_longer : (τ : Node) (c : ℕ) (b : Bundle) → Longer b (visit τ c b).bundle
-  visit_longer (leaf t x) c b = concluded_longer b 1 c t (image_term (image b c x) t) []
-  visit_longer (node t f ns) c b =
-      let v : Visits = visit_all ns c b in
-      longer_trans (visit_all_longer ns c b)
-      (longer_trans (application_longer v.bundle f v.results) (concluded_longer _ 2 c t _ v.steps))
-  visit_longer (scope t q x u) c b =
-      let o : OpenedBinder = open_binder b x c in
-      let v : Visit = visit u o.context o.bundle in
-      longer_trans (open_longer b x c)
-      (longer_trans (visit_longer u o.context o.bundle)
-      (longer_trans (binder_longer v.bundle q o.variable v.result) (concluded_longer _ 4 c t _ (v.step ∷ []))))
-  visit_longer (block t s vs ns u) c b =
-      let v : Visits = visit_all ns c b in
-      let o : OpenedContext = replacing v.bundle s c v.results in
-      let w : Visit = visit u o.context o.bundle in
-      longer_trans (visit_all_longer ns c b)
-      (longer_trans (replacing_longer v.bundle s c v.results)
-      (longer_trans (visit_longer u o.context o.bundle) (concluded_longer w.bundle 5 c t w.result (v.steps ++ (w.step ∷ [])))))
+module _ (k : ℕ → Bool) where
+  mutual
+    unfolding visit
 
-  pub visit_all_longer : (ns : Nodes) (c : ℕ) (b : Bundle) → Longer b (visit_all ns c b).bundle
-  visit_all_longer nil c b = longer_refl b
-  visit_all_longer (cons τ ns) c b = longer_trans (visit_longer τ c b) (visit_all_longer ns _ (visit τ c b).bundle)
+    pub visit_longer : (τ : Node) (c : ℕ) (b : Bundle) → Longer b (visit k τ c b).bundle
+    visit_longer (leaf t x) c b = concluded_longer b 1 c t (image_term (image b c x) t) []
+    visit_longer (node t f ns) c b =
+        let v : Visits = visit_all k ns c b in
+        longer_trans (visit_all_longer ns c b)
+        (longer_trans (application_longer v.bundle f v.results) (concluded_longer _ 2 c t _ v.steps))
+    visit_longer (scope t q x u) c b =
+        let o : OpenedBinder = open_binder (k x) b x c in
+        let v : Visit = visit k u o.context o.bundle in
+        longer_trans (open_longer (k x) b x c)
+        (longer_trans (visit_longer u o.context o.bundle)
+        (longer_trans (binder_longer v.bundle q o.variable v.result) (concluded_longer _ 4 c t _ (v.step ∷ []))))
+    visit_longer (block t s vs ns u) c b =
+        let v : Visits = visit_all k ns c b in
+        let o : OpenedContext = replacing v.bundle s c v.results in
+        let w : Visit = visit k u o.context o.bundle in
+        longer_trans (visit_all_longer ns c b)
+        (longer_trans (replacing_longer v.bundle s c v.results)
+        (longer_trans (visit_longer u o.context o.bundle) (concluded_longer w.bundle 5 c t w.result (v.steps ++ (w.step ∷ [])))))
+
+    pub visit_all_longer : (ns : Nodes) (c : ℕ) (b : Bundle) → Longer b (visit_all k ns c b).bundle
+    visit_all_longer nil c b = longer_refl b
+    visit_all_longer (cons τ ns) c b = longer_trans (visit_longer τ c b) (visit_all_longer ns _ (visit k τ c b).bundle)
 
 -- ---- the bundle that is written
 
@@ -111,8 +121,8 @@ claiming_longer b l r =
       steps = same.steps;
     }
 
-pub expanded_longer : (b : Bundle) → Longer b (expanded b)
+pub expanded_longer : (names : Names) (b : Bundle) → Longer b (expanded names b)
 unfolding expanded visited
-expanded_longer b =
-    let v : Visit = visit (node_at b b.left) 0 b in
-    longer_trans (visit_longer (node_at b b.left) 0 b) (claiming_longer v.bundle b.left v.result)
+expanded_longer names b =
+    let v : Visit = visit (keeps names b) (node_at b b.left) 0 b in
+    longer_trans (visit_longer (keeps names b) (node_at b b.left) 0 b) (claiming_longer v.bundle b.left v.result)

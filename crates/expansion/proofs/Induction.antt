@@ -1,23 +1,25 @@
 -- THE INDUCTION: each visit leaves a checked bundle, a result and a step that carries the visited term to it.
---     Open, not_open                       what may be free in a result is new, hence no variable of the job
 --     Covers, CoverAll                     every free variable of a tree, or of a list of trees, has an image in the context
 --     left_scope, open_scope               so a term that is covered is in scope, and what may be free in a result is mentioned
 --     refl_instance, leaf_visited          a variable
 --     cong_instance, node_visited          an application
---     binder_opens, binder_covers, bind_instance, binder_visited     a quantifier: its new variable and contexts, its step
+--     NamedAs, new_named, kept_named       the variable of a quantifier's result: a new one, or its own
+--     binder_opens, binder_covers, bind_instance, binder_visited     a quantifier: its contexts, its step
 --     block_opens, block_covers, let_instance, block_visited         a let
+--     Open, not_open, not_in_let            what may be free in a result: new variables, and kept ones whose binder is being visited
 --     visit_visited, visit_all_visited      THE LAW
 use mathlib.Core.Path.{◌≡◌, refl, sym, ap, ◌∙◌, subst}
 use Prim.Native.Nat.{ℕ, suc, ◌≤◌, ◌<◌}
-use mathlib.Core.Bool.{Bool, false, cond}
+use mathlib.Core.Bool.{Bool, true, false, cond}
 use mathlib.Core.Logic.{◌⊎◌, inl, inr}
 use mathlib.Core.List.{List, [], ◌∷◌, ◌++◌}
 use native.Mathlib.Omega.{arith}
 use lib.ListN.{length, length-append}
 use lib.Dec.{eqb}
-use borrow.Author.Tests.{eq-eqb, ne_eqb}
+use borrow.Author.Tests.{eqb-true, eqb-false, eq-eqb, ne_eqb}
 use Rattle.std.proofs.lemmas.Bool.{or_from}
 use Rattle.bundle.specs.Bundle.{Bundle, sort_of_variable}
+use Rattle.logic.specs.declared.Mention.TheVariants.{Replaced, Absent}
 use Rattle.logic.specs.declared.Image.{Image}
 use Rattle.logic.specs.declared.Image.TheVariants.{Own, Gives}
 use Rattle.logic.specs.Lists.{Among, All, Number}
@@ -30,7 +32,6 @@ use Rattle.logic.specs.Rules.{REFL, rule_of}
 use Rattle.logic.specs.WellFormed.{ListsFormed, WellFormed}
 use Rattle.logic.specs.Instance.{ReflForm, Instance, by_refl, by_cong, by_bind, by_let, Replaces}
 use Rattle.logic.specs.Longer.{Longer, with_variables, add_list, list_start}
-use Rattle.logic.proofs.FreeSettled.{free_number}
 use Rattle.logic.proofs.ReflStep.{refl_forms}
 use Rattle.logic.proofs.Found.{given_mentioned}
 use Rattle.logic.proofs.Pairs.{refl_rule}
@@ -38,28 +39,24 @@ use Rattle.logic.proofs.Longer.{longer_refl, longer_trans, sizes, variable_added
 use Rattle.logic.proofs.Kept.{variable_kept, tree_kept, image_kept}
 use Rattle.logic.proofs.FormedKept.{image_tree_kept}
 use Rattle.expansion.specs.Nodes.{Node, Nodes, leaf, node, scope, block, nil, cons, number}
-use Rattle.expansion.specs.Placed.{PlacedTerm, place_application, place_binder}
+use Rattle.expansion.specs.Placed.{PlacedTerm, place_variable, place_application, place_binder}
+use Rattle.expansion.specs.declared.Names.{Names}
+use Rattle.expansion.specs.Names.{keeps, BindsAt, ListsAt}
 use Rattle.expansion.specs.Visit.{Visit, Visits, concluded, OpenedContext, replacing, fixing, image_term}
-use Rattle.expansion.specs.Visit.{close_application, new_variable, fresh, renaming, open_binder, close_binder, visit, visit_all}
+use Rattle.expansion.specs.Visit.{close_application, new_variable, fresh, name_of, named, renaming, open_binder, close_binder, visit, visit_all}
+use Rattle.expansion.proofs.KeptNames.{kept_bound}
 use Rattle.expansion.proofs.Grown.{variable_longer, application_longer, binder_longer, fresh_longer, fixing_longer, replacing_longer, open_longer}
 use Rattle.expansion.proofs.Grown.{visit_longer, visit_all_longer}
 use Rattle.expansion.proofs.AppendedChecked.{Checked, list_checked, list_start_lem, variable_checked}
 use Rattle.expansion.proofs.Placement.{all_map, all_snoc, gather_kept, PlacedAs, variable_placed, application_placed, binder_placed}
 use Rattle.expansion.proofs.Mentioned.{mentioned_kept, scope_kept, FixedIn}
-use Rattle.expansion.proofs.Substitution.{Result, Substitutes, replaced_old, substitutes_kept, new_not_free, new_not_in_image, not_listed, not_new}
+use Rattle.expansion.proofs.Substitution.{Result, Substitutes, replaced_old, substitutes_kept, new_not_free, ByItself, not_listed}
 use Rattle.expansion.proofs.Substitution.{lookup_covers, fixing_says, replacing_says, Opens, fixing_opens, replacing_opens}
 use Rattle.expansion.proofs.Conclusions.{done_says, done_kept, done_none, done_more, done_all_kept, done_results, done_sorts, done_steps, say_all}
 use Rattle.expansion.proofs.Conclusions.{Visited, VisitedAll, conclude}
 use Rattle.expansion.proofs.Standing.{numbers_of, StandsAs, Stands, Stand, stands_term, stand_terms, stands_kept, stand_kept, application_sorts}
 use Rattle.expansion.proofs.Standing.{binder_sorts, let_lists}
-
--- what may be free in a result: the variables of the binders that the visit has opened and not closed, all of them new
-abbrev pub Open : ℕ → (ℕ → Type 0) → Type 0
-Open V₀ N = (x : ℕ) → N x → V₀ < x
-
--- so no variable that the job binds, be it in a list or not
-not_open : {V₀ : ℕ} {N : ℕ → Type 0} → Open V₀ N → (vs : List ℕ) → All (Number V₀) vs → (x : ℕ) → N x → Among x vs → ⊥
-not_open {V₀} new vs nv x n = not_new V₀ x vs nv (new x n)
+use Rattle.expansion.proofs.Falling.{Falls, FallAll}
 
 -- every free variable of a tree is given an image
 abbrev pub Covers : Bundle → ℕ → Term → Type 0
@@ -69,7 +66,7 @@ abbrev pub CoverAll : Bundle → ℕ → Terms → Type 0
 CoverAll b c τs = (x : ℕ) → Frees x τs → (r : ℕ) × (image b c x ≡ Gives r)
 
 -- what has an image keeps it
-image_stays : {b b' : Bundle} → Longer b b' → WellFormed b → (c : ℕ) → c ≤ length b.contexts → (x : ℕ) {i : Image} → image b c x ≡ i → image b' c x ≡ i
+pub image_stays : {b b' : Bundle} → Longer b b' → WellFormed b → (c : ℕ) → c ≤ length b.contexts → (x : ℕ) {i : Image} → image b c x ≡ i → image b' c x ≡ i
 image_stays longer well c h x e = ap (λ (f : ℕ → Image). f x) (image_kept longer well c h) ∙ e
 
 -- ---- in scope, in every longer bundle
@@ -149,7 +146,7 @@ module _ {V₀ : ℕ} {N : ℕ → Type 0} (b : Bundle) (c t f : ℕ) (ns : Node
   result_terms : All (Number (length v.bundle.terms)) v.results
   result_terms = all_map (λ r h. h.is_term) v.results results
 
-  applied_as : PlacedAs (app f (gather (tree v.bundle) v.results)) applied
+  pub applied_as : PlacedAs (app f (gather (tree v.bundle) v.results)) applied
   applied_as =
       let (known, sorts) = application_sorts v.bundle ih.checked.formed.tables t f (numbers_of ns) (application_there v.bundle longer) in
       application_placed v.bundle f v.results ih.checked known result_terms (sorts ∙ sym (done_sorts ih.done))
@@ -179,23 +176,73 @@ module _ {V₀ : ℕ} {N : ℕ → Type 0} (b : Bundle) (c t f : ℕ) (ns : Node
       (all_map (λ k n. (n.0, omega (arith, n.1, (sizes to_applied).steps))) v.steps (done_steps ih.done))
       cong_instance (λ B later well. not_refl 2 (λ e. omega arith))
 
--- ---- a quantifier: its new variable, its contexts
+-- ---- a quantifier: the variable of its result
+
+-- A quantifier over x has y for its result's variable, and p is the term of y: y is of x's sort, no other variable that has an image, not free in the
+-- quantifier, and in no image.
+pub record NamedAs (b : Bundle) (c x y : ℕ) (p : PlacedTerm) : Type 0 where
+  pub longer : Longer b p.bundle
+  pub placed : PlacedAs (var y) p
+  pub is_variable : Number (length p.bundle.variables) y
+  pub sorts : sort_of_variable p.bundle x ≡ sort_of_variable p.bundle y
+  pub other : (z r : ℕ) → (z ≡ x → ⊥) → image b c z ≡ Gives r → y ≡ z → ⊥
+  pub not_free : (t : ℕ) (q : Binder) (τ : Term) → tree b t ≡ bind q x τ → Free y (tree b t) → ⊥
+  pub not_in_image : (z r : ℕ) → image b c z ≡ Gives r → Free y (tree b r) → ⊥
+
+module _ {V₀ : ℕ} {N : ℕ → Type 0} (b : Bundle) (c x : ℕ) (old : Checked b) (s : Substitutes V₀ N b c) (nx : Number V₀ x) where
+  -- a new one
+  new_named : NamedAs b c x (new_variable b) (fresh b x)
+  new_named = record {
+    longer = fresh_longer b x;
+    placed = placed;
+    is_variable = (y_number.0, omega (arith, y_number.1, (sizes to_term).variables));
+    sorts = variable_kept (fresh_longer b x) x (omega (arith, nx.1, s.job)) ∙ sym (variable_added b (sort_of_variable b x) to_term);
+    other = λ z r ne e is. omega (arith, replaced_old s z r e, s.job);
+    not_free = λ t q τ e f. new_not_free b old.formed.tables t f;
+    not_in_image = λ z r e f. new_not_free b old.formed.tables r f;
+  }
+    where
+      with_new : Bundle
+      with_new = with_variables b (sort_of_variable b x ∷ [])
+
+      y_number : Number (length with_new.variables) (new_variable b)
+      y_number = (omega arith, omega (arith, length-append b.variables (sort_of_variable b x ∷ [])))
+
+      placed : PlacedAs (var (new_variable b)) (fresh b x)
+      placed =
+          variable_placed with_new (new_variable b)
+          (variable_checked b (sort_of_variable b x) old (old.formed.tables.variables x (nx.0, omega (arith, nx.1, s.job)))) y_number
+
+      to_term : Longer with_new (fresh b x).bundle
+      to_term = variable_longer with_new (new_variable b)
+
+  -- its own, which is free in no result
+  kept_named : (N x → ⊥) → NamedAs b c x x (place_variable b x)
+  kept_named out = record {
+    longer = variable_longer b x;
+    placed = variable_placed b x old here;
+    is_variable = (nx.0, omega (arith, here.1, (sizes (variable_longer b x)).variables));
+    sorts = refl;
+    other = λ z r ne e is. ne (sym is);
+    not_free = λ t q τ e f. (rw e at f).0 refl;
+    not_in_image = λ z r e f. out ((s.gives z r e).0.new x f);
+  }
+    where
+      here : Number (length b.variables) x
+      here = (nx.0, omega (arith, nx.1, s.job))
+
+-- ---- a quantifier: its contexts
 
 -- what N allows, and y
-abbrev And : (ℕ → Type 0) → ℕ → ℕ → Type 0
+abbrev pub And : (ℕ → Type 0) → ℕ → ℕ → Type 0
 And N y x = N x ⊎ (x ≡ y)
 
--- x is bound, and y is the new variable
-module _ {V₀ : ℕ} {N : ℕ → Type 0} (b : Bundle) (c x : ℕ) (old : Checked b) (s : Substitutes V₀ N b c) (new : Open V₀ N) (nx : Number V₀ x) where
-  abbrev y : ℕ
-  y = new_variable b
-
-  -- the bundles on the way: with the new variable, with its term, with y fixed, with the list of x
-  abbrev with_new : Bundle
-  with_new = with_variables b (sort_of_variable b x ∷ [])
-
+-- x is bound, y is the variable of the result, p its term; x is free in no result
+module _ {V₀ : ℕ} {N : ℕ → Type 0} (b : Bundle) (c x y : ℕ) (p : PlacedTerm) (old : Checked b) (s : Substitutes V₀ N b c) (nx : Number V₀ x)
+    (name : NamedAs b c x y p) (out : N x → ⊥) where
+  -- the bundles on the way: with the term of y, with y fixed, with the list of x
   abbrev with_term : Bundle
-  with_term = (fresh b x).bundle
+  with_term = p.bundle
 
   abbrev with_fixed : Bundle
   with_fixed = (fixing with_term y c).bundle
@@ -206,20 +253,12 @@ module _ {V₀ : ℕ} {N : ℕ → Type 0} (b : Bundle) (c x : ℕ) (old : Check
   abbrev fixed : ℕ
   fixed = suc (length with_term.contexts)
 
-  y_number : Number (length with_new.variables) y
-  y_number = (omega arith, omega (arith, length-append b.variables (sort_of_variable b x ∷ [])))
-
-  term_placed : PlacedAs (var y) (fresh b x)
-  term_placed =
-      variable_placed with_new y (variable_checked b (sort_of_variable b x) old (old.formed.tables.variables x (nx.0, omega (arith, nx.1, s.job)))) y_number
-
-  to_term : Longer with_new with_term
-  to_term = variable_longer with_new y
+  abbrev opening : OpenedContext
+  opening = renaming with_term x y p.term c
 
   fixed_opens : Opens V₀ N (fixing with_term y c) (λ z. cond (eqb y z) Own (image with_term c z))
   fixed_opens =
-      fixing_opens with_term c term_placed.checked (substitutes_kept s (fresh_longer b x) old.formed (λ z n. n) s.itself) y
-      (y_number.0, omega (arith, y_number.1, (sizes to_term).variables))
+      fixing_opens with_term c name.placed.checked (substitutes_kept s name.longer old.formed (λ z n. n) s.itself) y name.is_variable
 
   list_ok : Checked with_list
   list_ok = list_checked with_fixed (x ∷ []) fixed_opens.checked
@@ -228,10 +267,6 @@ module _ {V₀ : ℕ} {N : ℕ → Type 0} (b : Bundle) (c x : ℕ) (old : Check
   from_term = longer_trans (fixing_longer with_term y c) (list_longer with_fixed (x ∷ []))
 
   -- in the body y may be free too: it is fixed
-  binder_open : Open V₀ (And N y)
-  binder_open z (inl n) = new z n
-  binder_open z (inr e) = omega (arith, s.job)
-
   list_substitutes : Substitutes V₀ (And N y) with_list fixed
   unfolding image_tree tree_of_image
   list_substitutes =
@@ -247,60 +282,99 @@ module _ {V₀ : ℕ} {N : ℕ → Type 0} (b : Bundle) (c x : ℕ) (old : Check
                 (fixed_opens.images z ∙ ap (λ (p : Bool). cond p Own (image with_term c z)) (eq-eqb y z (sym e)));
           }
 
-  -- the new variable's term
-  y_tree : {B : Bundle} → Longer with_term B → tree B (fresh b x).term ≡ var y
-  y_tree later = tree_kept later term_placed.checked.formed.tables (fresh b x).term term_placed.is_term.1 ∙ term_placed.stands
+  -- the term of y
+  y_tree : {B : Bundle} → Longer with_term B → tree B p.term ≡ var y
+  y_tree later = tree_kept later name.placed.checked.formed.tables p.term name.placed.is_term.1 ∙ name.placed.stands
 
-  y_result : Result (And N y) with_list (fresh b x).term
+  y_result : Result (And N y) with_list p.term
   unfolding holds_let
   y_result = record {
-    is_term = (term_placed.is_term.0, omega (arith, term_placed.is_term.1, (sizes from_term).terms));
+    is_term = (name.placed.is_term.0, omega (arith, name.placed.is_term.1, (sizes from_term).terms));
     plain = ap holds_let (y_tree from_term);
     new = rw (y_tree from_term) (λ z e. inr e);
   }
 
-  y_lists : ListsFormed with_list (x ∷ []) ((fresh b x).term ∷ [])
+  y_lists : ListsFormed with_list (x ∷ []) (p.term ∷ [])
   unfolding sort
   y_lists = record {
     some = λ e. let z : ◌≡◌ {A = ℕ} 0 1 = cc in omega arith;
     different = (λ m. m, tt);
     sorts =
         ap (λ (n : ℕ). n ∷ [])
-        (variable_kept (longer_trans (fresh_longer b x) from_term) x (omega (arith, nx.1, s.job))
-        ∙ sym (variable_added b (sort_of_variable b x) (longer_trans to_term from_term))
+        (variable_kept from_term x (omega (arith, nx.1, s.job, (sizes name.longer).variables))
+        ∙ name.sorts
+        ∙ sym (variable_kept from_term y name.is_variable.1)
         ∙ sym (ap (sort with_list) (y_tree from_term)));
   }
 
-  binder_opens : Opens V₀ (And N y) (renaming with_term x y (fresh b x).term c) (λ z. first (lookup (x ∷ []) ((fresh b x).term ∷ []) z) (image with_list fixed z))
-  binder_opens =
-      replacing_opens with_list fixed list_ok list_substitutes (list_start with_fixed (x ∷ [])) (x ∷ []) ((fresh b x).term ∷ [])
-      (list_start_lem with_fixed (x ∷ []) (longer_refl with_list)) (list_added with_fixed (x ∷ []) (longer_refl with_list)) (nx, tt) y_lists (y_result, tt)
-      (λ z n. not_listed with_list z (x ∷ []) ((fresh b x).term ∷ []) (not_open binder_open (x ∷ []) (nx, tt) z n))
+  -- x is replaced by y; so what may be free in a result is replaced by itself, if at all
+  y_itself : (z : ℕ) → And N y z → ByItself with_list (x ∷ []) (p.term ∷ []) z
+  unfolding lookup
+  y_itself z n r = go (eqb x z) refl
+    where
+      is_y : x ≡ z → And N y z → z ≡ y
+      is_y e (inl k) = absurd (out (subst N (sym e) k))
+      is_y e (inr k) = k
 
-  opened : Longer with_list (open_binder b x c).bundle
-  opened = replacing_longer with_list (list_start with_fixed (x ∷ [])) fixed ((fresh b x).term ∷ [])
+      go : (h : Bool) → eqb x z ≡ h → cond h (Replaced p.term) Absent ≡ Replaced r → (r ≤ length with_list.terms) × (tree with_list r ≡ var z)
+      go true k e =
+          let is : p.term ≡ r = cc in
+          subst (λ (t : ℕ). (t ≤ length with_list.terms) × (tree with_list t ≡ var z)) is
+          (y_result.is_term.1, y_tree from_term ∙ ap var (sym (is_y (eqb-true x z k) n)))
+      go false k e = absurd (let w : ◌≡◌ {A = ℕ} 0 1 = cc in omega arith)
+
+  pub binder_opens : Opens V₀ (And N y) opening (λ z. first (lookup (x ∷ []) (p.term ∷ []) z) (image with_list fixed z))
+  binder_opens =
+      replacing_opens with_list fixed list_ok list_substitutes (list_start with_fixed (x ∷ [])) (x ∷ []) (p.term ∷ [])
+      (list_start_lem with_fixed (x ∷ []) (longer_refl with_list)) (list_added with_fixed (x ∷ []) (longer_refl with_list)) (nx, tt) y_lists (y_result, tt)
+      y_itself
+
+  opened : Longer with_list opening.bundle
+  opened = replacing_longer with_list (list_start with_fixed (x ∷ [])) fixed (p.term ∷ [])
+
+  opening_longer : Longer b opening.bundle
+  opening_longer = longer_trans name.longer (longer_trans from_term opened)
 
   -- the body's free variables are the quantifier's, and x
-  binder_covers : (q : Binder) (τ : Term) → Covers b c (bind q x τ) → Covers (open_binder b x c).bundle (open_binder b x c).context τ
+  pub binder_covers : (q : Binder) (τ : Term) → Covers b c (bind q x τ) → Covers opening.bundle opening.context τ
   binder_covers q τ covers z f =
-      let (r, e) = lookup_covers with_list (x ∷ []) ((fresh b x).term ∷ []) z (image with_list fixed z) y_lists.sorts passed_on in
+      let (r, e) = lookup_covers with_list (x ∷ []) (p.term ∷ []) z (image with_list fixed z) y_lists.sorts passed_on in
       (r, binder_opens.images z ∙ e)
     where
       passed_on : (Among z (x ∷ []) → ⊥) → (r : ℕ) × (image with_list fixed z ≡ Gives r)
-      passed_on out =
-          let (r, e) = covers z (λ q. out (inl q), f) in
-          let other : eqb y z ≡ false = ne_eqb y z (λ q. omega (arith, replaced_old s z r e, s.job)) in (
+      passed_on apart =
+          let ne : z ≡ x → ⊥ = λ q. apart (inl q) in
+          let (r, e) = covers z (ne, f) in
+          let other : eqb y z ≡ false = ne_eqb y z (name.other z r ne e) in (
             r,
             image_stays (list_longer with_fixed (x ∷ [])) fixed_opens.checked.formed fixed fixed_opens.substitutes.here z
                 (fixed_opens.images z ∙ ap (λ (p : Bool). cond p Own (image with_term c z)) other
-                ∙ image_stays (fresh_longer b x) old.formed c s.here z e),
+                ∙ image_stays name.longer old.formed c s.here z e),
           )
+
+  -- where x is kept, what is its own image around the quantifier is so in its body, and so is x
+  pub body_itself : x ≡ y → (z : ℕ) → ((z ≡ x → ⊥) → image_tree b c z ≡ var z) → image_tree opening.bundle opening.context z ≡ var z
+  unfolding image_tree tree_of_image lookup first
+  body_itself same z around = ap (λ (i : Image). tree_of_image opening.bundle i z) (binder_opens.images z) ∙ go (eqb x z) refl
+    where
+      go : (h : Bool) → eqb x z ≡ h → tree_of_image opening.bundle (first (cond h (Replaced p.term) Absent) (image with_list fixed z)) z ≡ var z
+      go true k = y_tree (longer_trans from_term opened) ∙ ap var (sym same ∙ eqb-true x z k)
+      go false k =
+          let apart : z ≡ x → ⊥ = λ e. eqb-false x z k (sym e) in
+          let passed : image with_list fixed z ≡ image b c z =
+          ap (λ (f : ℕ → Image). f z) (image_kept (list_longer with_fixed (x ∷ [])) fixed_opens.checked.formed fixed fixed_opens.substitutes.here)
+          ∙ fixed_opens.images z ∙ ap (λ (h : Bool). cond h Own (image with_term c z)) (ne_eqb y z (λ e. apart (sym (same ∙ e))))
+          ∙ ap (λ (f : ℕ → Image). f z) (image_kept name.longer old.formed c s.here) in
+          ap (λ (i : Image). tree_of_image opening.bundle i z)
+          (passed ∙ sym (ap (λ (f : ℕ → Image). f z) (image_kept opening_longer old.formed c s.here)))
+          ∙ image_tree_kept opening_longer old.formed c z s.here
+          ∙ around apart
 
   -- ---- its result, and its step: BIND
 
   -- term t binds x in the body u; v is what the visit to the body leaves
   module _ (t : ℕ) (q : Binder) (u : Node) (stands : Stands V₀ b (scope t q x u)) (covers : Covers b c (tree b t)) (v : Visit)
-      (longer : Longer (open_binder b x c).bundle v.bundle) (ih : Visited (And N y) (open_binder b x c).context (number u) v) where
+      (longer : Longer opening.bundle v.bundle) (ih : Visited (And N y) opening.context (number u) v) where
     abbrev result : PlacedTerm
     result = place_binder v.bundle q y v.result
 
@@ -311,43 +385,46 @@ module _ {V₀ : ℕ} {N : ℕ → Type 0} (b : Bundle) (c x : ℕ) (old : Check
     placed = binder_longer v.bundle q y v.result
 
     since : Longer b R
-    since = longer_trans (open_longer b x c) (longer_trans longer placed)
+    since = longer_trans opening_longer (longer_trans longer placed)
 
     there : (B : Bundle) → Longer b B → StandsAs B t (bind q x (tree B (number u)))
     there B later = (stands_kept V₀ later old.formed.tables (scope t q x u) stands).0
 
-    ok : PlacedAs (bind q y (tree v.bundle v.result)) result
+    pub ok : PlacedAs (bind q y (tree v.bundle v.result)) result
     ok =
         binder_placed v.bundle q y v.result ih.checked
-        (y_number.0, omega (arith, y_number.1, (sizes to_term).variables, (sizes from_term).variables, (sizes opened).variables, (sizes longer).variables))
+        (name.is_variable.0, omega (arith, name.is_variable.1, (sizes from_term).variables, (sizes opened).variables, (sizes longer).variables))
         ih.done.result.is_term
         (ih.done.sorted
-        ∙ binder_sorts v.bundle ih.checked.formed.tables t q x (number u) (there v.bundle (longer_trans (open_longer b x c) longer)))
+        ∙ binder_sorts v.bundle ih.checked.formed.tables t q x (number u) (there v.bundle (longer_trans opening_longer longer)))
 
     bind_instance : (B : Bundle) → Longer R B → WellFormed B → Instance B (rule_of 4) c (tree B t) (tree B result.term) (v.step ∷ [])
-    unfolding rule_of gather
+    unfolding rule_of gather image_tree tree_of_image
     bind_instance B later well =
-        by_bind refl q x y (tree B (number u)) (tree B v.result) v.step (open_binder b x c).context fixed
+        by_bind refl q x y (tree B (number u)) (tree B v.result) v.step opening.context fixed
         (there B (longer_trans since later)).1
         (tree_kept later ok.checked.formed.tables result.term ok.is_term.1 ∙ ok.stands
         ∙ ap (bind q y) (sym (tree_kept (longer_trans placed later) ih.checked.formed.tables v.result ih.done.result.is_term.1)))
         refl (done_says (done_kept (longer_trans placed later) ih.checked.formed.tables ih.done))
         replaced (fixing_says with_term y c (longer_trans (list_longer with_fixed (x ∷ [])) (longer_trans opened all)))
-        (λ f. new_not_free b old.formed.tables t (rw same at f))
-        (λ z f g. new_not_in_image b old.formed.tables c z (free_number b old.formed.tables t z (rw same at f)).1
-        (rw (image_tree_kept (longer_trans since later) old.formed c z s.here) at g))
+        (λ f. name.not_free t q (tree b (number u)) stands.0.1 (rw same at f))
+        (λ z f g.
+        let (r, e) = covers z (rw same at f) in
+        let is : image_tree B c z ≡ tree b r =
+        image_tree_kept (longer_trans since later) old.formed c z s.here ∙ ap (λ (i : Image). tree_of_image b i z) e in
+        name.not_in_image z r e (subst (Free y) is g))
       where
-        all : Longer (open_binder b x c).bundle B
+        all : Longer opening.bundle B
         all = longer_trans longer (longer_trans placed later)
 
         same : tree B t ≡ tree b t
         same = tree_kept (longer_trans since later) old.formed.tables t stands.0.0.1
 
-        replaced : Replaces B (open_binder b x c).context (x ∷ []) (more (var y) none) fixed
+        replaced : Replaces B opening.context (x ∷ []) (more (var y) none) fixed
         replaced =
-            subst (λ (τ : Term). Replaces B (open_binder b x c).context (x ∷ []) (more τ none) fixed)
+            subst (λ (τ : Term). Replaces B opening.context (x ∷ []) (more τ none) fixed)
             (y_tree (longer_trans from_term (longer_trans opened all)))
-            (replacing_says with_list (list_start with_fixed (x ∷ [])) fixed (x ∷ []) ((fresh b x).term ∷ []) list_ok.formed.tables
+            (replacing_says with_list (list_start with_fixed (x ∷ [])) fixed (x ∷ []) (p.term ∷ []) list_ok.formed.tables
             (list_start_lem with_fixed (x ∷ []) (longer_refl with_list)) (list_added with_fixed (x ∷ []) (longer_refl with_list)) all)
 
     binder_visited : Visited N c t (close_binder c t q y v)
@@ -364,11 +441,12 @@ module _ {V₀ : ℕ} {N : ℕ → Type 0} (b : Bundle) (c x : ℕ) (old : Check
         ((ih.done.step.0, omega (arith, ih.done.step.1, (sizes placed).steps)), tt)
         bind_instance (λ B later well. not_refl 4 (λ e. omega arith))
       where
-        -- the new variable has the sort of the old one
+        -- y has the sort of x
         same_sort : sort_of_variable R y ≡ sort_of_variable R x
         same_sort =
-            variable_added b (sort_of_variable b x) (longer_trans to_term (longer_trans from_term (longer_trans opened (longer_trans longer placed))))
-            ∙ sym (variable_kept since x (omega (arith, nx.1, s.job)))
+            let on : Longer with_term R = longer_trans (longer_trans from_term opened) (longer_trans longer placed) in
+            variable_kept on y name.is_variable.1 ∙ sym name.sorts
+            ∙ sym (variable_kept on x (omega (arith, nx.1, s.job, (sizes name.longer).variables)))
 
         outer : (z : ℕ) → (z ≡ y → ⊥) → And N y z → N z
         outer z ne (inl n) = n
@@ -376,9 +454,9 @@ module _ {V₀ : ℕ} {N : ℕ → Type 0} (b : Bundle) (c x : ℕ) (old : Check
 
 -- ---- a let
 
--- term t is a let of the variables vs, its list at l, bound terms ns and body u; v is what the visits to the bound terms leave
+-- term t is a let of the variables vs, which are free in no result, its list at l, bound terms ns and body u; v is what the visits to the bound terms leave
 module _ {V₀ : ℕ} {N : ℕ → Type 0} (b : Bundle) (c t l : ℕ) (vs : List ℕ) (ns : Nodes) (u : Node) (old : Checked b) (s : Substitutes V₀ N b c)
-    (new : Open V₀ N) (stands : Stands V₀ b (block t l vs ns u)) (v : Visits) (longer : Longer b v.bundle) (ih : VisitedAll N c (numbers_of ns) v) where
+    (out : (x : ℕ) → N x → Among x vs → ⊥) (stands : Stands V₀ b (block t l vs ns u)) (v : Visits) (longer : Longer b v.bundle) (ih : VisitedAll N c (numbers_of ns) v) where
   abbrev bound : OpenedContext
   bound = replacing v.bundle l c v.results
 
@@ -395,7 +473,7 @@ module _ {V₀ : ℕ} {N : ℕ → Type 0} (b : Bundle) (c t l : ℕ) (vs : List
       let binds = (let_there v.bundle longer).1 in
       replacing_opens v.bundle c ih.checked (substitutes_kept s longer old.formed (λ x n. n) s.itself) l vs v.results
       binds.start binds.list binds.variables bound_lists (done_results ih.done)
-      (λ x n. not_listed v.bundle x vs v.results (not_open new vs binds.variables x n))
+      (λ x n. not_listed v.bundle x vs v.results (out x n))
 
   -- the body's free variables are the let's, and those of its list
   block_covers : (τs : Terms) (τ : Term) → Covers b c (let_in vs τs τ) → Covers bound.bundle bound.context τ
@@ -438,49 +516,117 @@ module _ {V₀ : ℕ} {N : ℕ → Type 0} (b : Bundle) (c t l : ℕ) (vs : List
 
 -- ---- THE INDUCTION
 
-mutual
-  unfolding visit gather
+-- under a choice of names, for the job j
+module _ (names : Names) (j : Bundle) where
+  abbrev pub V₀ : ℕ
+  V₀ = length j.variables
 
-  pub visit_visited : (τ : Node) {V₀ : ℕ} {N : ℕ → Type 0} (b : Bundle) (c : ℕ) → Checked b → Substitutes V₀ N b c → Open V₀ N → Stands V₀ b τ
-      → Covers b c (tree b (number τ)) → Visited N c (number τ) (visit τ c b)
-  visit_visited (leaf t x) b c old s new stands covers = leaf_visited b c t x old s stands covers
-  visit_visited (node t f ns) b c old s new stands covers =
-      node_visited b c t f ns old s stands covers (visit_all ns c b) (visit_all_longer ns c b)
-      (visit_all_visited ns b c old s new stands.1 (rw stands.0.1 at covers))
-  visit_visited (scope t q x u) {V₀} b c old s new stands covers =
-      let o = open_binder b x c in
-      let opens = binder_opens b c x old s new stands.1 in
-      binder_visited b c x old s new stands.1 t q u stands covers (visit u o.context o.bundle) (visit_longer u o.context o.bundle)
-      (visit_visited u o.bundle o.context opens.checked opens.substitutes (binder_open b c x old s new stands.1)
-      (stands_kept V₀ (open_longer b x c) old.formed.tables u stands.2)
-      (subst (Covers o.bundle o.context) (sym (tree_kept (open_longer b x c) old.formed.tables (number u) (stands_term V₀ b u stands.2).1))
-      (binder_covers b c x old s new stands.1 q (tree b (number u)) (rw stands.0.1 at covers))))
-  visit_visited (block t l vs ns u) {V₀} {N} b c old s new stands covers =
-      let v = visit_all ns c b in
-      let longer = visit_all_longer ns c b in
-      let all : Covers b c (let_in vs (gather (tree b) (numbers_of ns)) (tree b (number u))) = rw stands.0.1 at covers in
-      let ih : VisitedAll N c (numbers_of ns) v = visit_all_visited ns b c old s new stands.2 (λ x f. all x (inl f)) in
-      let o = replacing v.bundle l c v.results in
-      let opens = block_opens b c t l vs ns u old s new stands v longer ih in
-      let since : Longer b o.bundle = longer_trans longer (replacing_longer v.bundle l c v.results) in
-      block_visited b c t l vs ns u old s new stands v longer ih covers (visit u o.context o.bundle) (visit_longer u o.context o.bundle)
-      (visit_visited u o.bundle o.context opens.checked opens.substitutes new (stands_kept V₀ since old.formed.tables u stands.3)
-      (subst (Covers o.bundle o.context) (sym (tree_kept since old.formed.tables (number u) (stands_term V₀ b u stands.3).1))
-      (block_covers b c t l vs ns u old s new stands v longer ih (gather (tree b) (numbers_of ns)) (tree b (number u)) all)))
+  -- z is kept, and the term that binds it is not below m: it is being visited
+  pub record KeptOpen (m z : ℕ) : Type 0 where
+    pub kept : keeps names j z ≡ true
+    pub term : ℕ
+    pub above : m ≤ term
+    pub bound : BindsAt j term z
 
-  pub visit_all_visited : (ns : Nodes) {V₀ : ℕ} {N : ℕ → Type 0} (b : Bundle) (c : ℕ) → Checked b → Substitutes V₀ N b c → Open V₀ N → Stand V₀ b ns
-      → CoverAll b c (gather (tree b) (numbers_of ns)) → VisitedAll N c (numbers_of ns) (visit_all ns c b)
-  visit_all_visited nil b c old s new stand covers = record { checked = old; done = done_none }
-  visit_all_visited (cons τ ns) {V₀} {N} b c old s new stand covers =
-      let v = visit τ c b in
-      let longer = visit_longer τ c b in
-      let head : Visited N c (number τ) v = visit_visited τ b c old s new stand.0 (λ x f. covers x (inl f)) in
-      let tail : VisitedAll N c (numbers_of ns) (visit_all ns c v.bundle) =
-      visit_all_visited ns v.bundle c head.checked (substitutes_kept s longer old.formed (λ x n. n) s.itself) new
-      (stand_kept V₀ longer old.formed.tables ns stand.1)
-      (rw (gather_kept longer old.formed.tables (numbers_of ns) (stand_terms V₀ b ns stand.1))
-      (λ x f. let (r, e) = covers x (inr f) in (r, image_stays longer old.formed c s.here x e))) in
-      record {
-        checked = tail.checked;
-        done = done_more (done_kept (visit_all_longer ns c v.bundle) head.checked.formed.tables head.done) tail.done;
-      }
+  -- What may be free in a result while terms below m are visited: new variables, and kept ones whose binder is being visited.
+  abbrev pub Open : ℕ → (ℕ → Type 0) → Type 0
+  Open m N = (z : ℕ) → N z → (V₀ < z) ⊎ KeptOpen m z
+
+  pub open_lower : {N : ℕ → Type 0} (m m' : ℕ) → m' ≤ m → Open m N → Open m' N
+  open_lower {N} m m' le may z h = go (may z h)
+    where
+      go : (V₀ < z) ⊎ KeptOpen m z → (V₀ < z) ⊎ KeptOpen m' z
+      go (inl l) = inl l
+      go (inr k) = inr (record { kept = k.kept; term = k.term; above = omega (arith, k.above); bound = k.bound })
+
+  -- A variable that a term below m binds is free in no result: if it is kept, no other term binds it, and that one is not being visited.
+  pub not_open : {N : ℕ → Type 0} (m t x : ℕ) → t < m → Number V₀ x → BindsAt j t x → Open m N → N x → ⊥
+  not_open {N} m t x low nx bound may h = go (may x h)
+    where
+      go : (V₀ < x) ⊎ KeptOpen m x → ⊥
+      go (inl l) = omega (arith, nx.1)
+      go (inr k) =
+          let once = kept_bound names j x k.kept in
+          let same : t ≡ k.term = once.alone t bound ∙ sym (once.alone k.term k.bound) in
+          omega (arith, k.above)
+
+  -- A let's variables are free in no result, since they are not kept.
+  not_in_let : {N : ℕ → Type 0} (m t : ℕ) (vs : List ℕ) → All (Number V₀) vs → All (ListsAt j t) vs → Open m N → (z : ℕ) → N z → Among z vs → ⊥
+  not_in_let m t [] numbers listed may z h among = among
+  not_in_let {N} m t (v ∷ vs) numbers listed may z h (inl e) = go (may z h)
+    where
+      go : (V₀ < z) ⊎ KeptOpen m z → ⊥
+      go (inl l) = omega (arith, numbers.0.1, e)
+      go (inr k) = (kept_bound names j z k.kept).unlisted t (subst (ListsAt j t) (sym e) listed.0)
+  not_in_let m t (v ∷ vs) numbers listed may z h (inr among) = not_in_let m t vs numbers.1 listed.1 may z h among
+
+  -- the variable of a quantifier's result, by the choice
+  pub named_by : {N : ℕ → Type 0} (kept : Bool) (b : Bundle) (c x : ℕ) → Checked b → Substitutes V₀ N b c → Number V₀ x → (N x → ⊥)
+      → NamedAs b c x (name_of kept b x) (named kept b x)
+  named_by true b c x old s nx out = kept_named b c x old s nx out
+  named_by false b c x old s nx out = new_named b c x old s nx
+
+  -- what may be free in a result of the body
+  pub open_body : {N : ℕ → Type 0} (kept : Bool) (b : Bundle) (m t x : ℕ) → keeps names j x ≡ kept → V₀ ≤ length b.variables → t < m → BindsAt j t x
+      → Open m N → Open t (And N (name_of kept b x))
+  open_body kept b m t x k grown low bound may z (inl h) = open_lower m t (omega arith) may z h
+  open_body true b m t x k grown low bound may z (inr e) =
+      inr (record { kept = ap (keeps names j) e ∙ k; term = t; above = omega arith; bound = subst (BindsAt j t) (sym e) bound })
+  open_body false b m t x k grown low bound may z (inr e) = inl (omega arith)
+
+  mutual
+    unfolding visit gather
+
+    pub visit_visited : (τ : Node) {N : ℕ → Type 0} (m : ℕ) (b : Bundle) (c : ℕ) → Checked b → Substitutes V₀ N b c → Stands V₀ b τ
+        → Covers b c (tree b (number τ)) → Falls j m τ → Open m N → Visited N c (number τ) (visit (keeps names j) τ c b)
+    visit_visited (leaf t x) m b c old s stands covers falls may = leaf_visited b c t x old s stands covers
+    visit_visited (node t f ns) m b c old s stands covers falls may =
+        node_visited b c t f ns old s stands covers (visit_all (keeps names j) ns c b) (visit_all_longer (keeps names j) ns c b)
+        (visit_all_visited ns t b c old s stands.1 (rw stands.0.1 at covers) falls.1 (open_lower m t (omega (arith, falls.0)) may))
+    visit_visited (scope t q x u) m b c old s stands covers falls may =
+        let kept : Bool = keeps names j x in
+        let y : ℕ = name_of kept b x in
+        let p : PlacedTerm = named kept b x in
+        let o = open_binder kept b x c in
+        let out = not_open m t x falls.0 stands.1 falls.1 may in
+        let name : NamedAs b c x y p = named_by kept b c x old s stands.1 out in
+        let opens = binder_opens b c x y p old s stands.1 name out in
+        binder_visited b c x y p old s stands.1 name out t q u stands covers (visit (keeps names j) u o.context o.bundle)
+        (visit_longer (keeps names j) u o.context o.bundle)
+        (visit_visited u t o.bundle o.context opens.checked opens.substitutes
+        (stands_kept V₀ (open_longer kept b x c) old.formed.tables u stands.2)
+        (subst (Covers o.bundle o.context) (sym (tree_kept (open_longer kept b x c) old.formed.tables (number u) (stands_term V₀ b u stands.2).1))
+        (binder_covers b c x y p old s stands.1 name out q (tree b (number u)) (rw stands.0.1 at covers)))
+        falls.2 (open_body kept b m t x refl s.job falls.0 falls.1 may))
+    visit_visited (block t l vs ns u) {N} m b c old s stands covers falls may =
+        let v = visit_all (keeps names j) ns c b in
+        let longer = visit_all_longer (keeps names j) ns c b in
+        let all : Covers b c (let_in vs (gather (tree b) (numbers_of ns)) (tree b (number u))) = rw stands.0.1 at covers in
+        let still : Open t N = open_lower m t (omega (arith, falls.0)) may in
+        let ih : VisitedAll N c (numbers_of ns) v = visit_all_visited ns t b c old s stands.2 (λ x f. all x (inl f)) falls.2 still in
+        let o = replacing v.bundle l c v.results in
+        let out = not_in_let m t vs stands.1.variables falls.1 may in
+        let opens = block_opens b c t l vs ns u old s out stands v longer ih in
+        let since : Longer b o.bundle = longer_trans longer (replacing_longer v.bundle l c v.results) in
+        block_visited b c t l vs ns u old s out stands v longer ih covers (visit (keeps names j) u o.context o.bundle)
+        (visit_longer (keeps names j) u o.context o.bundle)
+        (visit_visited u t o.bundle o.context opens.checked opens.substitutes (stands_kept V₀ since old.formed.tables u stands.3)
+        (subst (Covers o.bundle o.context) (sym (tree_kept since old.formed.tables (number u) (stands_term V₀ b u stands.3).1))
+        (block_covers b c t l vs ns u old s out stands v longer ih (gather (tree b) (numbers_of ns)) (tree b (number u)) all)) falls.3 still)
+
+    pub visit_all_visited : (ns : Nodes) {N : ℕ → Type 0} (m : ℕ) (b : Bundle) (c : ℕ) → Checked b → Substitutes V₀ N b c → Stand V₀ b ns
+        → CoverAll b c (gather (tree b) (numbers_of ns)) → FallAll j m ns → Open m N → VisitedAll N c (numbers_of ns) (visit_all (keeps names j) ns c b)
+    visit_all_visited nil m b c old s stand covers falls may = record { checked = old; done = done_none }
+    visit_all_visited (cons τ ns) {N} m b c old s stand covers falls may =
+        let v = visit (keeps names j) τ c b in
+        let longer = visit_longer (keeps names j) τ c b in
+        let head : Visited N c (number τ) v = visit_visited τ m b c old s stand.0 (λ x f. covers x (inl f)) falls.0 may in
+        let tail : VisitedAll N c (numbers_of ns) (visit_all (keeps names j) ns c v.bundle) =
+        visit_all_visited ns m v.bundle c head.checked (substitutes_kept s longer old.formed (λ x n. n) s.itself)
+        (stand_kept V₀ longer old.formed.tables ns stand.1)
+        (rw (gather_kept longer old.formed.tables (numbers_of ns) (stand_terms V₀ b ns stand.1))
+        (λ x f. let (r, e) = covers x (inr f) in (r, image_stays longer old.formed c s.here x e))) falls.1 may in
+        record {
+          checked = tail.checked;
+          done = done_more (done_kept (visit_all_longer (keeps names j) ns c v.bundle) head.checked.formed.tables head.done) tail.done;
+        }

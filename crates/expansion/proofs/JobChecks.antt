@@ -35,6 +35,7 @@ use Rattle.logic.proofs.Formed.{tables_exactly}
 use Rattle.judgement.specs.Order.{Holds}
 use Rattle.judgement.proofs.Order.{none_fails, all_hold}
 use Rattle.logic.proofs.Headers.{header_exactly}
+use Rattle.expansion.specs.declared.Names.{Names}
 use Rattle.expansion.specs.Answer.{Written, Refused}
 use Rattle.expansion.specs.Visit.{visited, expanded}
 use Rattle.expansion.specs.File.{file_of}
@@ -98,24 +99,24 @@ module _ (b : Bundle) where
 
 -- ---- all checks
 
-module _ (f : List ℕ) (out words sets : ℕ) where
+module _ (names : Names) (f : List ℕ) (out words sets : ℕ) where
   b : Bundle
   b = bundle_of f
 
   m : ℕ
   m = long_enough out words sets
 
-  pub job_exactly : ((job_fault f out words sets).number ≡ 0) ↔ (JobFormed f × Closed (tree (bundle_of f) (bundle_of f).left) × Fits f × LongEnough out words sets)
+  pub job_exactly : ((job_fault names f out words sets).number ≡ 0) ↔ (JobFormed f × Closed (tree (bundle_of f) (bundle_of f).left) × Fits names f × LongEnough out words sets)
   unfolding job_fault tables_fault b m
   job_exactly = (there, back)
     where
-      there : (job_fault f out words sets).number ≡ 0 → JobFormed f × Closed (tree b b.left) × Fits f × LongEnough out words sets
+      there : (job_fault names f out words sets).number ≡ 0 → JobFormed f × Closed (tree b b.left) × Fits names f × LongEnough out words sets
       there e =
-          let halves = next_both (tables_fault f m 3) (last_fault b) e in
+          let halves = next_both (tables_fault f m 3) (last_fault names b) e in
           let tables = next_both (fault (header_fault f m 3) 0) (sections_fault b) halves.0 in
           let good = (header_exactly f m 3).0 tables.0 in
           let formed : TablesFormed b = (tables_exactly b).0 tables.1 in
-          let last : All Holds (last_checks b) = all_hold (last_checks b) (last_find b).numbers (rw (last_find b).first halves.1) in
+          let last : All Holds (last_checks names b) = all_hold (last_checks names b) (last_find names b).numbers (rw (last_find names b).first halves.1) in
           let bare = (bare_exactly b).0 last.0 in (
             record {
               header = good.0;
@@ -126,106 +127,106 @@ module _ (f : List ℕ) (out words sets : ℕ) where
               left = (number_exactly (length b.terms) b.left).0 last.1.0;
             },
             (closed_exactly b formed).0 last.1.1.0,
-            within_all (own_counts (visited b).bundle) last.1.1.1.0,
+            within_all (own_counts (visited names b).bundle) last.1.1.1.0,
             (long_exactly out words sets).0 good.1,
           )
 
-      back : JobFormed f × Closed (tree b b.left) × Fits f × LongEnough out words sets → (job_fault f out words sets).number ≡ 0
+      back : JobFormed f × Closed (tree b b.left) × Fits names f × LongEnough out words sets → (job_fault names f out words sets).number ≡ 0
       back (formed, closed, fits, long) =
-          let last : All Holds (last_checks b) = (
+          let last : All Holds (last_checks names b) = (
             (bare_exactly b).1 (formed.contexts, formed.steps, formed.right),
             (
               (number_exactly (length b.terms) b.left).1 formed.left,
-              ((closed_exactly b formed.tables).1 closed, (within_true (own_counts (visited b).bundle) fits, tt)),
+              ((closed_exactly b formed.tables).1 closed, (within_true (own_counts (visited names b).bundle) fits, tt)),
             ),
           ) in
-          both_next (tables_fault f m 3) (last_fault b)
+          both_next (tables_fault f m 3) (last_fault names b)
           (both_next (fault (header_fault f m 3) 0) (sections_fault b) ((header_exactly f m 3).1 (formed.header, (long_exactly out words sets).1 long))
           ((tables_exactly b).1 formed.tables))
-          (rw (← (last_find b).first, none_fails (last_checks b) last))
+          (rw (← (last_find names b).first, none_fails (last_checks names b) last))
 
 -- ---- the answer
 
 -- written where the fault's number is 0, else refused with its number and record
-written_as : (b : Bundle) (r : Fault) (k out words sets : ℕ) → ((n : ℕ) × ((outcome_of b r k out words sets).answer ≡ Written n)) ↔ (k ≡ 0)
+written_as : (names : Names) (b : Bundle) (r : Fault) (k out words sets : ℕ) → ((n : ℕ) × ((outcome_of names b r k out words sets).answer ≡ Written n)) ↔ (k ≡ 0)
 unfolding outcome_of
-written_as b r zero out words sets = (λ e. refl, λ e. (_, refl))
-written_as b r (suc k) out words sets = (λ (n, e). cc, λ e. absurd (omega arith))
+written_as names b r zero out words sets = (λ e. refl, λ e. (_, refl))
+written_as names b r (suc k) out words sets = (λ (n, e). cc, λ e. absurd (omega arith))
 
-refused_as : (b : Bundle) (r : Fault) (out words sets n i : ℕ)
-    → ((outcome_of b r r.number out words sets).answer ≡ Refused n i) ↔ ((1 ≤ n) × (r ≡ fault n i))
+refused_as : (names : Names) (b : Bundle) (r : Fault) (out words sets n i : ℕ)
+    → ((outcome_of names b r r.number out words sets).answer ≡ Refused n i) ↔ ((1 ≤ n) × (r ≡ fault n i))
 unfolding outcome_of
-refused_as b r out words sets n i = (there r.number refl, back)
+refused_as names b r out words sets n i = (there r.number refl, back)
   where
-    there : (k : ℕ) → r.number ≡ k → (outcome_of b r k out words sets).answer ≡ Refused n i → (1 ≤ n) × (r ≡ fault n i)
+    there : (k : ℕ) → r.number ≡ k → (outcome_of names b r k out words sets).answer ≡ Refused n i → (1 ≤ n) × (r ≡ fault n i)
     there zero q e = (let z : ◌≡◌ {A = ℕ} 0 1 = cc in omega arith, cc)
     there (suc k) q e =
         let same : suc k ≡ n = cc in
         let at : r.«record» ≡ i = cc in
         (omega arith, λ j. record { number = (q ∙ same) j; «record» = at j })
 
-    some : (k : ℕ) → 1 ≤ k → (outcome_of b (fault k i) k out words sets).answer ≡ Refused k i
+    some : (k : ℕ) → 1 ≤ k → (outcome_of names b (fault k i) k out words sets).answer ≡ Refused k i
     some zero l = absurd (omega arith)
     some (suc k) l = refl
 
-    back : (1 ≤ n) × (r ≡ fault n i) → (outcome_of b r r.number out words sets).answer ≡ Refused n i
+    back : (1 ≤ n) × (r ≡ fault n i) → (outcome_of names b r r.number out words sets).answer ≡ Refused n i
     back h = rw h.1 (some n h.0)
 
-module _ (f : List ℕ) (out words sets : ℕ) where
-  pub written_where : ((n : ℕ) × ((expansion f out words sets).answer ≡ Written n)) ↔ ((job_fault f out words sets).number ≡ 0)
+module _ (names : Names) (f : List ℕ) (out words sets : ℕ) where
+  pub written_where : ((n : ℕ) × ((expansion names f out words sets).answer ≡ Written n)) ↔ ((job_fault names f out words sets).number ≡ 0)
   unfolding expansion
-  written_where = written_as (bundle_of f) (job_fault f out words sets) (job_fault f out words sets).number out words sets
+  written_where = written_as names (bundle_of f) (job_fault names f out words sets) (job_fault names f out words sets).number out words sets
 
-  pub refused_job_where : (n i : ℕ) → ((expansion f out words sets).answer ≡ Refused n i) ↔ ((1 ≤ n) × (job_fault f out words sets ≡ fault n i))
+  pub refused_job_where : (n i : ℕ) → ((expansion names f out words sets).answer ≡ Refused n i) ↔ ((1 ≤ n) × (job_fault names f out words sets ≡ fault n i))
   unfolding expansion
-  refused_job_where n i = refused_as (bundle_of f) (job_fault f out words sets) out words sets n i
+  refused_job_where n i = refused_as names (bundle_of f) (job_fault names f out words sets) out words sets n i
 
   -- where no check fails
-  module _ (passes : (job_fault f out words sets).number ≡ 0) where
-    job_outcome : expansion f out words sets ≡ outcome_of (bundle_of f) (job_fault f out words sets) 0 out words sets
+  module _ (passes : (job_fault names f out words sets).number ≡ 0) where
+    job_outcome : expansion names f out words sets ≡ outcome_of names (bundle_of f) (job_fault names f out words sets) 0 out words sets
     unfolding expansion
-    job_outcome = ap (λ (k : ℕ). outcome_of (bundle_of f) (job_fault f out words sets) k out words sets) passes
+    job_outcome = ap (λ (k : ℕ). outcome_of names (bundle_of f) (job_fault names f out words sets) k out words sets) passes
 
-    pub job_answer : (expansion f out words sets).answer ≡ Written (length (file_of (expanded (bundle_of f))))
+    pub job_answer : (expansion names f out words sets).answer ≡ Written (length (file_of (expanded names (bundle_of f))))
     unfolding outcome_of
     job_answer = ap (λ (o : Outcome). o.answer) job_outcome
 
-    pub job_file : take (length (file_of (expanded (bundle_of f)))) (expansion f out words sets).out ≡ file_of (expanded (bundle_of f))
+    pub job_file : take (length (file_of (expanded names (bundle_of f)))) (expansion names f out words sets).out ≡ file_of (expanded names (bundle_of f))
     unfolding outcome_of
     job_file =
-        let n : ℕ = length (file_of (expanded (bundle_of f))) in
-        ap (λ (o : Outcome). take n o.out) job_outcome ∙ file_cut (expanded (bundle_of f)) (replicate (out - n) 0)
+        let n : ℕ = length (file_of (expanded names (bundle_of f))) in
+        ap (λ (o : Outcome). take n o.out) job_outcome ∙ file_cut (expanded names (bundle_of f)) (replicate (out - n) 0)
 
     -- the file is no longer than the output
-    pub job_room : length (file_of (expanded (bundle_of f))) ≤ out
+    pub job_room : length (file_of (expanded names (bundle_of f))) ≤ out
     unfolding expanded header_words
     job_room =
-        let h = (job_exactly f out words sets).0 passes in
-        let fits : Within (own_counts (visited (bundle_of f)).bundle) = h.2 in
+        let h = (job_exactly names f out words sets).0 passes in
+        let fits : Within (own_counts (visited names (bundle_of f)).bundle) = h.2 in
         let long : LongEnough out words sets = h.3 in
-        omega (arith, file_length (expanded (bundle_of f)))
+        omega (arith, file_length (expanded names (bundle_of f)))
 
 -- ---- what is left
 
-zeros_as : (b : Bundle) (r : Fault) (k out words sets : ℕ) → (k ≡ 0 → length (file_of (expanded b)) ≤ out)
-    → ZerosLeft out words sets (outcome_of b r k out words sets)
+zeros_as : (names : Names) (b : Bundle) (r : Fault) (k out words sets : ℕ) → (k ≡ 0 → length (file_of (expanded names b)) ≤ out)
+    → ZerosLeft out words sets (outcome_of names b r k out words sets)
 unfolding outcome_of
-zeros_as b r zero out words sets room = record {
+zeros_as names b r zero out words sets room = record {
   scratch = refl;
   stack = refl;
   refused = λ n i e. cc;
   written = λ n e.
-      let same : length (file_of (expanded b)) ≡ n = cc in
-      rw (← same) (room refl, drop-append_seam (file_of (expanded b)) (replicate (out - length (file_of (expanded b))) 0));
+      let same : length (file_of (expanded names b)) ≡ n = cc in
+      rw (← same) (room refl, drop-append_seam (file_of (expanded names b)) (replicate (out - length (file_of (expanded names b))) 0));
 }
-zeros_as b r (suc k) out words sets room = record {
+zeros_as names b r (suc k) out words sets room = record {
   scratch = refl;
   stack = refl;
   refused = λ n i e. refl;
   written = λ n e. (let z : ◌≡◌ {A = ℕ} 0 1 = cc in omega arith, cc);
 }
 
-pub zeros_left : (f : List ℕ) (out words sets : ℕ) → ZerosLeft out words sets (expansion f out words sets)
+pub zeros_left : (names : Names) (f : List ℕ) (out words sets : ℕ) → ZerosLeft out words sets (expansion names f out words sets)
 unfolding expansion
-zeros_left f out words sets =
-    zeros_as (bundle_of f) (job_fault f out words sets) (job_fault f out words sets).number out words sets (job_room f out words sets)
+zeros_left names f out words sets =
+    zeros_as names (bundle_of f) (job_fault names f out words sets) (job_fault names f out words sets).number out words sets (job_room names f out words sets)

@@ -13,20 +13,21 @@ use Rattle.logic.specs.Tests.{first_failing, fault, or_else, or_next}
 use Rattle.logic.specs.Checks.{header_tests, header_fault, link_tests, links_fault, symbol_tests, symbols_fault, variable_tests, variables_fault, term_tests, terms_fault}
 use Rattle.judgement.specs.Order.{checks_of}
 use Rattle.judgement.proofs.Order.{Finds, finds_next, finds_tests, finds_section}
+use Rattle.expansion.specs.declared.Names.{Names}
 use Rattle.expansion.specs.Expansion.{long_enough, job_tests, job_fault}
 use Rattle.expansion.specs.JobOrder.{last_checks, all_job_checks}
 
-abbrev pub last_fault : Bundle → Fault
-last_fault b = or_else (first_failing (job_tests b)) 0 (fault 0 0)
+abbrev pub last_fault : Names → Bundle → Fault
+last_fault names b = or_else (first_failing (job_tests names b)) 0 (fault 0 0)
 
-pub last_find : (b : Bundle) → Finds (last_checks b) (last_fault b)
+pub last_find : (names : Names) (b : Bundle) → Finds (last_checks names b) (last_fault names b)
 unfolding checks_of
-last_find b = finds_tests 0 (job_tests b) refl
+last_find names b = finds_tests 0 (job_tests names b) refl
 
 -- THE LAW
-pub job_checks_find : (f : List ℕ) (out words sets : ℕ) → Finds (all_job_checks f out words sets) (job_fault f out words sets)
+pub job_checks_find : (names : Names) (f : List ℕ) (out words sets : ℕ) → Finds (all_job_checks names f out words sets) (job_fault names f out words sets)
 unfolding all_job_checks job_fault
-job_checks_find f out words sets = subst (Finds (all_job_checks f out words sets)) in_a_row in_order
+job_checks_find names f out words sets = subst (Finds (all_job_checks names f out words sets)) in_a_row in_order
   where
     b : Bundle
     b = bundle_of f
@@ -37,16 +38,16 @@ job_checks_find f out words sets = subst (Finds (all_job_checks f out words sets
     row : Fault
     row =
         or_next (or_else (header_fault f m 3) 0 (fault 0 0))
-        (or_next (links_fault b) (or_next (symbols_fault b) (or_next (variables_fault b) (or_next (terms_fault b) (last_fault b)))))
+        (or_next (links_fault b) (or_next (symbols_fault b) (or_next (variables_fault b) (or_next (terms_fault b) (last_fault names b)))))
 
-    in_order : Finds (all_job_checks f out words sets) row
+    in_order : Finds (all_job_checks names f out words sets) row
     in_order =
         finds_next _ _ _ _ (finds_tests 0 (header_tests f m 3) refl)
         (finds_next _ _ _ _ (finds_section (link_tests b) (λ i. refl) (length b.links))
         (finds_next _ _ _ _ (finds_section (symbol_tests b) (λ i. refl) (length b.symbols))
         (finds_next _ _ _ _ (finds_section (variable_tests b) (λ i. refl) (length b.variables))
         (finds_next _ _ _ _ (finds_section (term_tests b) (λ i. refl) (length b.terms))
-        (last_find b)))))
+        (last_find names b)))))
 
-    in_a_row : row ≡ job_fault f out words sets
+    in_a_row : row ≡ job_fault names f out words sets
     in_a_row = simp next_nested

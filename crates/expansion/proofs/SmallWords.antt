@@ -4,7 +4,8 @@
 --     items_small, image_small         items of lists; images
 --     SmallNode, node_small            the numbers of a node; of the node of a term
 -- Where the last bundle, which is longer than all in between, is within the limits:
---     list_small, start_small, placed_small, concluded_small, replacing_small, fixing_small, new_small, fresh_small, open_small     openers and closers
+--     list_small, start_small, placed_small, variable_small, concluded_small, replacing_small, fixing_small     openers and closers
+--     new_small, fresh_small, name_small, named_small, open_small     those of a quantifier
 --     visit_small, visit_all_small      the visits
 --     expanded_small                   THE LAW: the bundle that is written
 use Prim.Native.Nat.{ℕ, zero, suc, ◌+◌, ◌*◌, ◌-◌, ◌^◌, ◌≤◌, ◌<◌}
@@ -32,9 +33,11 @@ use Rattle.logic.proofs.Tables.{table_all}
 use Rattle.logic.proofs.Longer.{longer_refl, longer_trans, sizes, list_longer, terms_longer, contexts_longer, steps_longer, consecutive_length}
 use Rattle.expansion.specs.Nodes.{Node, Nodes, leaf, node, scope, block, nil, cons, Numbered, numbered, gather_nodes, no_node, node_as, node_by, node_at}
 use Rattle.logic.specs.Lookup.{after, seek, same_variable, same_application, same_binder}
-use Rattle.expansion.specs.Placed.{PlacedTerm, placed, place_application, place_binder}
+use Rattle.expansion.specs.declared.Names.{Names}
+use Rattle.expansion.specs.Names.{keeps}
+use Rattle.expansion.specs.Placed.{PlacedTerm, placed, place_variable, place_application, place_binder}
 use Rattle.expansion.specs.Visit.{Visit, Visits, concluded, OpenedContext, replacing, fixing}
-use Rattle.expansion.specs.Visit.{image_term, new_variable, fresh, renaming, OpenedBinder, open_binder, visit, visit_all, visited, expanded}
+use Rattle.expansion.specs.Visit.{image_term, new_variable, fresh, name_of, named, renaming, OpenedBinder, open_binder, visit, visit_all, visited, expanded}
 use Rattle.expansion.specs.File.{symbol_words, variable_words, term_words, link_words, context_words, step_words}
 use Rattle.expansion.specs.Demands.{Bytes}
 use Rattle.expansion.proofs.SmallNumbers.{Word, SmallBundle, all_append, all_snoc, all_get_d, all_at, all_tab}
@@ -280,6 +283,11 @@ module _ {end : Bundle} (fit : Within (own_counts end)) where
       }
   placed_small b b' r (suc n) small lists made l e = record { bundle = small; term = omega (arith, fit.terms, (sizes e).terms) }
 
+  pub variable_small : (b : Bundle) (x : ℕ) → SmallBundle b → Word x → Longer (place_variable b x).bundle end → SmallPlaced (place_variable b x)
+  variable_small b x small w e =
+      placed_small b (add_list b []) _ (seek (same_variable x) b.terms) small (list_longer b [])
+      (λ l. (list_small b [] small tt l, (omega arith, (w, (omega arith, (omega arith, tt)))))) (seek_le (same_variable x) b.terms) e
+
   pub concluded_small : (b : Bundle) (k c l r : ℕ) (ps : List ℕ) → SmallBundle b → Word k → Word c → Word l → Word r → All Word ps
       → Longer (concluded b k c l r ps).bundle end → SmallVisit (concluded b k c l r ps)
   concluded_small b k c l r ps small hk hc hl hr hp e =
@@ -322,88 +330,98 @@ module _ {end : Bundle} (fit : Within (own_counts end)) where
       let y : Word (new_variable b) = new_small b x e in
       let sort : All Word (s ∷ []) = all_at (λ s. All Word (variable_words s)) b.variables 0 small.variables (omega arith, tt) x in
       let v : Bundle = with_variables b (s ∷ []) in
-      let sv : SmallBundle v = small_variables small s sort.0 in
-      placed_small v (add_list v []) _ (seek (same_variable (new_variable b)) b.terms) sv (list_longer v [])
-      (λ l. (list_small v [] sv tt l, (omega arith, (y, (omega arith, (omega arith, tt)))))) (seek_le (same_variable (new_variable b)) b.terms) e
+      variable_small v (new_variable b) (small_variables small s sort.0) y e
 
-  pub open_small : (b : Bundle) (x c : ℕ) → SmallBundle b → Word x → Word c → Longer (open_binder b x c).bundle end → SmallBinder (open_binder b x c)
-  open_small b x c small hx hc e =
-      let p : PlacedTerm = fresh b x in
-      let f : OpenedContext = fixing p.bundle (new_variable b) c in
-      let e₃ : Longer (add_list f.bundle (x ∷ [])) end = longer_trans (listed_longer p.bundle x (new_variable b) p.term c) e in
+  name_small : (kept : Bool) (b : Bundle) (x : ℕ) → Word x → Longer (named kept b x).bundle end → Word (name_of kept b x)
+  name_small true b x hx e = hx
+  name_small false b x hx e = new_small b x e
+
+  named_small : (kept : Bool) (b : Bundle) (x : ℕ) → SmallBundle b → Word x → Longer (named kept b x).bundle end → SmallPlaced (named kept b x)
+  named_small true b x small hx e = variable_small b x small hx e
+  named_small false b x small hx e = fresh_small b x small e
+
+  open_small : (kept : Bool) (b : Bundle) (x c : ℕ) → SmallBundle b → Word x → Word c → Longer (open_binder kept b x c).bundle end
+      → SmallBinder (open_binder kept b x c)
+  open_small kept b x c small hx hc e =
+      let y : ℕ = name_of kept b x in
+      let p : PlacedTerm = named kept b x in
+      let f : OpenedContext = fixing p.bundle y c in
+      let e₃ : Longer (add_list f.bundle (x ∷ [])) end = longer_trans (listed_longer p.bundle x y p.term c) e in
       let e₂ : Longer f.bundle end = longer_trans (list_longer f.bundle (x ∷ [])) e₃ in
-      let e₁ : Longer p.bundle end = longer_trans (fixing_longer p.bundle (new_variable b) c) e₂ in
-      let sp : SmallPlaced p = fresh_small b x small e₁ in
-      let sf : SmallOpened f = fixing_small p.bundle (new_variable b) c sp.bundle (new_small b x e₁) hc e₂ in
-      let so : SmallOpened (renaming p.bundle x (new_variable b) p.term c) =
+      let e₁ : Longer p.bundle end = longer_trans (fixing_longer p.bundle y c) e₂ in
+      let hy : Word y = name_small kept b x hx e₁ in
+      let sp : SmallPlaced p = named_small kept b x small hx e₁ in
+      let sf : SmallOpened f = fixing_small p.bundle y c sp.bundle hy hc e₂ in
+      let so : SmallOpened (renaming p.bundle x y p.term c) =
       replacing_small (add_list f.bundle (x ∷ [])) (list_start f.bundle (x ∷ [])) f.context (p.term ∷ [])
       (list_small f.bundle (x ∷ []) sf.bundle (hx, tt) e₃) (start_small f.bundle (x ∷ []) e₃) sf.context (sp.term, tt) e in
-      record { bundle = so.bundle; context = so.context; variable = new_small b x e₁ }
+      record { bundle = so.bundle; context = so.context; variable = hy }
 
   -- ---- the visits
 
-  mutual
-    unfolding visit
+  module _ (k : ℕ → Bool) where
+    mutual
+      unfolding visit
 
-    pub visit_small : (τ : Node) (c : ℕ) (b : Bundle) → SmallNode τ → Word c → SmallBundle b → Longer (visit τ c b).bundle end → SmallVisit (visit τ c b)
-    visit_small (leaf t x) c b h hc small e =
-        concluded_small b 1 c t (image_term (image b c x) t) [] small (omega arith) hc h (image_small small c x t h) tt e
-    visit_small (node t f ns) c b h hc small e =
-        let v : Visits = visit_all ns c b in
-        let p : PlacedTerm = place_application v.bundle f v.results in
-        let n : ℕ = seek (same_application v.bundle f v.results) v.bundle.terms in
-        let e₂ : Longer p.bundle end = longer_trans (concluded_longer p.bundle 2 c t p.term v.steps) e in
-        let e₁ : Longer v.bundle end = longer_trans (application_longer v.bundle f v.results) e₂ in
-        let sv : SmallVisits v = visit_all_small ns c b h.2 hc small e₁ in
-        let sp : SmallPlaced p =
-        placed_small v.bundle (add_list v.bundle v.results) _ n sv.bundle (list_longer v.bundle v.results)
-        (λ l.
-        (list_small v.bundle v.results sv.bundle sv.results l, (omega arith, (h.1, (start_small v.bundle v.results l, (omega arith, tt))))))
-        (seek_le (same_application v.bundle f v.results) v.bundle.terms) e₂ in
-        concluded_small p.bundle 2 c t p.term v.steps sp.bundle (omega arith) hc h.0 sp.term sv.steps e
-    visit_small (scope t q x u) c b h hc small e =
-        let o : OpenedBinder = open_binder b x c in
-        let y : ℕ = o.variable in
-        let v : Visit = visit u o.context o.bundle in
-        let p : PlacedTerm = place_binder v.bundle q y v.result in
-        let n : ℕ = seek (same_binder q y v.result) v.bundle.terms in
-        let e₃ : Longer p.bundle end = longer_trans (concluded_longer p.bundle 4 c t p.term (v.step ∷ [])) e in
-        let e₂ : Longer v.bundle end = longer_trans (binder_longer v.bundle q y v.result) e₃ in
-        let e₁ : Longer o.bundle end = longer_trans (visit_longer u o.context o.bundle) e₂ in
-        let so : SmallBinder o = open_small b x c small h.1 hc e₁ in
-        let sv : SmallVisit v = visit_small u o.context o.bundle h.2 so.context so.bundle e₂ in
-        let sp : SmallPlaced p =
-        placed_small v.bundle (add_list v.bundle []) _ n sv.bundle (list_longer v.bundle [])
-        (λ l. (list_small v.bundle [] sv.bundle tt l, (binder_word q, (so.variable, (sv.result, (omega arith, tt))))))
-        (seek_le (same_binder q y v.result) v.bundle.terms) e₃ in
-        concluded_small p.bundle 4 c t p.term (v.step ∷ []) sp.bundle (omega arith) hc h.0 sp.term (sv.step, tt) e
-    visit_small (block t s vs ns u) c b h hc small e =
-        let v : Visits = visit_all ns c b in
-        let o : OpenedContext = replacing v.bundle s c v.results in
-        let w : Visit = visit u o.context o.bundle in
-        let e₃ : Longer w.bundle end = longer_trans (concluded_longer w.bundle 5 c t w.result (v.steps ++ (w.step ∷ []))) e in
-        let e₂ : Longer o.bundle end = longer_trans (visit_longer u o.context o.bundle) e₃ in
-        let e₁ : Longer v.bundle end = longer_trans (replacing_longer v.bundle s c v.results) e₂ in
-        let sv : SmallVisits v = visit_all_small ns c b h.2 hc small e₁ in
-        let so : SmallOpened o = replacing_small v.bundle s c v.results sv.bundle h.1 hc sv.results e₂ in
-        let sw : SmallVisit w = visit_small u o.context o.bundle h.3 so.context so.bundle e₃ in
-        concluded_small w.bundle 5 c t w.result (v.steps ++ (w.step ∷ [])) sw.bundle (omega arith) hc h.0 sw.result
-        (all_snoc Word v.steps w.step sv.steps sw.step) e
+      pub visit_small : (τ : Node) (c : ℕ) (b : Bundle) → SmallNode τ → Word c → SmallBundle b → Longer (visit k τ c b).bundle end → SmallVisit (visit k τ c b)
+      visit_small (leaf t x) c b h hc small e =
+          concluded_small b 1 c t (image_term (image b c x) t) [] small (omega arith) hc h (image_small small c x t h) tt e
+      visit_small (node t f ns) c b h hc small e =
+          let v : Visits = visit_all k ns c b in
+          let p : PlacedTerm = place_application v.bundle f v.results in
+          let n : ℕ = seek (same_application v.bundle f v.results) v.bundle.terms in
+          let e₂ : Longer p.bundle end = longer_trans (concluded_longer p.bundle 2 c t p.term v.steps) e in
+          let e₁ : Longer v.bundle end = longer_trans (application_longer v.bundle f v.results) e₂ in
+          let sv : SmallVisits v = visit_all_small ns c b h.2 hc small e₁ in
+          let sp : SmallPlaced p =
+          placed_small v.bundle (add_list v.bundle v.results) _ n sv.bundle (list_longer v.bundle v.results)
+          (λ l.
+          (list_small v.bundle v.results sv.bundle sv.results l, (omega arith, (h.1, (start_small v.bundle v.results l, (omega arith, tt))))))
+          (seek_le (same_application v.bundle f v.results) v.bundle.terms) e₂ in
+          concluded_small p.bundle 2 c t p.term v.steps sp.bundle (omega arith) hc h.0 sp.term sv.steps e
+      visit_small (scope t q x u) c b h hc small e =
+          let o : OpenedBinder = open_binder (k x) b x c in
+          let y : ℕ = o.variable in
+          let v : Visit = visit k u o.context o.bundle in
+          let p : PlacedTerm = place_binder v.bundle q y v.result in
+          let n : ℕ = seek (same_binder q y v.result) v.bundle.terms in
+          let e₃ : Longer p.bundle end = longer_trans (concluded_longer p.bundle 4 c t p.term (v.step ∷ [])) e in
+          let e₂ : Longer v.bundle end = longer_trans (binder_longer v.bundle q y v.result) e₃ in
+          let e₁ : Longer o.bundle end = longer_trans (visit_longer k u o.context o.bundle) e₂ in
+          let so : SmallBinder o = open_small (k x) b x c small h.1 hc e₁ in
+          let sv : SmallVisit v = visit_small u o.context o.bundle h.2 so.context so.bundle e₂ in
+          let sp : SmallPlaced p =
+          placed_small v.bundle (add_list v.bundle []) _ n sv.bundle (list_longer v.bundle [])
+          (λ l. (list_small v.bundle [] sv.bundle tt l, (binder_word q, (so.variable, (sv.result, (omega arith, tt))))))
+          (seek_le (same_binder q y v.result) v.bundle.terms) e₃ in
+          concluded_small p.bundle 4 c t p.term (v.step ∷ []) sp.bundle (omega arith) hc h.0 sp.term (sv.step, tt) e
+      visit_small (block t s vs ns u) c b h hc small e =
+          let v : Visits = visit_all k ns c b in
+          let o : OpenedContext = replacing v.bundle s c v.results in
+          let w : Visit = visit k u o.context o.bundle in
+          let e₃ : Longer w.bundle end = longer_trans (concluded_longer w.bundle 5 c t w.result (v.steps ++ (w.step ∷ []))) e in
+          let e₂ : Longer o.bundle end = longer_trans (visit_longer k u o.context o.bundle) e₃ in
+          let e₁ : Longer v.bundle end = longer_trans (replacing_longer v.bundle s c v.results) e₂ in
+          let sv : SmallVisits v = visit_all_small ns c b h.2 hc small e₁ in
+          let so : SmallOpened o = replacing_small v.bundle s c v.results sv.bundle h.1 hc sv.results e₂ in
+          let sw : SmallVisit w = visit_small u o.context o.bundle h.3 so.context so.bundle e₃ in
+          concluded_small w.bundle 5 c t w.result (v.steps ++ (w.step ∷ [])) sw.bundle (omega arith) hc h.0 sw.result
+          (all_snoc Word v.steps w.step sv.steps sw.step) e
 
-    pub visit_all_small : (ns : Nodes) (c : ℕ) (b : Bundle) → SmallNodes ns → Word c → SmallBundle b → Longer (visit_all ns c b).bundle end
-        → SmallVisits (visit_all ns c b)
-    visit_all_small nil c b h hc small e = record { bundle = small; results = tt; steps = tt }
-    visit_all_small (cons τ ns) c b h hc small e =
-        let v : Visit = visit τ c b in
-        let sv : SmallVisit v = visit_small τ c b h.0 hc small (longer_trans (visit_all_longer ns c v.bundle) e) in
-        let ss : SmallVisits (visit_all ns c v.bundle) = visit_all_small ns c v.bundle h.1 hc sv.bundle e in
-        record { bundle = ss.bundle; results = (sv.result, ss.results); steps = (sv.step, ss.steps) }
+      pub visit_all_small : (ns : Nodes) (c : ℕ) (b : Bundle) → SmallNodes ns → Word c → SmallBundle b → Longer (visit_all k ns c b).bundle end
+          → SmallVisits (visit_all k ns c b)
+      visit_all_small nil c b h hc small e = record { bundle = small; results = tt; steps = tt }
+      visit_all_small (cons τ ns) c b h hc small e =
+          let v : Visit = visit k τ c b in
+          let sv : SmallVisit v = visit_small τ c b h.0 hc small (longer_trans (visit_all_longer k ns c v.bundle) e) in
+          let ss : SmallVisits (visit_all k ns c v.bundle) = visit_all_small ns c v.bundle h.1 hc sv.bundle e in
+          record { bundle = ss.bundle; results = (sv.result, ss.results); steps = (sv.step, ss.steps) }
 
 -- THE LAW
-pub expanded_small : (b : Bundle) → SmallBundle b → Within (own_counts (visited b).bundle) → SmallBundle (expanded b)
+pub expanded_small : (names : Names) (b : Bundle) → SmallBundle b → Within (own_counts (visited names b).bundle) → SmallBundle (expanded names b)
 unfolding visited expanded
-expanded_small b small fit =
-    let e : Longer b (visited b).bundle = visit_longer (node_at b b.left) 0 b in
+expanded_small names b small fit =
+    let e : Longer b (visited names b).bundle = visit_longer (keeps names b) (node_at b b.left) 0 b in
     let begins : Within (own_counts b) = record {
       symbols = omega (arith, fit.symbols, (sizes e).symbols);
       variables = omega (arith, fit.variables, (sizes e).variables);
@@ -412,8 +430,8 @@ expanded_small b small fit =
       contexts = omega (arith, fit.contexts, (sizes e).contexts);
       steps = omega (arith, fit.steps, (sizes e).steps);
     } in
-    let v : SmallVisit (visited b) =
-    visit_small fit (node_at b b.left) 0 b (node_small b small begins b.left) (omega arith) small (longer_refl (visited b).bundle) in
+    let v : SmallVisit (visited names b) =
+    visit_small fit (keeps names b) (node_at b b.left) 0 b (node_small b small begins b.left) (omega arith) small (longer_refl (visited names b).bundle) in
     record {
       version = v.bundle.version;
       symbols = v.bundle.symbols;

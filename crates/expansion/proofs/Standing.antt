@@ -2,7 +2,7 @@
 --     StandsAs, Stands, Stand              the numbers of a node are terms, each with the tree that the node shows; its binders are the job's
 --     stands_term, stand_terms, stands_kept, stand_kept     they are terms, in longer bundles too
 --     application_sorts, binder_sorts, let_lists     what a well-formed bundle says of a term, from its tree
---     node_here_lem                            the node of a term, by its record
+--     node_here_lem, node_made             the node of a term, by its record
 --     standing                             THE LAW: the node of a term stands for it
 use mathlib.Core.Path.{◌≡◌, refl, sym, ap, ap₂, ◌∙◌, subst}
 use Prim.Native.Nat.{ℕ, zero, suc, ◌+◌, ◌≤◌, ◌<◌}
@@ -184,6 +184,10 @@ module _ (b : Bundle) where
           numbered_at 1 b.terms i n.1
           ∙ ap (λ (m : ℕ). record { place = m; term = get_or b.terms i no_term }) (let e : 1 + i ≡ suc i = omega arith in e)
 
+  pub node_made : (t : ℕ) → Number (length b.terms) t → TermFormed b t → (r : TermRecord) → term_of b t ≡ r
+      → node_at b t ≡ node_by b (node_at b) (record { place = t; term = r })
+  node_made t n h r e = node_here_lem t n (formed_before b t h) ∙ ap (λ (x : TermRecord). node_by b (node_at b) (record { place = t; term = x })) e
+
 -- ---- the node of a term of a well-formed bundle stands for it
 
 module _ (b : Bundle) (formed : TablesFormed b) where
@@ -204,7 +208,7 @@ module _ (b : Bundle) (formed : TablesFormed b) where
   standing_by t n ih h = go h
     where
       made : (r : TermRecord) → term_of b t ≡ r → node_at b t ≡ node_by b (node_at b) (record { place = t; term = r })
-      made r e = node_here_lem b t n (formed_before b t h) ∙ ap (λ (x : TermRecord). node_by b (node_at b) (record { place = t; term = x })) e
+      made = node_made b t n h
 
       from : (τ : Node) → node_at b t ≡ τ → number τ ≡ t → Stands (length b.variables) b τ → Standing t
       from τ e is stands = subst (λ (τ : Node). (number τ ≡ t) × Stands (length b.variables) b τ) (sym e) (is, stands)

@@ -5,7 +5,7 @@
 --                                          image; new variables are never replaced
 --     results_settled                      so everything put into a replacing context is settled
 --     ByItself, not_listed, not_new        lists that replace a variable by itself, if at all: it is not in the list; it is new
---     new_not_free, new_not_in_image       a new variable is in no old term, and in no image made before it
+--     new_not_free                         a new variable is in no old term
 --     fixing_says, replacing_says          what the rules say of a context just appended, in every longer bundle
 --     Opens                                what holds of it
 --     fixing_opens, replacing_opens        the two kinds of contexts
@@ -111,18 +111,9 @@ module _ {V₀ : ℕ} {N : ℕ → Type 0} {b : Bundle} {c : ℕ} (s : Substitut
 -- ---- a new variable
 
 module _ (b : Bundle) (formed : TablesFormed b) where
-  -- is in no old term,
+  -- is in no old term
   pub new_not_free : (t : ℕ) → Free (new_variable b) (tree b t) → ⊥
   new_not_free t f = let n = free_number b formed t (new_variable b) f in omega (arith, n.1)
-
-  -- and in no image made before it
-  pub new_not_in_image : (c x : ℕ) → x ≤ length b.variables → Free (new_variable b) (image_tree b c x) → ⊥
-  unfolding image_tree tree_of_image
-  new_not_in_image c x h = go (image b c x)
-    where
-      go : (i : Image) → Free (new_variable b) (tree_of_image b i x) → ⊥
-      go Own e = omega arith
-      go (Gives t) f = new_not_free t f
 
 -- ---- what two lists give
 

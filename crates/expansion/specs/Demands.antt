@@ -1,4 +1,4 @@
--- THE DEMANDS on the writer, as types. proofs/ has each under the same name.
+-- THE DEMANDS on the writer, as types, for either choice of names. proofs/ has each under the same name.
 use Rattle.std.specs.Prelude.{ℕ, ◌-◌, ◌*◌, ◌≤◌, ◌<◌, ◌≡◌, ◌↔◌, false, List, [], length, get_or, take, drop, replicate}
 use Rattle.bundle.specs.Limits.{limits, set_words, words_of, bytes_of, Within}
 use Rattle.bundle.specs.File.{counts_of, bundle_of, own_counts}
@@ -12,6 +12,7 @@ use Rattle.logic.specs.Longer.{Longer}
 use Rattle.judgement.specs.Answer.{Accepted}
 use Rattle.judgement.specs.Judge.{acceptance, judge}
 use Rattle.judgement.specs.Order.{FirstFailing}
+use Rattle.expansion.specs.declared.Names.{Names}
 use Rattle.expansion.specs.Answer.{Written, Refused}
 use Rattle.expansion.specs.Visit.{visited}
 use Rattle.expansion.specs.Expansion.{stack_words, Outcome, expansion}
@@ -34,9 +35,10 @@ pub record JobFormed (f : List ℕ) : Type 0 where
   pub right : (bundle_of f).right ≡ 0
   pub left : Number (length (bundle_of f).terms) (bundle_of f).left
 
--- Its derivation fits the limits if no section passes its limit with the old records and all that the visit to its left, in context 0, appends.
-abbrev pub Fits : List ℕ → Type 0
-Fits f = Within (own_counts (visited (bundle_of f)).bundle)
+-- Its derivation fits the limits, under a choice of names, if no section passes its limit with the old records and all that the visit to its left, in
+-- context 0, appends.
+abbrev pub Fits : Names → List ℕ → Type 0
+Fits names f = Within (own_counts (visited names (bundle_of f)).bundle)
 
 -- Areas are long enough if none is shorter than required.
 pub record LongEnough (out words sets : ℕ) : Type 0 where
@@ -48,14 +50,15 @@ pub record LongEnough (out words sets : ℕ) : Type 0 where
 -- document 01's order holds.
 abbrev pub RefusedJobExactly : Type 0
 RefusedJobExactly =
-    (f : List ℕ) (out words sets n i : ℕ) → ((expansion f out words sets).answer ≡ Refused n i) ↔ FirstFailing (all_job_checks f out words sets) n i
+    (names : Names) (f : List ℕ) (out words sets n i : ℕ)
+    → ((expansion names f out words sets).answer ≡ Refused n i) ↔ FirstFailing (all_job_checks names f out words sets) n i
 
 -- Demand 2, for the writer: a file is written exactly for well-formed closed jobs whose derivation fits, with long enough areas.
 abbrev pub WrittenExactly : Type 0
 WrittenExactly =
-    (f : List ℕ) (out words sets : ℕ)
-    → ((n : ℕ) × ((expansion f out words sets).answer ≡ Written n))
-    ↔ (JobFormed f × Closed (tree (bundle_of f) (bundle_of f).left) × Fits f × LongEnough out words sets)
+    (names : Names) (f : List ℕ) (out words sets : ℕ)
+    → ((n : ℕ) × ((expansion names f out words sets).answer ≡ Written n))
+    ↔ (JobFormed f × Closed (tree (bundle_of f) (bundle_of f).left) × Fits names f × LongEnough out words sets)
 
 -- What is left in areas of these lengths: scratch ends zero; where the job is refused, the output is zero too; bytes after the result, which is as
 -- long as the answer says, are zero.
@@ -66,7 +69,7 @@ pub record ZerosLeft (out words sets : ℕ) (o : Outcome) : Type 0 where
   pub written : (n : ℕ) → o.answer ≡ Written n → (n ≤ out) × (drop n o.out ≡ replicate (out - n) 0)
 
 abbrev pub AreasLeft : Type 0
-AreasLeft = (f : List ℕ) (out words sets : ℕ) → ZerosLeft out words sets (expansion f out words sets)
+AreasLeft = (names : Names) (f : List ℕ) (out words sets : ℕ) → ZerosLeft out words sets (expansion names f out words sets)
 
 -- What is to hold of the file g that is written for the job f:
 pub record WrittenWell (f g : List ℕ) : Type 0 where
@@ -82,9 +85,10 @@ pub record WrittenWell (f g : List ℕ) : Type 0 where
   -- and have equal value in every world.
   pub equal : EqualValues (bundle_of g) (bundle_of g).left (bundle_of g).right
 
--- Demand 3, its second half: for every well-formed closed job whose derivation fits, with long enough areas, a file is written, and it is as it is
--- to be. The writer's file is the output up to the answered length.
+-- Demand 3, its second half, under either choice: for every well-formed closed job whose derivation fits, with long enough areas, a file is written, and
+-- it is as it is to be. The writer's file is the output up to the answered length.
 abbrev pub ExpansionRight : Type 0
 ExpansionRight =
-    (f : List ℕ) (out words sets : ℕ) → Bytes f → JobFormed f → Closed (tree (bundle_of f) (bundle_of f).left) → Fits f → LongEnough out words sets
-    → (n : ℕ) × ((expansion f out words sets).answer ≡ Written n) × (WrittenWell f (take n (expansion f out words sets).out))
+    (names : Names) (f : List ℕ) (out words sets : ℕ) → Bytes f → JobFormed f → Closed (tree (bundle_of f) (bundle_of f).left) → Fits names f
+    → LongEnough out words sets
+    → (n : ℕ) × ((expansion names f out words sets).answer ≡ Written n) × (WrittenWell f (take n (expansion names f out words sets).out))

@@ -6,6 +6,8 @@ use Rattle.bundle.specs.Words.{encode}
 use Rattle.logic.specs.Lists.{All}
 use Rattle.judgement.specs.Answer.{Answer, Accepted, Refused}
 use Rattle.judgement.specs.Judge.{judge, area_after}
+use Rattle.expansion.specs.declared.Names.{Names}
+use Rattle.expansion.specs.declared.Names.TheVariants.{Keep, RenameAll}
 use Rattle.expansion.specs.Answer.{Answer as Reply, Written}
 use Rattle.expansion.specs.Expansion.{expansion}
 use Rattle.expansion.specs.ExampleFiles.{printed, bare, name_clash, fixed, unsettled, repeated, job, file, swapped}
@@ -15,18 +17,18 @@ use Rattle.expansion.specs.ExampleFiles.{printed, bare, name_clash, fixed, unset
 pub data Row : Type 0 where
   -- a file, by its bytes, and how many words are lent with it; the answer, and those words after the call
   check : (f : List ℕ) (lent : ℕ) → Answer → (area : List ℕ) → Row
-  -- a job, by its bytes, and how many bytes of output, words of 32 bits and words of 64 bits are lent with it; the answer, and those bytes and words
-  -- after the call
-  expand : (f : List ℕ) (out words sets : ℕ) → Reply → (out' words' sets' : List ℕ) → Row
+  -- a choice of names and a job, by its bytes, and how many bytes of output, words of 32 bits and words of 64 bits are lent with it; the answer, and
+  -- those bytes and words after the call
+  expand : (names : Names) (f : List ℕ) (out words sets : ℕ) → Reply → (out' words' sets' : List ℕ) → Row
 
 -- what the definitions give is what the row says
 abbrev pub Right : Row → Type 0
 Right (check f lent answer area) = (judge f lent ≡ answer) × (area_after f lent ≡ area)
-Right (expand f out words sets answer out' words' sets') =
-    ((expansion f out words sets).answer ≡ answer)
-    × ((expansion f out words sets).out ≡ out')
-    × ((expansion f out words sets).words ≡ words')
-    × ((expansion f out words sets).sets ≡ sets')
+Right (expand names f out words sets answer out' words' sets') =
+    ((expansion names f out words sets).answer ≡ answer)
+    × ((expansion names f out words sets).out ≡ out')
+    × ((expansion names f out words sets).words ≡ words')
+    × ((expansion names f out words sets).sets ≡ sets')
 
 -- free sets of four words each, one after another, with no variable above 64: the first word of each is given here, the others are zero
 unfoldable pub firsts : List ℕ → List ℕ
@@ -68,8 +70,10 @@ rows =
     ∷ refused (encode unsettled) 36 14 6
     -- 10. A let over x, x: 8.
     ∷ refused (encode repeated) 20 8 5
-    -- 11. The writer on let x≃a in p(x,x) with four terms, with areas of the least lengths: a file of 356 bytes, zeros after them, scratch ends zero.
-    ∷ expand (encode job) 58916 14729 4096 (Written 356) (encode file ++ replicate 58560 0) (replicate 14729 0) (replicate 4096 0)
+    -- 11. The writer on let x≃a in p(x,x) with four terms, with areas of the least lengths: a file of 356 bytes, zeros after them, scratch ends zero;
+    ∷ expand Keep (encode job) 58916 14729 4096 (Written 356) (encode file ++ replicate 58560 0) (replicate 14729 0) (replicate 4096 0)
+    -- the same where all names are to be new: no quantifier is here.
+    ∷ expand RenameAll (encode job) 58916 14729 4096 (Written 356) (encode file ++ replicate 58560 0) (replicate 14729 0) (replicate 4096 0)
     -- That file is accepted; right is term 5.
     ∷ accepted (encode file) 20 4 5 (firsts (1 ∷ 0 ∷ 1 ∷ 0 ∷ 0 ∷ []))
     -- 12. x and y fixed, then replaced by y and x together: REFL takes x to y,

@@ -1,4 +1,4 @@
--- The answer of the writer for every job and all lengths of the lent areas, and what is left there.
+-- The answer of the writer for every choice of names, every job and all lengths of the lent areas, and what is left there.
 use Rattle.std.specs.Prelude.{ℕ, zero, suc, ◌+◌, ◌-◌, ◌*◌, Bool, cond, not, List, [], ◌∷◌, ◌++◌, length, replicate, eqb, leb}
 use Rattle.bundle.specs.Bundle.{Bundle}
 use Rattle.bundle.specs.Lists.{numbers}
@@ -8,6 +8,7 @@ use Rattle.logic.specs.Tests.{Fault}
 use Rattle.logic.specs.Tests.{passed, up_to, Test, test, first_failing, fault, or_else, or_next}
 use Rattle.logic.specs.Free.{free_at}
 use Rattle.logic.specs.Checks.{tables_fault}
+use Rattle.expansion.specs.declared.Names.{Names}
 use Rattle.expansion.specs.Answer.{Answer, Written, Refused}
 use Rattle.expansion.specs.Visit.{visited, expanded}
 use Rattle.expansion.specs.File.{file_of}
@@ -41,21 +42,21 @@ left_is_term b = numbers (length b.terms) b.left
 abbrev pub rule_closed : Bundle → Bool
 rule_closed b = up_to (length b.variables) (λ x. not (free_at b b.left x))
 
--- 16 where a section would pass its limit
-abbrev pub derivation_fits : Bundle → Bool
-derivation_fits b = within_of (own_counts (visited b).bundle)
+-- 16 where a section would pass its limit, under this choice
+abbrev pub derivation_fits : Names → Bundle → Bool
+derivation_fits names b = within_of (own_counts (visited names b).bundle)
 
 -- those before the visit
 abbrev pub early_tests : Bundle → List Test
 early_tests b = test 18 (is_bare b) ∷ test 15 (left_is_term b) ∷ test 17 (rule_closed b) ∷ []
 
-abbrev pub job_tests : Bundle → List Test
-job_tests b = early_tests b ++ (test 16 (derivation_fits b) ∷ [])
+abbrev pub job_tests : Names → Bundle → List Test
+job_tests names b = early_tests b ++ (test 16 (derivation_fits names b) ∷ [])
 
-unfoldable pub job_fault : List ℕ → ℕ → ℕ → ℕ → Fault
+unfoldable pub job_fault : Names → List ℕ → ℕ → ℕ → ℕ → Fault
 unfolding tables_fault long_enough first_failing passed up_to free_at visited or_else bundle_of
-job_fault f out words sets =
-    or_next (tables_fault f (long_enough out words sets) 3) (or_else (first_failing (job_tests (bundle_of f))) 0 (fault 0 0))
+job_fault names f out words sets =
+    or_next (tables_fault f (long_enough out words sets) 3) (or_else (first_failing (job_tests names (bundle_of f))) 0 (fault 0 0))
 
 -- ---- what is left
 
@@ -79,12 +80,13 @@ abbrev pub refuses : ℕ → ℕ → ℕ → ℕ → ℕ → Outcome
 refuses n i out words sets = record { answer = Refused n i; out = replicate out 0; words = replicate words 0; sets = replicate sets 0 }
 
 -- by the fault's number
-unfoldable pub outcome_of : Bundle → Fault → ℕ → ℕ → ℕ → ℕ → Outcome
+unfoldable pub outcome_of : Names → Bundle → Fault → ℕ → ℕ → ℕ → ℕ → Outcome
 unfolding file_of expanded
-outcome_of b r zero out words sets = writes (expanded b) out words sets
-outcome_of b r (suc n) out words sets = refuses (suc n) r.«record» out words sets
+outcome_of names b r zero out words sets = writes (expanded names b) out words sets
+outcome_of names b r (suc n) out words sets = refuses (suc n) r.«record» out words sets
 
--- THE EXPANSION of the job f, where the lent areas have these lengths
-unfoldable pub expansion : List ℕ → ℕ → ℕ → ℕ → Outcome
+-- THE EXPANSION of the job f under a choice of names, where the lent areas have these lengths
+unfoldable pub expansion : Names → List ℕ → ℕ → ℕ → ℕ → Outcome
 unfolding outcome_of job_fault bundle_of
-expansion f out words sets = outcome_of (bundle_of f) (job_fault f out words sets) (job_fault f out words sets).number out words sets
+expansion names f out words sets =
+    outcome_of names (bundle_of f) (job_fault names f out words sets) (job_fault names f out words sets).number out words sets

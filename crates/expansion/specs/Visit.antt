@@ -1,5 +1,6 @@
--- THE VISITS, without limits. Old records stay, new ones are appended: every append in document 01's order.
-use Rattle.std.specs.Prelude.{ℕ, suc, List, [], ◌∷◌, ◌++◌, length}
+-- THE VISITS, without limits, under either choice of names. Old records stay, new ones are appended: every append in document 01's order, with Req 06's
+-- where a variable is kept.
+use Rattle.std.specs.Prelude.{ℕ, suc, Bool, true, false, List, [], ◌∷◌, ◌++◌, length}
 use Rattle.bundle.specs.Bundle.{Bundle, sort_of_variable}
 use Rattle.logic.specs.declared.Image.{Image}
 use Rattle.logic.specs.declared.Image.TheVariants.{Own, Gives}
@@ -9,6 +10,8 @@ use Rattle.logic.specs.Lookup.{seek, same_variable, same_application, same_binde
 use Rattle.logic.specs.Longer.{with_variables, with_contexts, with_steps, add_list, list_start, consecutive}
 use Rattle.expansion.specs.Nodes.{Node, Nodes, leaf, node, scope, block, nil, cons, node_at}
 use Rattle.expansion.specs.Placed.{PlacedTerm, place_variable, place_application, place_binder}
+use Rattle.expansion.specs.declared.Names.{Names}
+use Rattle.expansion.specs.Names.{keeps}
 
 -- ---- What a visit leaves: the bundle, the result's term, and the step that carries the visited term to it.
 
@@ -58,7 +61,7 @@ close_application c t f v =
     let p : PlacedTerm = place_application v.bundle f v.results in
     concluded p.bundle 2 c t p.term v.steps
 
--- ---- Quantifier: new variable of the same sort, its term, fixing context, replacing context, body, result, BIND.
+-- ---- Quantifier: the variable of its result, that one's term, fixing context, replacing context, body, result, BIND.
 
 -- the new variable is one more than all there are
 abbrev pub new_variable : Bundle → ℕ
@@ -67,6 +70,16 @@ new_variable b = suc (length b.variables)
 -- the new variable, and its term
 abbrev pub fresh : Bundle → ℕ → PlacedTerm
 fresh b x = place_variable (with_variables b (sort_of_variable b x ∷ [])) (new_variable b)
+
+-- A quantifier over x has for its result's variable x itself where that is kept, and else a new one of the same sort; and that one's term, which for x is
+-- looked up first.
+abbrev pub name_of : (kept : Bool) → Bundle → ℕ → ℕ
+name_of true b x = x
+name_of false b x = new_variable b
+
+abbrev pub named : (kept : Bool) → Bundle → ℕ → PlacedTerm
+named true b x = place_variable b x
+named false b x = fresh b x
 
 -- y fixed, then x replaced by the term t, which is y
 abbrev pub renaming : Bundle → (x y t parent : ℕ) → OpenedContext
@@ -80,44 +93,46 @@ pub record OpenedBinder : Type 0 where
   pub context : ℕ
   pub variable : ℕ
 
-abbrev pub open_binder : Bundle → (x c : ℕ) → OpenedBinder
-open_binder b x c =
-    let o : OpenedContext = renaming (fresh b x).bundle x (new_variable b) (fresh b x).term c in
-    record { bundle = o.bundle; context = o.context; variable = new_variable b }
+abbrev pub open_binder : (kept : Bool) → Bundle → (x c : ℕ) → OpenedBinder
+open_binder kept b x c =
+    let p : PlacedTerm = named kept b x in
+    let o : OpenedContext = renaming p.bundle x (name_of kept b x) p.term c in
+    record { bundle = o.bundle; context = o.context; variable = name_of kept b x }
 
 abbrev pub close_binder : (c t : ℕ) → Binder → (y : ℕ) → Visit → Visit
 close_binder c t q y v =
     let p : PlacedTerm = place_binder v.bundle q y v.result in
     concluded p.bundle 4 c t p.term (v.step ∷ [])
 
--- ---- THE VISITS, in context c. Let: bound terms in order, replacing context on the let's own variable list, body, LET.
+-- ---- THE VISITS, in context c; k says which variables are kept. Let: bound terms in order, replacing context on the let's own variable list, body, LET.
 
-unfoldable mutual
-  unfolding seek same_variable same_application same_binder image consecutive
+module _ (k : ℕ → Bool) where
+  unfoldable mutual
+    unfolding seek same_variable same_application same_binder image consecutive
 
-  pub visit : Node → ℕ → Bundle → Visit
-  visit (leaf t x) c b = concluded b 1 c t (image_term (image b c x) t) []
-  visit (node t f ns) c b = close_application c t f (visit_all ns c b)
-  visit (scope t q x u) c b =
-      let o : OpenedBinder = open_binder b x c in
-      close_binder c t q o.variable (visit u o.context o.bundle)
-  visit (block t s vs ns u) c b =
-      let v : Visits = visit_all ns c b in
-      let o : OpenedContext = replacing v.bundle s c v.results in
-      let w : Visit = visit u o.context o.bundle in
-      concluded w.bundle 5 c t w.result (v.steps ++ (w.step ∷ []))
+    pub visit : Node → ℕ → Bundle → Visit
+    visit (leaf t x) c b = concluded b 1 c t (image_term (image b c x) t) []
+    visit (node t f ns) c b = close_application c t f (visit_all ns c b)
+    visit (scope t q x u) c b =
+        let o : OpenedBinder = open_binder (k x) b x c in
+        close_binder c t q o.variable (visit u o.context o.bundle)
+    visit (block t s vs ns u) c b =
+        let v : Visits = visit_all ns c b in
+        let o : OpenedContext = replacing v.bundle s c v.results in
+        let w : Visit = visit u o.context o.bundle in
+        concluded w.bundle 5 c t w.result (v.steps ++ (w.step ∷ []))
 
-  pub visit_all : Nodes → ℕ → Bundle → Visits
-  visit_all nil c b = record { bundle = b; results = []; steps = [] }
-  visit_all (cons τ ns) c b =
-      let v : Visit = visit τ c b in
-      let vs : Visits = visit_all ns c v.bundle in
-      record { bundle = vs.bundle; results = v.result ∷ vs.results; steps = v.step ∷ vs.steps }
+    pub visit_all : Nodes → ℕ → Bundle → Visits
+    visit_all nil c b = record { bundle = b; results = []; steps = [] }
+    visit_all (cons τ ns) c b =
+        let v : Visit = visit τ c b in
+        let vs : Visits = visit_all ns c v.bundle in
+        record { bundle = vs.bundle; results = v.result ∷ vs.results; steps = v.step ∷ vs.steps }
 
--- A job's rule is its left: the visit to it in context 0.
-unfoldable pub visited : Bundle → Visit
-unfolding visit node_at
-visited b = visit (node_at b b.left) 0 b
+-- A job's rule is its left: the visit to it in context 0. What is kept is decided from the job, before.
+unfoldable pub visited : Names → Bundle → Visit
+unfolding visit node_at keeps
+visited names b = visit (keeps names b) (node_at b b.left) 0 b
 
 -- a bundle with a claim
 abbrev pub claiming : Bundle → (left right : ℕ) → Bundle
@@ -134,6 +149,6 @@ claiming b l r = record {
 }
 
 -- the bundle that is written: all that the visit leaves, and the claim that the rule is its result
-unfoldable pub expanded : Bundle → Bundle
+unfoldable pub expanded : Names → Bundle → Bundle
 unfolding visited
-expanded b = claiming (visited b).bundle b.left (visited b).result
+expanded names b = claiming (visited names b).bundle b.left (visited names b).result

@@ -11,8 +11,8 @@ checked_equal : CheckedEqual
 checked_equal file free a s e accepted = accepted_sound file _ s (sym e ∙ accepted)
 
 expanded_accepted : ExpandedAccepted
-expanded_accepted job out words sets out' words' sets' reply bytes formed closed fits long left =
-    let w = expansion_right job _ _ _ bytes formed closed fits long in
+expanded_accepted names job out words sets out' words' sets' reply bytes formed closed fits long left =
+    let w = expansion_right names job _ _ _ bytes formed closed fits long in
     let well : WrittenWell job (take w.0 out') = subst (λ (o : List _). WrittenWell job (take w.0 o)) (sym left.output) w.2 in
     (w.0, left.answer ∙ w.1, (λ free a room e. e ∙ well.accepted _ room), well)
 

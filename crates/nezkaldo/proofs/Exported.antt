@@ -4,11 +4,11 @@
 --     check_number                  what `nezkaldo_check` answers
 --     file_short                    a file that is written has at most 58,916 bytes
 --     written_word                  the number of a file that is written is its length
---     expand_number                 what `nezkaldo_expand` answers
+--     expand_number                 what the writer's calls answer
 --     read_number                   what `nezkaldo_read` answers
 --     expand_fits, read_fits        both answers fit a word of 64 bits
---     leaves_exactly                what it leaves is said by the four clauses of its contract, and by no more
---     exported_zeros, exported_read_zeros     what both leave in the areas besides the file or job: zeros
+--     leaves_exactly                what such a call leaves is said by the four clauses of its contract, and by no more
+--     exported_zeros, exported_read_zeros     what they leave in the areas besides the file or job: zeros
 --     exported_closed               an accepted claim is closed
 --     exported_demand_three         demand 3 over these numbers
 --     exported_read_expanded        the three calls in a row
@@ -27,6 +27,7 @@ use Rattle.judgement.specs.Judge.{judge}
 use Rattle.judgement.proofs.Sizes.{last_number, refused_small}
 use Rattle.judgement.proofs.Accepting.{refused_where}
 use Rattle.judgement.proofs.Demands.{refused_exactly, accepted_exactly, accepted_sound, accepted_closed, accepted_pairs}
+use Rattle.expansion.specs.declared.Names.{Names}
 use Rattle.expansion.specs.Answer.{Answer as Reply, Written, Refused as Denied}
 use Rattle.expansion.specs.Visit.{expanded}
 use Rattle.expansion.specs.File.{file_of}
@@ -100,14 +101,14 @@ check_number f m = go (judge f m) refl
 -- ---- expand
 
 -- It is as long as in the shortest output that is long enough.
-file_short : (f : List ℕ) (out words sets n : ℕ) → (expansion f out words sets).answer ≡ Written n → n ≤ bytes_of limits
+file_short : (names : Names) (f : List ℕ) (out words sets n : ℕ) → (expansion names f out words sets).answer ≡ Written n → n ≤ bytes_of limits
 unfolding header_words
-file_short f out words sets n e =
-    let (formed, closed, fits, long) = (written_exactly f out words sets).0 (n, e) in
+file_short names f out words sets n e =
+    let (formed, closed, fits, long) = (written_exactly names f out words sets).0 (n, e) in
     let shortest : LongEnough (bytes_of limits) words sets = record { output = omega arith; scratch = long.scratch; stack = long.stack } in
-    let room = job_room f (bytes_of limits) words sets ((job_exactly f (bytes_of limits) words sets).1 (formed, closed, fits, shortest)) in
-    let told = job_answer f out words sets ((job_exactly f out words sets).1 (formed, closed, fits, long)) in
-    let same : n ≡ length (file_of (expanded (bundle_of f))) = cc in
+    let room = job_room names f (bytes_of limits) words sets ((job_exactly names f (bytes_of limits) words sets).1 (formed, closed, fits, shortest)) in
+    let told = job_answer names f out words sets ((job_exactly names f out words sets).1 (formed, closed, fits, long)) in
+    let same : n ≡ length (file_of (expanded names (bundle_of f))) = cc in
     omega arith
 
 written_word : (n : ℕ) → packed_reply (Written n) ≡ n
@@ -116,37 +117,37 @@ written_word n = refl
 
 pub expand_number : ExpandNumber
 unfolding packed_reply header_words
-expand_number f out words sets = go (expansion f out words sets).answer refl
+expand_number names f out words sets = go (expansion names f out words sets).answer refl
   where
-    go : (a : Reply) → (expansion f out words sets).answer ≡ a → ExpandSays f out words sets (packed_reply a)
+    go : (a : Reply) → (expansion names f out words sets).answer ≡ a → ExpandSays names f out words sets (packed_reply a)
     go (Written p) e =
-        let short : p ≤ bytes_of limits = file_short f out words sets p e in
+        let short : p ≤ bytes_of limits = file_short names f out words sets p e in
         record {
-          written = (λ l. (written_exactly f out words sets).0 (p, e), λ h. omega (arith, written_word p));
+          written = (λ l. (written_exactly names f out words sets).0 (p, e), λ h. omega (arith, written_word p));
           long = λ l. (e, short);
           refused = λ n i. (
             λ t. absurd (omega (arith, t.number, t.sum)),
             λ h.
-                let q : (expansion f out words sets).answer ≡ Denied n i = (refused_job_exactly f out words sets n i).1 h in
+                let q : (expansion names f out words sets).answer ≡ Denied n i = (refused_job_exactly names f out words sets n i).1 h in
                 let z : ◌≡◌ {A = ℕ} 0 1 = cc in
                 omega arith,
           );
         }
     go (Denied k j) e =
-        let some : 1 ≤ k = ((refused_job_where f out words sets k j).0 e).0 in
-        let small = refused_job_small f out words sets k j e in
+        let some : 1 ≤ k = ((refused_job_where names f out words sets k j).0 e).0 in
+        let small = refused_job_small names f out words sets k j e in
         record {
           written = (
             λ l. absurd (omega arith),
             λ h.
-                let (n, q) = (written_exactly f out words sets).1 h in
+                let (n, q) = (written_exactly names f out words sets).1 h in
                 let z : ◌≡◌ {A = ℕ} 0 1 = cc in
                 omega arith,
           );
           long = λ l. absurd (omega arith);
           refused = λ n i. (
-            λ t. let same = (tells_exactly k j n i some (omega arith)).0 t in (refused_job_exactly f out words sets n i).0 (cc),
-            λ h. let q = (refused_job_exactly f out words sets n i).1 h in (tells_exactly k j n i some (omega arith)).1 (cc, cc),
+            λ t. let same = (tells_exactly k j n i some (omega arith)).0 t in (refused_job_exactly names f out words sets n i).0 (cc),
+            λ h. let q = (refused_job_exactly names f out words sets n i).1 h in (tells_exactly k j n i some (omega arith)).1 (cc, cc),
           );
         }
 
@@ -197,11 +198,11 @@ unfolding packed_reply header_words
 fits_word (Written n) short small = omega (arith, short n refl, written_word n)
 fits_word (Denied n i) short small = omega (arith, (small n i refl).0, (small n i refl).1)
 
-pub expand_fits : (f : List ℕ) (out words sets : ℕ) → packed_reply (expansion f out words sets).answer ≤ 18446744073709551615
+pub expand_fits : (names : Names) (f : List ℕ) (out words sets : ℕ) → packed_reply (expansion names f out words sets).answer ≤ 18446744073709551615
 unfolding header_words
-expand_fits f out words sets =
-    fits_word (expansion f out words sets).answer (λ n e. omega (arith, file_short f out words sets n e))
-    (λ n i e. let s = refused_job_small f out words sets n i e in (omega (arith, s.0), omega (arith, s.1)))
+expand_fits names f out words sets =
+    fits_word (expansion names f out words sets).answer (λ n e. omega (arith, file_short names f out words sets n e))
+    (λ n i e. let s = refused_job_small names f out words sets n i e in (omega (arith, s.0), omega (arith, s.1)))
 
 -- a text is shorter than 2^63 bytes
 pub read_fits : (f text : List ℕ) (out words sets : ℕ) → length text ≤ 9223372036854775807
@@ -246,9 +247,9 @@ zeros_by o out words sets out' words' sets' r zeros short some left = go o.answe
 
 pub exported_zeros : ExportedZeros
 unfolding header_words
-exported_zeros job out words sets out' words' sets' r =
-    zeros_by (expansion job (length out) (length words) (length sets)) out words sets out' words' sets' r (areas_left job _ _ _)
-    (λ n e. omega (arith, file_short job _ _ _ n e)) (λ n i e. ((refused_job_where job _ _ _ n i).0 e).0)
+exported_zeros names job out words sets out' words' sets' r =
+    zeros_by (expansion names job (length out) (length words) (length sets)) out words sets out' words' sets' r (areas_left names job _ _ _)
+    (λ n e. omega (arith, file_short names job _ _ _ n e)) (λ n i e. ((refused_job_where names job _ _ _ n i).0 e).0)
 
 pub exported_read_zeros : ExportedReadZeros
 unfolding header_words
@@ -273,9 +274,9 @@ accepted_low f m s a q e = let is : a ≡ s.pairs = e ∙ ap packed q in omega (
 
 exported_accepted : ExportedAccepted
 unfolding packed packed_reply
-exported_accepted job out words sets out' words' sets' r bytes formed closed fits long left =
-    let w = expansion_right job _ _ _ bytes formed closed fits long in
-    let says : ExpandSays job (length out) (length words) (length sets) r = rw left.answer (expand_number job _ _ _) in
+exported_accepted names job out words sets out' words' sets' r bytes formed closed fits long left =
+    let w = expansion_right names job _ _ _ bytes formed closed fits long in
+    let says : ExpandSays names job (length out) (length words) (length sets) r = rw left.answer (expand_number names job _ _ _) in
     let same : r ≡ w.0 = left.answer ∙ ap packed_reply w.1 in
     let well : WrittenWell job (take r out') = rw (same, left.output) w.2 in
     (says.written.1 (formed, closed, fits, long), λ free a room e. accepted_low _ _ _ a (well.accepted _ room) e, well)
@@ -307,10 +308,10 @@ exported_read_expanded f text out words sets out₁ words₁ sets₁ r bytes lef
       φ,
       spells,
       subst (ReadWell f φ) (sym is) well,
-      λ out₂ words₂ sets₂ out₃ words₃ sets₃ q closed fits long after.
-          let w = read_expanded f text _ _ _ r bytes answers φ spells closed job is fits (length out₂) (length words₂) (length sets₂) long in
+      λ names out₂ words₂ sets₂ out₃ words₃ sets₃ q closed fits long after.
+          let w = read_expanded names f text _ _ _ r bytes answers φ spells closed job is fits (length out₂) (length words₂) (length sets₂) long in
           let same : q ≡ w.0 = after.answer ∙ ap packed_reply w.1 in
           let right : RuleExpanded f φ (take q out₃) = rw (same, after.output) w.2 in
-          let small : q < 4294967296 = omega (arith, same, file_short job _ _ _ w.0 w.1) in
+          let small : q < 4294967296 = omega (arith, same, file_short names job _ _ _ w.0 w.1) in
           (small, (λ free a room e. accepted_low _ _ _ a (right.accepted _ room) e), right),
     )

@@ -1,5 +1,6 @@
--- WHAT THE NUMBERS SAY that `nezkaldo_check`, `nezkaldo_expand` and `nezkaldo_read` answer (include/nezkaldo.h), as types. proofs/ has each under the
--- same name. 4,294,967,296 is 2^32.
+-- WHAT THE NUMBERS SAY that `nezkaldo_check`, `nezkaldo_expand`, `nezkaldo_expand_renamed` and `nezkaldo_read` answer (include/nezkaldo.h), as types.
+-- proofs/ has each under the same name. 4,294,967,296 is 2^32.
+-- Each statement on the writer is for either choice of names: at `Keep` it is on `nezkaldo_expand`, at `RenameAll` on `nezkaldo_expand_renamed`.
 use Rattle.std.specs.Prelude.{ℕ, ◌+◌, ◌-◌, ◌*◌, ◌≤◌, ◌<◌, ◌≡◌, ◌↔◌, ◌⊎◌, List, length, take, drop, replicate}
 use Rattle.bundle.specs.Limits.{limits, set_words, bytes_of}
 use Rattle.bundle.specs.File.{counts_of, bundle_of}
@@ -11,6 +12,7 @@ use Rattle.logic.specs.Statements.{LastWalked}
 use Rattle.judgement.specs.Judge.{judge}
 use Rattle.judgement.specs.Order.{all_checks, FirstFailing}
 use Rattle.judgement.specs.Demands.{Acceptable}
+use Rattle.expansion.specs.declared.Names.{Names}
 use Rattle.expansion.specs.Answer.{Written}
 use Rattle.expansion.specs.Expansion.{Outcome, expansion}
 use Rattle.expansion.specs.JobOrder.{all_job_checks}
@@ -52,19 +54,21 @@ pub record CheckSays (f : List ℕ) (m p : ℕ) : Type 0 where
 abbrev pub CheckNumber : Type 0
 CheckNumber = (f : List ℕ) (m : ℕ) → CheckSays f m (packed (judge f m))
 
--- ---- what `nezkaldo_expand` answers to the job f where the lent areas have these lengths
+-- ---- what the writer's calls answer to the job f where the lent areas have these lengths: `nezkaldo_expand` for `Keep`, `nezkaldo_expand_renamed` for
+-- `RenameAll`
 
 -- An accepted answer is the length.
-pub record ExpandSays (f : List ℕ) (out words sets p : ℕ) : Type 0 where
+pub record ExpandSays (names : Names) (f : List ℕ) (out words sets p : ℕ) : Type 0 where
   -- less than 2^32 exactly for well-formed closed jobs whose derivation fits, with long enough areas;
-  pub written : (p < 4294967296) ↔ (JobFormed f × Closed (tree (bundle_of f) (bundle_of f).left) × Fits f × LongEnough out words sets)
+  pub written : (p < 4294967296) ↔ (JobFormed f × Closed (tree (bundle_of f) (bundle_of f).left) × Fits names f × LongEnough out words sets)
   -- then a file is written, and the answer is its length, at most 58,916;
-  pub long : p < 4294967296 → ((expansion f out words sets).answer ≡ Written p) × (p ≤ bytes_of limits)
+  pub long : p < 4294967296 → ((expansion names f out words sets).answer ≡ Written p) × (p ≤ bytes_of limits)
   -- any other answer tells of the number and record of the first check of document 01 that fails
-  pub refused : (n i : ℕ) → Tells p n i ↔ FirstFailing (all_job_checks f out words sets) n i
+  pub refused : (n i : ℕ) → Tells p n i ↔ FirstFailing (all_job_checks names f out words sets) n i
 
 abbrev pub ExpandNumber : Type 0
-ExpandNumber = (f : List ℕ) (out words sets : ℕ) → ExpandSays f out words sets (packed_reply (expansion f out words sets).answer)
+ExpandNumber =
+    (names : Names) (f : List ℕ) (out words sets : ℕ) → ExpandSays names f out words sets (packed_reply (expansion names f out words sets).answer)
 
 -- ---- what `nezkaldo_read` answers to a text beside the declarations f, where the lent areas have these lengths
 
@@ -88,9 +92,10 @@ ReadNumber =
     (f text : List ℕ) (out words sets : ℕ) → length text < 4294967296
     → ReadSays f text out words sets (packed_reply (reading f text out words sets).answer)
 
--- ---- what `nezkaldo_expand` and `nezkaldo_read` leave
+-- ---- what the writer's calls and `nezkaldo_read` leave
 
--- the four clauses of its contract (src/lib.rt): the answer, and every byte and word of the areas, are those of the outcome
+-- The four clauses of such a call's contract (src/lib.rt): the answer, and every byte and word of the areas, are those of the outcome. So `nezkaldo_expand`'s
+-- clauses are `Leaves (expansion Keep …)`, `nezkaldo_expand_renamed`'s `Leaves (expansion RenameAll …)` and `nezkaldo_read`'s `Leaves (reading …)`.
 pub record Leaves (o : Outcome) (r : ℕ) (out words sets : List ℕ) : Type 0 where
   pub answer : r ≡ packed_reply o.answer
   pub output : out ≡ o.out
@@ -112,8 +117,8 @@ pub record Zeros (out words sets out' words' sets' : List ℕ) (r : ℕ) : Type 
 
 abbrev pub ExportedZeros : Type 0
 ExportedZeros =
-    (job out words sets out' words' sets' : List ℕ) (r : ℕ)
-    → Leaves (expansion job (length out) (length words) (length sets)) r out' words' sets' → Zeros out words sets out' words' sets' r
+    (names : Names) (job out words sets out' words' sets' : List ℕ) (r : ℕ)
+    → Leaves (expansion names job (length out) (length words) (length sets)) r out' words' sets' → Zeros out words sets out' words' sets' r
 
 abbrev pub ExportedReadZeros : Type 0
 ExportedReadZeros =
@@ -135,14 +140,15 @@ ExportedClosed =
     (file free : List ℕ) (r : ℕ) → r ≡ packed (judge file (length free)) → r < 4294967296
     → Closed (tree (bundle_of file) (bundle_of file).left) × Closed (tree (bundle_of file) (bundle_of file).right)
 
--- For every well-formed closed job whose derivation fits, with long enough areas, whatever stood in them (out, words, sets): if `nezkaldo_expand`
--- answers `r` and leaves out', words' and sets', then r is less than 2^32, `nezkaldo_check` accepts the first r bytes of out' with an area for
--- their T: its answer is less than 2^32; and they are as they are to be: left is the rule, right holds no let, both have equal value in every world.
+-- For either choice of names and every well-formed closed job whose derivation fits, with long enough areas, whatever stood in them (out, words, sets):
+-- if the call of this choice, `nezkaldo_expand` for `Keep` or `nezkaldo_expand_renamed` for `RenameAll`, answers `r` and leaves out', words' and sets',
+-- then r is less than 2^32, `nezkaldo_check` accepts the first r bytes of out' with an area for their T: its answer is less than 2^32; and they are as
+-- they are to be: left is the rule, right holds no let, both have equal value in every world.
 abbrev pub ExportedAccepted : Type 0
 ExportedAccepted =
-    (job out words sets out' words' sets' : List ℕ) (r : ℕ)
-    → Bytes job → JobFormed job → Closed (tree (bundle_of job) (bundle_of job).left) → Fits job → LongEnough (length out) (length words) (length sets)
-    → Leaves (expansion job (length out) (length words) (length sets)) r out' words' sets'
+    (names : Names) (job out words sets out' words' sets' : List ℕ) (r : ℕ)
+    → Bytes job → JobFormed job → Closed (tree (bundle_of job) (bundle_of job).left) → Fits names job → LongEnough (length out) (length words) (length sets)
+    → Leaves (expansion names job (length out) (length words) (length sets)) r out' words' sets'
     → (r < 4294967296)
     × ((free : List ℕ) (a : ℕ) → set_words * (counts_of (take r out')).terms ≤ length free → a ≡ packed (judge (take r out') (length free)) → a < 4294967296)
     × WrittenWell job (take r out')
@@ -153,9 +159,10 @@ ExportedDemandThree = ExportedEqual × ExportedAccepted
 -- ---- THE THREE CALLS IN A ROW
 
 -- If `nezkaldo_read` answers r, less than 2^32, to a text beside declarations, then the text spells one formula φ, and the first r bytes g of the output
--- are the job of it. Where φ is closed and the derivation of g fits: if `nezkaldo_expand` answers q to g, with long enough areas, whatever stood in
--- them, then q is less than 2^32, `nezkaldo_check` answers less than 2^32 to the first q bytes of its output with an area for their T, and they are as they are to
--- be: left is the formula, right holds no let, both have equal value in every world.
+-- are the job of it. Where φ is closed and, for a choice of names, the derivation of g fits: if the writer's call of this choice (`nezkaldo_expand` for
+-- `Keep`, `nezkaldo_expand_renamed` for `RenameAll`) answers q to g, with long enough areas, whatever stood in them, then q is less than 2^32,
+-- `nezkaldo_check` answers less than 2^32 to the first q bytes of its output with an area for their T, and they are as they are to be: left is the
+-- formula, right holds no let, both have equal value in every world.
 abbrev pub ExportedReadExpanded : Type 0
 ExportedReadExpanded =
     (declarations text out words sets out₁ words₁ sets₁ : List ℕ) (r : ℕ)
@@ -164,9 +171,9 @@ ExportedReadExpanded =
     → (φ : Formula)
     × ReadAs (bundle_of declarations) text φ
     × ReadWell declarations φ (take r out₁)
-    × ((out₂ words₂ sets₂ out₃ words₃ sets₃ : List ℕ) (q : ℕ)
-    → Closed (plain (bundle_of declarations) φ) → Fits (take r out₁) → LongEnough (length out₂) (length words₂) (length sets₂)
-    → Leaves (expansion (take r out₁) (length out₂) (length words₂) (length sets₂)) q out₃ words₃ sets₃
+    × ((names : Names) (out₂ words₂ sets₂ out₃ words₃ sets₃ : List ℕ) (q : ℕ)
+    → Closed (plain (bundle_of declarations) φ) → Fits names (take r out₁) → LongEnough (length out₂) (length words₂) (length sets₂)
+    → Leaves (expansion names (take r out₁) (length out₂) (length words₂) (length sets₂)) q out₃ words₃ sets₃
     → (q < 4294967296)
     × ((free : List ℕ) (a : ℕ) → set_words * (counts_of (take q out₃)).terms ≤ length free → a ≡ packed (judge (take q out₃) (length free)) → a < 4294967296)
     × RuleExpanded declarations φ (take q out₃))

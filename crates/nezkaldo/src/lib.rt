@@ -4,11 +4,13 @@
 
 ghost use Rattle.std.specs.Prelude.{◌≡◌, ◌+◌, ◌*◌, ◌≤◌, length};
 ghost use Rattle.judgement.specs.Judge.{judge, area_after};
+ghost use Rattle.expansion.specs.declared.Names.TheVariants.{Keep, RenameAll};
 ghost use Rattle.expansion.specs.Answer.{answer_in};
 ghost use Rattle.expansion.specs.Expansion.{expansion};
 ghost use Rattle.reading.specs.Reading.{reading};
 ghost use Rattle.nezkaldo.specs.Packed.{packed, packed_reply};
 
+use expansion::Names;
 use logic::checks::Failure;
 
 // Number and record in one word.
@@ -44,17 +46,38 @@ fn reply_number(reply: Result<usize, Failure>) -> u64
 }
 
 // Expands the lets of a job's rule: the file's length where it is written at the start of the output, else number · 2^32 + record of the first check that
-// fails. The scratch ends zero, and so do the bytes after the file; where the job is refused, all of the output.
+// fails. The scratch ends zero, and so do the bytes after the file; where the job is refused, all of the output. A quantifier's variable is kept where one
+// term record of the job alone binds it and no let lists it; else the quantifier gets a new one.
 pub fn nezkaldo_expand(job: &[u8], out: &mut [u8], words: &mut [u32], sets: &mut [u64]) -> u64
     ensures value { result ≡ packed_reply
-        (expansion job.now (length out.old) (length words.old) (length sets.old)).answer }
-    ensures out_after { out.new ≡ (expansion job.now (length out.old) (length words.old) (length sets.old)).out }
-    ensures words_after { words.new ≡ (expansion job.now (length out.old) (length words.old)
+        (expansion Keep job.now (length out.old) (length words.old) (length sets.old)).answer }
+    ensures out_after { out.new ≡ (expansion Keep job.now (length out.old) (length words.old) (length sets.old)).out }
+    ensures words_after { words.new ≡ (expansion Keep job.now (length out.old) (length words.old)
         (length sets.old)).words }
-    ensures sets_after { sets.new ≡ (expansion job.now (length out.old) (length words.old)
+    ensures sets_after { sets.new ≡ (expansion Keep job.now (length out.old) (length words.old)
         (length sets.old)).sets }
 {
-    let reply = writer::expand(job, out, words, sets);
+    let reply = writer::expand(job, Names::Keep, out, words, sets);
+    reply_number(reply)
+}
+
+// The same with every quantifier renamed: each gets a new variable.
+pub fn nezkaldo_expand_renamed(
+    job: &[u8],
+    out: &mut [u8],
+    words: &mut [u32],
+    sets: &mut [u64],
+) -> u64
+    ensures value { result ≡ packed_reply
+        (expansion RenameAll job.now (length out.old) (length words.old) (length sets.old)).answer }
+    ensures out_after { out.new ≡ (expansion RenameAll job.now (length out.old) (length words.old)
+        (length sets.old)).out }
+    ensures words_after { words.new ≡ (expansion RenameAll job.now (length out.old) (length words.old)
+        (length sets.old)).words }
+    ensures sets_after { sets.new ≡ (expansion RenameAll job.now (length out.old) (length words.old)
+        (length sets.old)).sets }
+{
+    let reply = writer::expand(job, Names::RenameAll, out, words, sets);
     reply_number(reply)
 }
 

@@ -4,6 +4,7 @@
 
 ghost use Rattle.std.specs.Prelude.{◌≡◌, length};
 ghost use Rattle.judgement.specs.Judge.{judge, area_after};
+ghost use Rattle.expansion.specs.declared.Names.TheVariants.{Keep, RenameAll};
 ghost use Rattle.expansion.specs.Expansion.{expansion};
 ghost use Rattle.reading.specs.Reading.{reading};
 ghost use Rattle.nezkaldo.specs.Packed.{packed, packed_reply};
@@ -19,7 +20,8 @@ pub extern "C" fn nezkaldo_check(file: &[u8], free: &mut [u64]) -> u64
 }
 
 // Expands the lets of a job's rule: the file's length where it is written at the start of the output, else number · 2^32 + record of the first check that
-// fails. The scratch ends zero, and so do the bytes after the file; where the job is refused, all of the output.
+// fails. The scratch ends zero, and so do the bytes after the file; where the job is refused, all of the output. A quantifier's variable is kept where one
+// term record of the job alone binds it and no let lists it; else the quantifier gets a new one.
 #[unsafe(no_mangle)]
 pub extern "C" fn nezkaldo_expand(
     job: &[u8],
@@ -28,14 +30,34 @@ pub extern "C" fn nezkaldo_expand(
     sets: &mut [u64],
 ) -> u64
     ensures value { result ≡ packed_reply
-        (expansion job.now (length out.old) (length words.old) (length sets.old)).answer }
-    ensures out_after { out.new ≡ (expansion job.now (length out.old) (length words.old) (length sets.old)).out }
-    ensures words_after { words.new ≡ (expansion job.now (length out.old) (length words.old)
+        (expansion Keep job.now (length out.old) (length words.old) (length sets.old)).answer }
+    ensures out_after { out.new ≡ (expansion Keep job.now (length out.old) (length words.old) (length sets.old)).out }
+    ensures words_after { words.new ≡ (expansion Keep job.now (length out.old) (length words.old)
         (length sets.old)).words }
-    ensures sets_after { sets.new ≡ (expansion job.now (length out.old) (length words.old)
+    ensures sets_after { sets.new ≡ (expansion Keep job.now (length out.old) (length words.old)
         (length sets.old)).sets }
 {
     nezkaldo::nezkaldo_expand(job, out, words, sets)
+}
+
+// The same with every quantifier renamed: each gets a new variable.
+#[unsafe(no_mangle)]
+pub extern "C" fn nezkaldo_expand_renamed(
+    job: &[u8],
+    out: &mut [u8],
+    words: &mut [u32],
+    sets: &mut [u64],
+) -> u64
+    ensures value { result ≡ packed_reply
+        (expansion RenameAll job.now (length out.old) (length words.old) (length sets.old)).answer }
+    ensures out_after { out.new ≡ (expansion RenameAll job.now (length out.old) (length words.old)
+        (length sets.old)).out }
+    ensures words_after { words.new ≡ (expansion RenameAll job.now (length out.old) (length words.old)
+        (length sets.old)).words }
+    ensures sets_after { sets.new ≡ (expansion RenameAll job.now (length out.old) (length words.old)
+        (length sets.old)).sets }
+{
+    nezkaldo::nezkaldo_expand_renamed(job, out, words, sets)
 }
 
 // Reads a formula text beside declarations: the job's length where it is written at the start of the output, else number · 2^32 + record, or byte, of

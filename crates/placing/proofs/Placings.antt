@@ -2,9 +2,9 @@
 --     found_is, plain_is                         a term that the lookup found; one with no list that it did not find
 --     plain_filed, application_filed, let_filed     the digests of new terms
 --     list_word                                  where a list starts: a word
---     variable_asks, application_asks, binder_asks, let_asks, fresh_asks     the same of each term that is placed
+--     variable_asks, application_asks, binder_asks, let_asks, named_asks     the same of each term that is placed
 use mathlib.Core.Path.{◌≡◌, refl, sym, ap, subst, ◌∙◌}
-use mathlib.Core.Bool.{Bool}
+use mathlib.Core.Bool.{Bool, true, false}
 use mathlib.Core.List.{List, [], ◌∷◌}
 use Prim.Native.Nat.{ℕ, zero, suc, ◌≤◌}
 use native.Mathlib.Omega.{arith}
@@ -23,7 +23,7 @@ use Rattle.filing.specs.Filing.{mix_all, root_digest, let_digest, Digested, foun
 use Rattle.filing.proofs.Seeks.{seek_le}
 use Rattle.filing.proofs.FiledTerms.{plain_digested, application_digested, let_digested}
 use Rattle.expansion.specs.Placed.{placed, place_variable, place_application, place_binder, place_let}
-use Rattle.expansion.specs.Visit.{fresh, new_variable}
+use Rattle.expansion.specs.Visit.{new_variable, named}
 use Rattle.placing.specs.Outcomes.{PlaceOutcome, AddOutcome}
 use Rattle.placing.proofs.OutcomeFacts.{Done, outcome_done}
 
@@ -95,5 +95,7 @@ module _ (b : Bundle) {b2 : Bundle} {r : Option ℕ} {n : ℕ} where
   let_asks vs ts t =
       placed_word (add_list (add_list b vs) ts) refl (record { kind = 5; a = list_start b vs; b = list_start (add_list b vs) ts; c = t }) (same_let b vs ts t)
 
-pub fresh_asks : (b : Bundle) {b2 : Bundle} {r : Option ℕ} {n : ℕ} (x : ℕ) → PlaceOutcome (fresh b x) b2 r → r ≡ Some n → n ≤ largest_word
-fresh_asks b x = variable_asks (with_variables b (sort_of_variable b x ∷ [])) (new_variable b)
+pub named_asks : (kept : Bool) (b : Bundle) {b2 : Bundle} {r : Option ℕ} {n : ℕ} (x : ℕ) → PlaceOutcome (named kept b x) b2 r → r ≡ Some n
+    → n ≤ largest_word
+named_asks true b x = variable_asks b x
+named_asks false b x = variable_asks (with_variables b (sort_of_variable b x ∷ [])) (new_variable b)

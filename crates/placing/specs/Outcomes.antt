@@ -1,7 +1,7 @@
 -- What the inner functions answer, against the visits without limits: all that those give where no section passes its limit, and `None` where
 -- one does.
 use Rattle.logic.specs.Terms.{binder, number_of}
-use Rattle.std.specs.Prelude.{IfSome, ◌≡◌, true, false, Option, Some, None, List, ℕ, ◌+◌, ◌≤◌, ◌<◌, ◌⊎◌, length, take}
+use Rattle.std.specs.Prelude.{IfSome, ◌≡◌, Bool, true, false, Option, Some, None, List, ℕ, ◌+◌, ◌≤◌, ◌<◌, ◌⊎◌, length, take}
 use Rattle.bundle.specs.File.{own_counts}
 use Rattle.bundle.specs.Bundle.{Bundle, link_of, term_of}
 use Rattle.bundle.specs.Words.{largest_word}
@@ -90,7 +90,7 @@ pub record StackKept (s s' : List ℕ) (h : ℕ) : Type 0 where
   pub long : length s' ≡ length s
   pub below : take h s' ≡ take h s
 
--- ---- and what they give: b and s before the call, b' and s' after it
+-- ---- and what they give, where k says which variables are kept: b and s before the call, b' and s' after it
 
 pub record TermAsks (b : Bundle) (s : List ℕ) (Γ h t : ℕ) : Type 0 where
   pub pending : Pending s b h
@@ -99,9 +99,9 @@ pub record TermAsks (b : Bundle) (s : List ℕ) (Γ h t : ℕ) : Type 0 where
   pub stands : Stands b t standing
 
 -- the result and the step are words
-pub record TermGives (b : Bundle) (s : List ℕ) (Γ h t : ℕ) (b' : Bundle) (s' : List ℕ) (r : Option Visited) : Type 0 where
+pub record TermGives (k : ℕ → Bool) (b : Bundle) (s : List ℕ) (Γ h t : ℕ) (b' : Bundle) (s' : List ℕ) (r : Option Visited) : Type 0 where
   pub kept : StackKept s s' h
-  pub outcome : (τ : Node) → Stands b t τ → VisitOutcome (visit τ Γ b) b' r
+  pub outcome : (τ : Node) → Stands b t τ → VisitOutcome (visit k τ Γ b) b' r
   pub words : VisitFits r
 
 pub record ListAsks (b : Bundle) (s : List ℕ) (Γ h o l : ℕ) : Type 0 where
@@ -110,6 +110,6 @@ pub record ListAsks (b : Bundle) (s : List ℕ) (Γ h o l : ℕ) : Type 0 where
   pub standing : Nodes
   pub stands : StandAll b o l standing
 
-pub record ListGives (b : Bundle) (s : List ℕ) (Γ h o l : ℕ) (b' : Bundle) (s' : List ℕ) (r : Option ℕ) : Type 0 where
+pub record ListGives (k : ℕ → Bool) (b : Bundle) (s : List ℕ) (Γ h o l : ℕ) (b' : Bundle) (s' : List ℕ) (r : Option ℕ) : Type 0 where
   pub kept : StackKept s s' h
-  pub outcome : (ns : Nodes) → StandAll b o l ns → ListOutcome (visit_all ns Γ b) h b' s' r
+  pub outcome : (ns : Nodes) → StandAll b o l ns → ListOutcome (visit_all k ns Γ b) h b' s' r

@@ -11,7 +11,7 @@ ghost use Rattle.logic.specs.Longer.{with_terms, with_contexts, with_steps, add_
 ghost use Rattle.scratch.specs.Stack.{halves_of};
 ghost use Rattle.filing.specs.Filing.{Digested, found};
 ghost use Rattle.expansion.specs.Placed.{placed, place_variable, place_application, place_binder, place_let};
-ghost use Rattle.expansion.specs.Visit.{fresh};
+ghost use Rattle.expansion.specs.Visit.{fresh, named};
 ghost use Rattle.placing.specs.Outcomes.{VisitOutcome, OpenOutcome, PlaceOutcome, AddOutcome};
 
 use bundle::Bundle;
@@ -205,7 +205,7 @@ pub fn place_variable(filed: &mut Filed<'_>, y: usize) -> Option<usize>
 }
 
 // Of a new variable of the sort of x.
-pub fn place_fresh(filed: &mut Filed<'_>, x: usize) -> Option<usize>
+fn place_fresh(filed: &mut Filed<'_>, x: usize) -> Option<usize>
     ensures { PlaceOutcome (fresh filed.old x) filed.new result }
 {
     let scratch = filed.scratch();
@@ -216,6 +216,18 @@ pub fn place_fresh(filed: &mut Filed<'_>, x: usize) -> Option<usize>
     }
     filed.append_variable(sort);
     place_variable(filed, counts.variables + 1)
+}
+
+// Of the variable that a quantifier's result binds: x itself where it is kept, and else a new one.
+pub fn place_named(filed: &mut Filed<'_>, kept: bool, x: usize) -> Option<usize>
+    requires { x ≤ largest_word }
+    ensures { PlaceOutcome (named kept filed.old x) filed.new result }
+{
+    if kept {
+        place_variable(filed, x)
+    } else {
+        place_fresh(filed, x)
+    }
 }
 
 // Of a binder of y in the term `body`.

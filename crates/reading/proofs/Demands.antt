@@ -236,15 +236,15 @@ areas_left f text out words sets =
 -- ---- the three calls in a row
 
 pub read_expanded : ReadExpanded
-read_expanded f text out words sets n bytes e φ r closed g is fits out' words' sets' long =
+read_expanded names f text out words sets n bytes e φ r closed g is fits out' words' sets' long =
     let b : Bundle = bundle_of f in
     let (ψ, q, well) = read_formed f text out words sets n bytes e in
     let there : ReadWell f ψ g = subst (ReadWell f ψ) (sym is) well in
     let good : ReadWell f φ g = subst (λ (χ : Formula). ReadWell f χ g) (one_reading b text ψ φ q r) there in
     let shut : Closed (tree (bundle_of g) (bundle_of g).left) = subst Closed (sym good.left) closed in
     let job-bytes : Bytes g = subst Bytes (sym is) (read_bytes f text out words sets n e) in
-    let (m, answers, right) = expansion_right g out' words' sets' job-bytes good.formed shut fits long in
-    let h : List ℕ = take m (expansion g out' words' sets').out in
+    let (m, answers, right) = expansion_right names g out' words' sets' job-bytes good.formed shut fits long in
+    let h : List ℕ = take m (expansion names g out' words' sets').out in
     let old : tree (bundle_of h) (bundle_of g).left ≡ tree (bundle_of g) (bundle_of g).left =
     tree_kept right.records good.formed.tables (bundle_of g).left good.formed.left.1 in (
       m,

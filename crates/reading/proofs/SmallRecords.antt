@@ -16,13 +16,13 @@ use Rattle.logic.specs.Symbols.{signature_of}
 use Rattle.logic.specs.Terms.{Binder, Term, Terms, var, app, bind, let_in, none, more}
 use Rattle.logic.specs.WellFormed.{TablesFormed}
 use Rattle.logic.specs.Longer.{Longer, add_list}
-use Rattle.logic.specs.Lookup.{seek, same_variable, same_application, same_binder, same_let}
+use Rattle.logic.specs.Lookup.{seek, same_application, same_binder, same_let}
 use Rattle.logic.proofs.Longer.{longer_trans, sizes, list_longer}
-use Rattle.expansion.specs.Placed.{PlacedTerm, place_variable, place_application, place_binder, place_let}
+use Rattle.expansion.specs.Placed.{PlacedTerm, place_application, place_binder, place_let}
 use Rattle.expansion.proofs.Grown.{variable_longer, application_longer, binder_longer, lists_longer, let_longer}
 use Rattle.expansion.proofs.AppendedChecked.{Checked}
 use Rattle.expansion.proofs.SmallNumbers.{Word, SmallBundle}
-use Rattle.expansion.proofs.SmallWords.{SmallPlaced, binder_word, seek_le, list_small, start_small, placed_small}
+use Rattle.expansion.proofs.SmallWords.{SmallPlaced, binder_word, seek_le, list_small, start_small, placed_small, variable_small}
 use Rattle.reading.specs.Records.{PlacedTerms, file, file_all}
 use Rattle.reading.proofs.KnownNames.{past_signature}
 use Rattle.reading.proofs.TermSorts.{TermSorted, TermsSorted}
@@ -50,11 +50,6 @@ module _ (b₀ : Bundle) (formed : TablesFormed b₀) {end : Bundle} (fit : With
   variables_word l e (x ∷ xs) h = (variable_word l e x h.0, variables_word l e xs h.1)
 
   -- ---- one record
-
-  variable_small : (b : Bundle) (x : ℕ) → SmallBundle b → Word x → Longer (place_variable b x).bundle end → SmallPlaced (place_variable b x)
-  variable_small b x small w e =
-      placed_small fit b (add_list b []) _ (seek (same_variable x) b.terms) small (list_longer b [])
-      (λ l. (list_small fit b [] small tt l, (omega arith, (w, (omega arith, (omega arith, tt)))))) (seek_le (same_variable x) b.terms) e
 
   application_small : (b : Bundle) (f : ℕ) (ts : List ℕ) → SmallBundle b → Word f → All Word ts → Longer (place_application b f ts).bundle end
       → SmallPlaced (place_application b f ts)
@@ -89,7 +84,7 @@ module _ (b₀ : Bundle) (formed : TablesFormed b₀) {end : Bundle} (fit : With
     pub term_small : (τ : Term) (b : Bundle) → Longer b₀ b → Checked b → TermSorted b₀ τ → SmallBundle b → Longer (file τ b).bundle end
         → SmallPlaced (file τ b)
     term_small (var x) b l old h small e =
-        variable_small b x small (variable_word l (longer_trans (variable_longer b x) e) x h) e
+        variable_small fit b x small (variable_word l (longer_trans (variable_longer b x) e) x h) e
     term_small (app f ts) b l old h small e =
         let p : PlacedTerms = file_all ts b in
         let a : AllFiled b ts p = all_filed b₀ formed ts b l old h.2 in

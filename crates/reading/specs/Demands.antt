@@ -13,6 +13,7 @@ use Rattle.logic.specs.Longer.{Longer}
 use Rattle.judgement.specs.Answer.{Accepted}
 use Rattle.judgement.specs.Judge.{acceptance, judge}
 use Rattle.judgement.specs.Order.{FirstFailing}
+use Rattle.expansion.specs.declared.Names.{Names}
 use Rattle.expansion.specs.Answer.{Written, Refused}
 use Rattle.expansion.specs.Expansion.{expansion}
 use Rattle.expansion.specs.Demands.{Bytes, JobFormed, Fits, LongEnough, ZerosLeft}
@@ -92,12 +93,12 @@ pub record RuleExpanded (f : List ℕ) (φ : Formula) (h : List ℕ) : Type 0 wh
   pub right : holds_let (tree (bundle_of h) (bundle_of h).right) ≡ false
   pub equal : EqualValues (bundle_of h) (bundle_of h).left (bundle_of h).right
 
--- The three calls in a row: where a text is read, its formula is closed and the derivation of its job fits, the job is expanded, with long enough
--- areas, to a file that is as it is to be.
+-- The three calls in a row, under either choice of names: where a text is read, its formula is closed and the derivation of its job fits, the job is
+-- expanded, with long enough areas, to a file that is as it is to be.
 abbrev pub ReadExpanded : Type 0
 ReadExpanded =
-    (f text : List ℕ) (out words sets n : ℕ) → Bytes f → (reading f text out words sets).answer ≡ Written n
+    (names : Names) (f text : List ℕ) (out words sets n : ℕ) → Bytes f → (reading f text out words sets).answer ≡ Written n
     → (φ : Formula) → ReadAs (bundle_of f) text φ → Closed (plain (bundle_of f) φ)
-    → (g : List ℕ) → g ≡ take n (reading f text out words sets).out → Fits g
+    → (g : List ℕ) → g ≡ take n (reading f text out words sets).out → Fits names g
     → (out' words' sets' : ℕ) → LongEnough out' words' sets'
-    → (m : ℕ) × ((expansion g out' words' sets').answer ≡ Written m) × RuleExpanded f φ (take m (expansion g out' words' sets').out)
+    → (m : ℕ) × ((expansion names g out' words' sets').answer ≡ Written m) × RuleExpanded f φ (take m (expansion names g out' words' sets').out)

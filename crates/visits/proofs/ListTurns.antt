@@ -6,7 +6,7 @@
 --     rest_asks, list_more   the visit to the others
 use mathlib.Core.Path.{◌≡◌, refl, sym, ap, ◌∙◌, subst}
 use mathlib.Core.Logic.{◌⊎◌, inl, inr}
-use mathlib.Core.Bool.{true, false}
+use mathlib.Core.Bool.{Bool, true, false}
 use mathlib.Core.List.{List, ◌∷◌}
 use Prim.Native.Nat.{ℕ, zero, suc, ◌+◌, ◌-◌, ◌≤◌, ◌<◌}
 use native.Mathlib.Omega.{arith}
@@ -46,11 +46,11 @@ left_less (suc i) (suc m) h k (inr e) = omega (arith, e.0)
 -- ---- the visit to a list
 
 -- an empty list
-pub list_none : {b : Bundle} {s : List ℕ} {Γ h o l : ℕ} → Within (own_counts b) → l ≡ 0 → ListGives b s Γ h o l b s (Some h)
+pub list_none : {keeps : ℕ → Bool} {b : Bundle} {s : List ℕ} {Γ h o l : ℕ} → Within (own_counts b) → l ≡ 0 → ListGives keeps b s Γ h o l b s (Some h)
 unfolding visit
-list_none {b} {s} {Γ} {h} {o} {l} within z = record { kept = below_same s h; outcome = go }
+list_none {keeps} {b} {s} {Γ} {h} {o} {l} within z = record { kept = below_same s h; outcome = go }
   where
-    go : (ns : Nodes) → StandAll b o l ns → ListOutcome (visit_all ns Γ b) h b s (Some h)
+    go : (ns : Nodes) → StandAll b o l ns → ListOutcome (visit_all keeps ns Γ b) h b s (Some h)
     go nil k =
         let m : h ≡ h + 0 = omega arith in
         ListOutcome.done within refl (ap Some m) (halves_none true s h (h + 0) (omega arith)) (halves_none false s h (h + 0) (omega arith))
@@ -90,37 +90,38 @@ module _ {b : Bundle} {s : List ℕ} {Γ h o l : ℕ} (asks : ListAsks b s Γ h 
   pub first_asks : TermAsks b s Γ h value × (value < o)
   first_asks = some_first _ (λ τ ns k. (record { pending = asks.pending; context = asks.context; standing = τ; stands = k.first }, k.lower))
 
-  module _ {b1 : Bundle} {s1 : List ℕ} {r : Option Visited} (gave : TermGives b s Γ h value b1 s1 r) where
+  -- keeps says which variables are kept
+  module _ {keeps : ℕ → Bool} {b1 : Bundle} {s1 : List ℕ} {r : Option Visited} (gave : TermGives keeps b s Γ h value b1 s1 r) where
     -- the first visit was full: so is the list's
-    pub first_full : r ≡ None → ListGives b s Γ h o l b1 s1 None
+    pub first_full : r ≡ None → ListGives keeps b s Γ h o l b1 s1 None
     unfolding visit
     first_full t = record {
       kept = gave.kept;
-      outcome = first_of reads (λ ns. ListOutcome (visit_all ns Γ b) h b1 s1 None) (λ τ ns k.
-          ListOutcome.full (longer_over (visit_all_longer ns Γ (visit τ Γ b).bundle) (outcome_full (gave.outcome τ k.first) t)) refl);
+      outcome = first_of reads (λ ns. ListOutcome (visit_all keeps ns Γ b) h b1 s1 None) (λ τ ns k.
+          ListOutcome.full (longer_over (visit_all_longer keeps ns Γ (visit keeps τ Γ b).bundle) (outcome_full (gave.outcome τ k.first) t)) refl);
     }
 
     module _ {x : Visited} (told : r ≡ Some x) where
-      first_done : (τ : Node) → Stands b value τ → VisitDone (visit τ Γ b).bundle (visit τ Γ b).result (visit τ Γ b).step b1 x
+      first_done : (τ : Node) → Stands b value τ → VisitDone (visit keeps τ Γ b).bundle (visit keeps τ Γ b).result (visit keeps τ Γ b).step b1 x
       first_done τ k = visit_done (gave.outcome τ k) told
 
       -- a place for the pair: there is a step more than there were
       pub first_height : (h < length b1.steps) × (h < limits.steps) × (h < length s1)
       first_height = some_first _ (λ τ ns k.
           let d = first_done τ k.first in
-          let e : h < length (visit τ Γ b).bundle.steps = omega (arith, asks.pending.height, visit_more τ Γ b) in
+          let e : h < length (visit keeps τ Γ b).bundle.steps = omega (arith, asks.pending.height, visit_more keeps τ Γ b) in
           let i : h < limits.steps = omega (arith, e, d.within.steps) in
           (omega (arith, e, ap (λ (B : Bundle). length B.steps) d.bundle), i, omega (arith, i, asks.pending.places, gave.kept.long)))
 
       module _ {pair : ℕ} (packed : Pair pair x.result x.step) where
         rest_stands : (τ : Node) (ns : Nodes) → First b o l value next τ ns → StandAll b1 o next ns
-        rest_stands τ ns k = stand_all_on (on (visit_longer τ Γ b) (first_done τ k.first).bundle) ns o next k.rest
+        rest_stands τ ns k = stand_all_on (on (visit_longer keeps τ Γ b) (first_done τ k.first).bundle) ns o next k.rest
 
         -- the call for the other terms
         pub rest_asks : ListAsks b1 (set s1 h pair) Γ (h + 1) o next × (left next < left l)
         rest_asks = some_first _ (λ τ ns k.
             let d = first_done τ k.first in
-            let z = sizes (on (visit_longer τ Γ b) d.bundle) in (
+            let z = sizes (on (visit_longer keeps τ Γ b) d.bundle) in (
               record {
                 pending = record {
                   places = omega (arith, length-set s1 h pair, gave.kept.long, asks.pending.places);
@@ -130,33 +131,33 @@ module _ {b : Bundle} {s : List ℕ} {Γ h o l : ℕ} (asks : ListAsks b s Γ h 
                 standing = ns;
                 stands = rest_stands τ ns k;
               },
-              left_less l next k.link.0 (omega (arith, k.link.1, (sizes (visit_longer τ Γ b)).links, d.within.links)) k.order,
+              left_less l next k.link.0 (omega (arith, k.link.1, (sizes (visit_longer keeps τ Γ b)).links, d.within.links)) k.order,
             ))
 
         -- the list's visit, from the visit to its first term and the visit to the others
-        pub list_more : {b3 : Bundle} {s3 : List ℕ} {r3 : Option ℕ} → ListGives b1 (set s1 h pair) Γ (h + 1) o next b3 s3 r3 → ListGives b s Γ h o l b3 s3 r3
+        pub list_more : {b3 : Bundle} {s3 : List ℕ} {r3 : Option ℕ} → ListGives keeps b1 (set s1 h pair) Γ (h + 1) o next b3 s3 r3 → ListGives keeps b s Γ h o l b3 s3 r3
         unfolding visit
         list_more {b3} {s3} {r3} g = record {
           kept = below_trans (omega arith) (below_trans (omega arith) gave.kept (below_set s1 h h pair (omega arith))) g.kept;
-          outcome = first_of reads (λ ns. ListOutcome (visit_all ns Γ b) h b3 s3 r3) (λ τ ns k.
+          outcome = first_of reads (λ ns. ListOutcome (visit_all keeps ns Γ b) h b3 s3 r3) (λ τ ns k.
               let d = first_done τ k.first in
-              up τ ns d (subst (λ (B : Bundle). ListOutcome (visit_all ns Γ B) (h + 1) b3 s3 r3) d.bundle (g.outcome ns (rest_stands τ ns k))));
+              up τ ns d (subst (λ (B : Bundle). ListOutcome (visit_all keeps ns Γ B) (h + 1) b3 s3 r3) d.bundle (g.outcome ns (rest_stands τ ns k))));
         }
           where
-            up : (τ : Node) (ns : Nodes) → VisitDone (visit τ Γ b).bundle (visit τ Γ b).result (visit τ Γ b).step b1 x
-                → ListOutcome (visit_all ns Γ (visit τ Γ b).bundle) (h + 1) b3 s3 r3
-                → ListOutcome (visit_all (cons τ ns) Γ b) h b3 s3 r3
+            up : (τ : Node) (ns : Nodes) → VisitDone (visit keeps τ Γ b).bundle (visit keeps τ Γ b).result (visit keeps τ Γ b).step b1 x
+                → ListOutcome (visit_all keeps ns Γ (visit keeps τ Γ b).bundle) (h + 1) b3 s3 r3
+                → ListOutcome (visit_all keeps (cons τ ns) Γ b) h b3 s3 r3
             up τ ns d (ListOutcome.full f e) = ListOutcome.full f e
             up τ ns d (ListOutcome.done w e t p q) =
-                let v = visit_all ns Γ (visit τ Γ b).bundle in
+                let v = visit_all keeps ns Γ (visit keeps τ Γ b).bundle in
                 let m = length v.results in
                 let i : h + 1 + m ≡ h + suc m = omega arith in
                 let fits : h + 1 + m ≤ length s3 =
                 omega (
                   arith,
                   asks.pending.height,
-                  visit_more τ Γ b,
-                  visit_all_steps ns Γ (visit τ Γ b).bundle,
+                  visit_more keeps τ Γ b,
+                  visit_all_steps keeps ns Γ (visit keeps τ Γ b).bundle,
                   w.steps,
                   asks.pending.places,
                   gave.kept.long,

@@ -7,6 +7,7 @@
 --     scope_longer, node_longer, block_longer, body_longer     a visit only appends to what its parts leave
 use mathlib.Core.Path.{◌≡◌, sym, subst}
 use mathlib.Core.Logic.{◌⊎◌, inl, inr}
+use mathlib.Core.Bool.{Bool}
 use mathlib.Core.List.{List, [], ◌∷◌, ◌++◌}
 use Prim.Native.Nat.{ℕ, ◌+◌, ◌≤◌, ◌<◌}
 use native.Mathlib.Omega.{arith}
@@ -18,7 +19,7 @@ use Rattle.logic.specs.Contexts.{image}
 use Rattle.logic.specs.Longer.{Longer, add_list, list_start}
 use Rattle.logic.proofs.Longer.{prefix_at, longer_refl, longer_trans, sizes}
 use Rattle.expansion.specs.Nodes.{Node, Nodes, leaf, node, scope, block, nil, cons}
-use Rattle.expansion.specs.Visit.{Visit, Visits, visit, visit_all, concluded, OpenedContext, open_binder, replacing, fixing, fresh, new_variable, image_term}
+use Rattle.expansion.specs.Visit.{Visit, Visits, visit, visit_all, concluded, OpenedContext, open_binder, replacing, fixing, name_of, named, image_term}
 use Rattle.placing.specs.Outcomes.{Stands, StandAll}
 use Rattle.expansion.proofs.Grown.{application_longer, binder_longer, concluded_longer, replacing_longer, open_longer, visit_longer, visit_all_longer}
 
@@ -73,30 +74,31 @@ one_more b base k c l r ps longer =
     let n : length (concluded base k c l r ps).bundle.steps ≡ length base.steps + 1 = length-append base.steps (_ ∷ []) in
     omega (arith, n, (sizes longer).steps)
 
-pub visit_more : (τ : Node) (c : ℕ) (b : Bundle) → length b.steps < length (visit τ c b).bundle.steps
-unfolding visit
-visit_more (leaf t x) c b = one_more b b 1 c t (image_term (image b c x) t) [] (longer_refl b)
-visit_more (node t f ns) c b =
-    let v : Visits = visit_all ns c b in
-    one_more b _ 2 c t _ v.steps (longer_trans (visit_all_longer ns c b) (application_longer v.bundle f v.results))
-visit_more (scope t q x u) c b =
-    let o = open_binder b x c in
-    let v : Visit = visit u o.context o.bundle in
-    one_more b _ 4 c t _ (v.step ∷ [])
-    (longer_trans (open_longer b x c)
-    (longer_trans (visit_longer u o.context o.bundle) (binder_longer v.bundle q o.variable v.result)))
-visit_more (block t s vs ns u) c b =
-    let v : Visits = visit_all ns c b in
-    let o = replacing v.bundle s c v.results in
-    let w : Visit = visit u o.context o.bundle in
-    one_more b w.bundle 5 c t w.result (v.steps ++ (w.step ∷ []))
-    (longer_trans (visit_all_longer ns c b)
-    (longer_trans (replacing_longer v.bundle s c v.results) (visit_longer u o.context o.bundle)))
+module _ (k : ℕ → Bool) where
+  pub visit_more : (τ : Node) (c : ℕ) (b : Bundle) → length b.steps < length (visit k τ c b).bundle.steps
+  unfolding visit
+  visit_more (leaf t x) c b = one_more b b 1 c t (image_term (image b c x) t) [] (longer_refl b)
+  visit_more (node t f ns) c b =
+      let v : Visits = visit_all k ns c b in
+      one_more b _ 2 c t _ v.steps (longer_trans (visit_all_longer k ns c b) (application_longer v.bundle f v.results))
+  visit_more (scope t q x u) c b =
+      let o = open_binder (k x) b x c in
+      let v : Visit = visit k u o.context o.bundle in
+      one_more b _ 4 c t _ (v.step ∷ [])
+      (longer_trans (open_longer (k x) b x c)
+      (longer_trans (visit_longer k u o.context o.bundle) (binder_longer v.bundle q o.variable v.result)))
+  visit_more (block t s vs ns u) c b =
+      let v : Visits = visit_all k ns c b in
+      let o = replacing v.bundle s c v.results in
+      let w : Visit = visit k u o.context o.bundle in
+      one_more b w.bundle 5 c t w.result (v.steps ++ (w.step ∷ []))
+      (longer_trans (visit_all_longer k ns c b)
+      (longer_trans (replacing_longer v.bundle s c v.results) (visit_longer k u o.context o.bundle)))
 
-pub visit_all_steps : (ns : Nodes) (c : ℕ) (b : Bundle) → length b.steps + length (visit_all ns c b).results ≤ length (visit_all ns c b).bundle.steps
-unfolding visit
-visit_all_steps nil c b = omega arith
-visit_all_steps (cons τ ns) c b = omega (arith, visit_more τ c b, visit_all_steps ns c (visit τ c b).bundle)
+  pub visit_all_steps : (ns : Nodes) (c : ℕ) (b : Bundle) → length b.steps + length (visit_all k ns c b).results ≤ length (visit_all k ns c b).bundle.steps
+  unfolding visit
+  visit_all_steps nil c b = omega arith
+  visit_all_steps (cons τ ns) c b = omega (arith, visit_more τ c b, visit_all_steps ns c (visit k τ c b).bundle)
 
 -- ---- the context that is opened is the last one
 
@@ -105,45 +107,45 @@ replacing_context b s c ts =
     let n : length (replacing b s c ts).bundle.contexts ≡ length b.contexts + 1 = length-append b.contexts (_ ∷ []) in
     omega (arith, n)
 
-pub open_context : (b : Bundle) (x c : ℕ) → (open_binder b x c).context ≡ length (open_binder b x c).bundle.contexts
-open_context b x c =
-    let p = fresh b x in
-    let f = fixing p.bundle (new_variable b) c in
+pub open_context : (kept : Bool) (b : Bundle) (x c : ℕ) → (open_binder kept b x c).context ≡ length (open_binder kept b x c).bundle.contexts
+open_context kept b x c =
+    let p = named kept b x in
+    let f = fixing p.bundle (name_of kept b x) c in
     replacing_context (add_list f.bundle (x ∷ [])) (list_start f.bundle (x ∷ [])) f.context (p.term ∷ [])
 
 -- ---- a visit only appends to what its parts leave
 
 -- the context that a let opens, once its bound terms are visited
-abbrev pub opening : Bundle → (s c : ℕ) → Nodes → OpenedContext
-opening b s c ns = replacing (visit_all ns c b).bundle s c (visit_all ns c b).results
+abbrev pub opening : (ℕ → Bool) → Bundle → (s c : ℕ) → Nodes → OpenedContext
+opening k b s c ns = replacing (visit_all k ns c b).bundle s c (visit_all k ns c b).results
 
-pub opening_longer : (b : Bundle) (s c : ℕ) (ns : Nodes) → Longer (visit_all ns c b).bundle (opening b s c ns).bundle
-opening_longer b s c ns = replacing_longer (visit_all ns c b).bundle s c (visit_all ns c b).results
+pub opening_longer : (k : ℕ → Bool) (b : Bundle) (s c : ℕ) (ns : Nodes) → Longer (visit_all k ns c b).bundle (opening k b s c ns).bundle
+opening_longer k b s c ns = replacing_longer (visit_all k ns c b).bundle s c (visit_all k ns c b).results
 
-module _ (t c : ℕ) (b : Bundle) where
+module _ (k : ℕ → Bool) (t c : ℕ) (b : Bundle) where
   pub scope_longer : (q : Binder) (x : ℕ) (u : Node)
-      → let o = open_binder b x c in Longer (visit u o.context o.bundle).bundle (visit (scope t q x u) c b).bundle
+      → let o = open_binder (k x) b x c in Longer (visit k u o.context o.bundle).bundle (visit k (scope t q x u) c b).bundle
   unfolding visit
   scope_longer q x u =
-      let o = open_binder b x c in
-      let v : Visit = visit u o.context o.bundle in
+      let o = open_binder (k x) b x c in
+      let v : Visit = visit k u o.context o.bundle in
       longer_trans (binder_longer v.bundle q o.variable v.result) (concluded_longer _ 4 c t _ (v.step ∷ []))
 
-  pub node_longer : (f : ℕ) (ns : Nodes) → Longer (visit_all ns c b).bundle (visit (node t f ns) c b).bundle
+  pub node_longer : (f : ℕ) (ns : Nodes) → Longer (visit_all k ns c b).bundle (visit k (node t f ns) c b).bundle
   unfolding visit
   node_longer f ns =
-      let v : Visits = visit_all ns c b in
+      let v : Visits = visit_all k ns c b in
       longer_trans (application_longer v.bundle f v.results) (concluded_longer _ 2 c t _ v.steps)
 
   pub body_longer : (s : ℕ) (vs : List ℕ) (ns : Nodes) (u : Node)
-      → Longer (visit u (opening b s c ns).context (opening b s c ns).bundle).bundle (visit (block t s vs ns u) c b).bundle
+      → Longer (visit k u (opening k b s c ns).context (opening k b s c ns).bundle).bundle (visit k (block t s vs ns u) c b).bundle
   unfolding visit
   body_longer s vs ns u =
-      let v : Visits = visit_all ns c b in
+      let v : Visits = visit_all k ns c b in
       let o = replacing v.bundle s c v.results in
-      let w : Visit = visit u o.context o.bundle in
+      let w : Visit = visit k u o.context o.bundle in
       concluded_longer w.bundle 5 c t w.result (v.steps ++ (w.step ∷ []))
 
   pub block_longer : (s : ℕ) (vs : List ℕ) (ns : Nodes) (u : Node)
-      → Longer (opening b s c ns).bundle (visit (block t s vs ns u) c b).bundle
-  block_longer s vs ns u = longer_trans (visit_longer u (opening b s c ns).context (opening b s c ns).bundle) (body_longer s vs ns u)
+      → Longer (opening k b s c ns).bundle (visit k (block t s vs ns u) c b).bundle
+  block_longer s vs ns u = longer_trans (visit_longer k u (opening k b s c ns).context (opening k b s c ns).bundle) (body_longer s vs ns u)

@@ -1,7 +1,8 @@
 -- The answer of the expansion, as the code comes to it.
+--     Begun                                   no check before the visit fails, and the job is in the scratch
+--     header_formed, areas_long, tables_formed     what is known of the job and the areas where 1 to 9 do not fail
 --     refused_early, refused_late             a check of 1 to 9 fails; 18, 15 or 17 does
---     Begun                                   none of those does, and the job is in the scratch
---     tables_formed, visit_asks, visit_is     what filing and the visit to the rule ask for then, and what the visit gives
+--     visit_asks, visit_is                    what the visit to the rule asks for, and what it gives
 --     version_kept                            the version after the visit
 --     refused_full, written                   16 fails; no check does
 --     stored_expanded                         what is left before the zeros are written
@@ -17,7 +18,7 @@ use borrow.Author.Tests.{ltb-true}
 use Rattle.std.proofs.lemmas.Bool.{false_from_ne_true}
 use Rattle.bundle.specs.Words.{largest_word}
 use Rattle.bundle.specs.Bundle.{Bundle}
-use Rattle.bundle.specs.Limits.{bytes_of, Within, within_of}
+use Rattle.bundle.specs.Limits.{bytes_of, Within}
 use Rattle.bundle.specs.File.{bundle_of, own_counts}
 use Rattle.bundle.proofs.Limits.{within_all, within_true, within_words}
 use Rattle.logic.specs.Tests.{Fault}
@@ -31,10 +32,12 @@ use Rattle.logic.proofs.Headers.{tables_header}
 use Rattle.expansion.specs.Answer.{Written, Refused}
 use Rattle.placing.specs.declared.Visited.{Visited}
 use Rattle.expansion.specs.Nodes.{Node, node_at}
+use Rattle.expansion.specs.declared.Names.{Names}
+use Rattle.expansion.specs.Names.{keeps}
 use Rattle.expansion.specs.Visit.{visit, visited, expanded, claiming}
 use Rattle.expansion.proofs.Grown.{visit_longer}
 use Rattle.expansion.specs.File.{file_of}
-use Rattle.expansion.specs.Expansion.{long_enough, early_tests, job_tests, job_fault, writes, outcome_of, expansion}
+use Rattle.expansion.specs.Expansion.{long_enough, early_tests, job_tests, derivation_fits, job_fault, writes, outcome_of, expansion}
 use Rattle.expansion.specs.Demands.{LongEnough}
 use Rattle.placing.specs.Outcomes.{TooMuch, VisitOutcome, Stands, TermAsks}
 use Rattle.placing.proofs.OutcomeFacts.{VisitDone}
@@ -78,61 +81,49 @@ pub record Begun (f : List ℕ) (out words sets : ℕ) (B : Bundle) (left : ℕ)
   pub copied : B ≡ bundle_of f
   pub read : left ≡ (bundle_of f).left
 
-module _ (f : List ℕ) (out words sets : ℕ) where
-  refused : (m i : ℕ) → (m ≡ 0 → ⊥) → job_fault f out words sets ≡ fault m i → Refused m i ≡ (expansion f out words sets).answer
+-- 1 to 9 do not fail
+module _ (f : List ℕ) (out words sets : ℕ) (none : (tables_fault f (long_enough out words sets) 3).number ≡ 0) where
+  pub header_formed : HeaderFormed f
+  header_formed = (tables_header f (long_enough out words sets) 3 none).0
+
+  pub areas_long : LongEnough out words sets
+  areas_long = (long_exactly out words sets).0 (tables_header f (long_enough out words sets) 3 none).1
+
+  pub tables_formed : TablesFormed (bundle_of f)
+  unfolding tables_fault
+  tables_formed = (tables_exactly (bundle_of f)).0 (next_both (fault (header_fault f (long_enough out words sets) 3) 0) (sections_fault (bundle_of f)) none).1
+
+-- under the choice of names
+module _ (names : Names) (f : List ℕ) (out words sets : ℕ) where
+  refused : (m i : ℕ) → (m ≡ 0 → ⊥) → job_fault names f out words sets ≡ fault m i → Refused m i ≡ (expansion names f out words sets).answer
   unfolding expansion outcome_of
-  refused m i ne e = sym (ap (λ (r : Fault). (outcome_of (bundle_of f) r r.number out words sets).answer) e ∙ go m ne)
+  refused m i ne e = sym (ap (λ (r : Fault). (outcome_of names (bundle_of f) r r.number out words sets).answer) e ∙ go m ne)
     where
-      go : (m : ℕ) → (m ≡ 0 → ⊥) → (outcome_of (bundle_of f) (fault m i) m out words sets).answer ≡ Refused m i
+      go : (m : ℕ) → (m ≡ 0 → ⊥) → (outcome_of names (bundle_of f) (fault m i) m out words sets).answer ≡ Refused m i
       go zero ne = absurd (ne refl)
       go (suc m) ne = refl
 
   pub refused_early : (r : Fault) → r ≡ tables_fault f (long_enough out words sets) 3 → (r.number ≡ 0 → ⊥)
-      → Refused r.number r.«record» ≡ (expansion f out words sets).answer
+      → Refused r.number r.«record» ≡ (expansion names f out words sets).answer
   unfolding job_fault
   refused_early r e ne = refused r.number r.«record» ne (rw (← e) (or_else_here r.number r.«record» _ ne))
 
   -- 1 to 9 do not fail
   module _ (none : (tables_fault f (long_enough out words sets) 3).number ≡ 0) where
-    pub header_formed : HeaderFormed f
-    header_formed = (tables_header f (long_enough out words sets) 3 none).0
-
-    pub areas_long : LongEnough out words sets
-    areas_long = (long_exactly out words sets).0 (tables_header f (long_enough out words sets) 3 none).1
-
-    pub tables_formed : TablesFormed (bundle_of f)
-    unfolding tables_fault
-    tables_formed = (tables_exactly (bundle_of f)).0 (next_both (fault (header_fault f (long_enough out words sets) 3) 0) (sections_fault (bundle_of f)) none).1
-
-    late_is : job_fault f out words sets ≡ or_else (first_failing (job_tests (bundle_of f))) 0 (fault 0 0)
+    late_is : job_fault names f out words sets ≡ or_else (first_failing (job_tests names (bundle_of f))) 0 (fault 0 0)
     unfolding job_fault
     late_is = or_else_on (tables_fault f (long_enough out words sets) 3).number (tables_fault f (long_enough out words sets) 3).«record» _ none
 
-    refused_number : (m : ℕ) → (m ≡ 0 → ⊥) → first_failing (job_tests (bundle_of f)) ≡ m → Refused m 0 ≡ (expansion f out words sets).answer
+    refused_number : (m : ℕ) → (m ≡ 0 → ⊥) → first_failing (job_tests names (bundle_of f)) ≡ m
+        → Refused m 0 ≡ (expansion names f out words sets).answer
     refused_number m ne e = refused m 0 ne (late_is ∙ rw e (or_else_here m 0 (fault 0 0) ne))
 
-    pub refused_late : (m : ℕ) → m ≡ first_failing (early_tests (bundle_of f)) → (m ≡ 0 → ⊥) → Refused m 0 ≡ (expansion f out words sets).answer
+    pub refused_late : (m : ℕ) → m ≡ first_failing (early_tests (bundle_of f)) → (m ≡ 0 → ⊥) → Refused m 0 ≡ (expansion names f out words sets).answer
     refused_late m e ne =
-        refused_number m ne (failing_early (test 16 (within_of (own_counts (visited (bundle_of f)).bundle)) ∷ []) (early_tests (bundle_of f)) (λ z. ne (e ∙ z))
-        ∙ sym e)
+        refused_number m ne
+        (failing_early (test 16 (derivation_fits names (bundle_of f)) ∷ []) (early_tests (bundle_of f)) (λ z. ne (e ∙ z)) ∙ sym e)
 
 module _ {f : List ℕ} {out words sets : ℕ} {B : Bundle} {left : ℕ} (b : Begun f out words sets B left) where
-  last_is : first_failing (job_tests (bundle_of f)) ≡ cond (within_of (own_counts (visited (bundle_of f)).bundle)) 0 16
-  unfolding first_failing
-  last_is = failing_late (test 16 (within_of (own_counts (visited (bundle_of f)).bundle)) ∷ []) (early_tests (bundle_of f)) refl b.early
-
-  pub refused_full : TooMuch (visited (bundle_of f)).bundle → Refused 16 0 ≡ (expansion f out words sets).answer
-  refused_full h =
-      refused_number f out words sets b.none 16 (λ z. omega arith)
-      (last_is ∙ rw (false_from_ne_true (within_of (own_counts (visited (bundle_of f)).bundle)) (λ e. h (within_all (own_counts (visited (bundle_of f)).bundle) e))))
-
-  written : Within (own_counts (visited (bundle_of f)).bundle) → expansion f out words sets ≡ writes (expanded (bundle_of f)) out words sets
-  unfolding expansion outcome_of
-  written h =
-      let e : job_fault f out words sets ≡ fault 0 0 = late_is f out words sets b.none
-      ∙ or_else_on (first_failing (job_tests (bundle_of f))) 0 (fault 0 0) (last_is ∙ rw (within_true (own_counts (visited (bundle_of f)).bundle) h)) in
-      ap (λ (r : Fault). outcome_of (bundle_of f) r r.number out words sets) e
-
   visit_stands : Stands B left (node_at B left)
   visit_stands =
       let known = numbers_of_lem (length (bundle_of f).terms) (bundle_of f).left (failing_none (early_tests (bundle_of f)) refl b.early).1.0 in
@@ -149,37 +140,57 @@ module _ {f : List ℕ} {out words sets : ℕ} {B : Bundle} {left : ℕ} (b : Be
         stands = visit_stands;
       }
 
-  pub visit_is : (B' : Bundle) (r : Option Visited) → ((τ : Node) → Stands B left τ → VisitOutcome (visit τ 0 B) B' r)
-      → VisitOutcome (visited (bundle_of f)) B' r
-  unfolding visited
-  visit_is B' r o = rw (b.copied, b.read) at (o (node_at B left) visit_stands)
+  module _ (names : Names) where
+    -- what is kept is what the choice says of the job
+    pub visit_is : {k : ℕ → Bool} → k ≡ keeps names (bundle_of f) → (B' : Bundle) (r : Option Visited)
+        → ((τ : Node) → Stands B left τ → VisitOutcome (visit k τ 0 B) B' r)
+        → VisitOutcome (visited names (bundle_of f)) B' r
+    unfolding visited
+    visit_is kept B' r o = rw (b.copied, b.read, kept) at (o (node_at B left) visit_stands)
+
+    last_is : first_failing (job_tests names (bundle_of f)) ≡ cond (derivation_fits names (bundle_of f)) 0 16
+    unfolding first_failing
+    last_is = failing_late (test 16 (derivation_fits names (bundle_of f)) ∷ []) (early_tests (bundle_of f)) refl b.early
+
+    pub refused_full : TooMuch (visited names (bundle_of f)).bundle → Refused 16 0 ≡ (expansion names f out words sets).answer
+    refused_full h =
+        refused_number names f out words sets b.none 16 (λ z. omega arith)
+        (last_is ∙ rw (false_from_ne_true (derivation_fits names (bundle_of f)) (λ e. h (within_all (own_counts (visited names (bundle_of f)).bundle) e))))
+
+    written : Within (own_counts (visited names (bundle_of f)).bundle)
+        → expansion names f out words sets ≡ writes (expanded names (bundle_of f)) out words sets
+    unfolding expansion outcome_of
+    written h =
+        let e : job_fault names f out words sets ≡ fault 0 0 = late_is names f out words sets b.none
+        ∙ or_else_on (first_failing (job_tests names (bundle_of f))) 0 (fault 0 0) (last_is ∙ rw (within_true (own_counts (visited names (bundle_of f)).bundle) h)) in
+        ap (λ (r : Fault). outcome_of names (bundle_of f) r r.number out words sets) e
 
 -- the version after the visit is a word, as that of the job
-pub version_kept : (b : Bundle) {B' : Bundle} → B' ≡ (visited b).bundle → b.version ≡ 1 → B'.version ≤ largest_word
+pub version_kept : (names : Names) (b : Bundle) {B' : Bundle} → B' ≡ (visited names b).bundle → b.version ≡ 1 → B'.version ≤ largest_word
 unfolding visited
-version_kept b {B'} e one =
-    let kept : B'.version ≡ 1 = ap (λ (b : Bundle). b.version) e ∙ (visit_longer (node_at b b.left) 0 b).version ∙ one in
+version_kept names b {B'} e one =
+    let kept : B'.version ≡ 1 = ap (λ (b : Bundle). b.version) e ∙ (visit_longer (keeps names b) (node_at b b.left) 0 b).version ∙ one in
     omega (arith, kept)
 
 -- ---- what is left before the zeros are written
 
 -- the visit was done, with the result x, and the bundle B' after it; the file was stored, n bytes long
-module _ (f out words sets out' words' sets' : List ℕ) (lo : length out' ≡ length out) (lw : length words' ≡ length words)
+module _ (names : Names) (f out words sets out' words' sets' : List ℕ) (lo : length out' ≡ length out) (lw : length words' ≡ length words)
     (ls : length sets' ≡ length sets) {B : Bundle} {left : ℕ} (b : Begun f (length out) (length words) (length sets) B left) {B' : Bundle}
-    {x : Visited} {n : ℕ} (t : VisitDone (visited (bundle_of f)).bundle (visited (bundle_of f)).result (visited (bundle_of f)).step B' x)
+    {x : Visited} {n : ℕ} (t : VisitDone (visited names (bundle_of f)).bundle (visited names (bundle_of f)).result (visited names (bundle_of f)).step B' x)
     (size : n ≡ bytes_of (own_counts B')) (stored : take n out' ≡ file_of (claiming B' left x.result)) where
-  file_is : file_of (claiming B' left x.result) ≡ file_of (expanded (bundle_of f))
+  file_is : file_of (claiming B' left x.result) ≡ file_of (expanded names (bundle_of f))
   unfolding expanded
   file_is = λ i. file_of (claiming (t.bundle i) (b.read i) (t.result i))
 
-  size_is : n ≡ length (file_of (expanded (bundle_of f)))
+  size_is : n ≡ length (file_of (expanded names (bundle_of f)))
   unfolding expanded
-  size_is = size ∙ ap (λ (b : Bundle). bytes_of (own_counts b)) t.bundle ∙ sym (file_length (expanded (bundle_of f)))
+  size_is = size ∙ ap (λ (b : Bundle). bytes_of (own_counts b)) t.bundle ∙ sym (file_length (expanded names (bundle_of f)))
 
   room : n ≤ length out
   room =
       let within : Within (own_counts B') = rw t.bundle t.within in
       omega (arith, size, within_words (own_counts B') within, (areas_long f (length out) (length words) (length sets) b.none).output)
 
-  pub stored_expanded : Stored (expansion f (length out) (length words) (length sets)) out words sets out' words' sets' (Written n)
-  stored_expanded = stored_written lo lw ls (expanded (bundle_of f)) n (written b t.within) size_is room (stored ∙ file_is)
+  pub stored_expanded : Stored (expansion names f (length out) (length words) (length sets)) out words sets out' words' sets' (Written n)
+  stored_expanded = stored_written lo lw ls (expanded names (bundle_of f)) n (written b names t.within) size_is room (stored ∙ file_is)

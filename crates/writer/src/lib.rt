@@ -8,43 +8,49 @@ ghost use Rattle.expansion.specs.Answer.{answer_in};
 ghost use Rattle.expansion.specs.Expansion.{expansion};
 ghost use Rattle.expansion.specs.AreasAfter.{Left, Stored};
 
+use expansion::Names;
 use files::copies::copy_job;
 use files::stores::store_file;
 use filing::Filed;
 use logic::checks::{Check, Failure};
+use names::Kept;
 use visits::visits::visit_term;
 
-// Checks the job, expands it in the scratch and stores the file at the start of the output. The rest of the areas is left as it comes.
+// Checks the job, expands it in the scratch and stores the file at the start of the output. Which variables are kept is decided from the job, before.
+// The rest of the areas is left as it comes.
 // The three areas are no struct: C lends them apart, and each goes its own way here: the file, the scratch, the sets and then the stack.
 fn store_job(
     job: &[u8],
+    names: Names,
     out: &mut [u8],
     words: &mut [u32],
     sets: &mut [u64],
 ) -> Result<usize, Failure>
-    ensures { Stored (expansion job.now (length out.old) (length words.old) (length sets.old))
+    ensures { Stored (expansion names job.now (length out.old) (length words.old) (length sets.old))
         out.old words.old sets.old out.new words.new sets.new (answer_in result) }
 {
     let enough = areas::long_enough(out.len(), words.len(), sets.len());
     let bundle = terms::tables_fault(job, enough, areas::AREAS)?;
     jobs::job_fault(&bundle, sets)?;
     let left = bundle.claim_left();
+    let kept = Kept::of(&bundle, names);
     let mut filed = Filed::of(copy_job(&bundle, words));
-    let visited = visit_term(&mut filed, sets, 0, 0, left).ok_or(Check::Room)?;
+    let visited = visit_term(&mut filed, sets, &kept, 0, 0, left).ok_or(Check::Room)?;
     Ok(store_file(&filed.scratch().view(), left, visited.result, out))
 }
 
-// Expands the lets of a job's rule, and writes the file with the derivation into the output. Whatever stood in the areas before: the scratch ends
-// zero, bytes after the file are zero, and where the job is refused every area is zero.
+// Expands the lets of a job's rule under a choice of names, and writes the file with the derivation into the output. Whatever stood in the areas before:
+// the scratch ends zero, bytes after the file are zero, and where the job is refused every area is zero.
 pub fn expand(
     job: &[u8],
+    names: Names,
     out: &mut [u8],
     words: &mut [u32],
     sets: &mut [u64],
 ) -> Result<usize, Failure>
-    ensures { Left (expansion job.now (length out.old) (length words.old) (length sets.old)) (answer_in result)
+    ensures { Left (expansion names job.now (length out.old) (length words.old) (length sets.old)) (answer_in result)
         out.new words.new sets.new }
 {
-    let answer = store_job(job, out, words, sets);
+    let answer = store_job(job, names, out, words, sets);
     areas::close(answer, out, words, sets)
 }

@@ -7,14 +7,13 @@ use Rattle.bundle.specs.Words.{largest_word}
 use Rattle.logic.specs.declared.Image.{Image}
 use Rattle.logic.specs.Contexts.{image}
 use Rattle.scratch.proofs.Pushed.{add_none}
-use Rattle.expansion.specs.Visit.{visit, concluded, image_term}
+use Rattle.expansion.specs.Visit.{concluded, image_term}
 use Rattle.placing.specs.Outcomes.{VisitOutcome}
 use Rattle.closers.proofs.Closings.{concluded_is, concluded_fits}
 use Rattle.closers.proofs.close_variable.Goals.{in-Own, in-Gives}
 use Rattle.closers.proofs.close_variable.Goals as goal
 
 pub returns : goal.returns
-unfolding visit
 returns g c =
     let a = c.args in
     let b = g.S.Appends.bundle a.scratch.now in

@@ -1,9 +1,8 @@
--- `closers::open_quantifier` meets its contract: the new variable and its term are words.
-use native.Mathlib.Omega.{arith}
-use Rattle.placing.proofs.Placings.{fresh_asks}
+-- `closers::open_quantifier` meets its contract: the variable and its term are words.
+use Rattle.placing.proofs.Placings.{named_asks}
 use Rattle.closers.proofs.open_quantifier.Goals as goal
 
 pub open_renaming-requires : goal.open_renaming-requires
 open_renaming-requires c =
     let a = c.args in
-    (c.requires.0, omega (arith, c.variables-variable.ensures.1), fresh_asks a.filed.now a.x c.place_fresh.ensures c.in_ok-term.was, c.requires.1)
+    (c.requires.0, c.name_of-variable.ensures.1, named_asks a.kept a.filed.now a.x c.place_named.ensures c.in_ok-term.was, c.requires.1)

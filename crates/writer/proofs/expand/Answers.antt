@@ -14,5 +14,5 @@ returns c =
     let a = c.args in
     rw c.close.ensures.0
     (left_zeroed _ a.out.now a.words.now a.sets.now _ _ _ _
-    (zeros_left a.job.now (length a.out.now) (length a.words.now) (length a.sets.now)) c.store_job-answer.ensures
+    (zeros_left a.names a.job.now (length a.out.now) (length a.words.now) (length a.sets.now)) c.store_job-answer.ensures
     c.close.ensures.1)
