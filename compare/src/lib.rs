@@ -27,6 +27,7 @@ pub mod programs;
 pub mod read;
 pub mod report;
 pub mod rng;
+pub mod rust_calls;
 pub mod set;
 pub mod smt;
 pub mod tally;

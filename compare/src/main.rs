@@ -12,10 +12,14 @@ use nezkaldo_compare::expand::Names;
 use nezkaldo_compare::ffi::Library;
 use nezkaldo_compare::mutants::Verdict;
 use nezkaldo_compare::report::Results;
+use nezkaldo_compare::rust_calls::{
+    EXACT, PLAIN, exact, exact_expand, exact_links, exact_read, plain, plain_expand, plain_links,
+    plain_read,
+};
 use nezkaldo_compare::vectors::Party;
 use nezkaldo_compare::{
     answer, bench, check, compare, compare_reader, compare_writer, expand, ffi, generate, mutants,
-    naive, naive_expand, naive_read, plot, programs, read as reader, smt, vectors,
+    naive, plot, programs, read as reader, smt, vectors,
 };
 use std::fmt::Debug;
 use std::io::{self, Read};
@@ -80,65 +84,6 @@ fn main() -> ExitCode {
     }
 }
 
-fn exact_check(file: &[u8], free: &mut [u64]) -> u64 {
-    answer::packed(check::check(file, free))
-}
-
-fn plain_check(file: &[u8], free: &mut [u64]) -> u64 {
-    answer::packed(naive::check(file, free))
-}
-
-fn exact_links(file: &[u8], step: usize) -> u64 {
-    answer::packed_walk(check::links(file, step))
-}
-
-fn plain_links(file: &[u8], step: usize) -> u64 {
-    answer::packed_walk(naive::links(file, step))
-}
-
-const EXACT: Calls = Calls { check: &exact_check, links: &exact_links };
-const PLAIN: Calls = Calls { check: &plain_check, links: &plain_links };
-
-fn exact_expand(
-    job: &[u8],
-    names: Names,
-    out: &mut [u8],
-    words: &mut [u32],
-    sets: &mut [u64],
-) -> u64 {
-    compare_writer::packed(expand::expand(job, names, out, words, sets))
-}
-
-fn plain_expand(
-    job: &[u8],
-    names: Names,
-    out: &mut [u8],
-    words: &mut [u32],
-    sets: &mut [u64],
-) -> u64 {
-    compare_writer::packed(naive_expand::expand(job, names, out, words, sets))
-}
-
-fn exact_read(
-    declarations: &[u8],
-    text: &[u8],
-    out: &mut [u8],
-    words: &mut [u32],
-    sets: &mut [u64],
-) -> u64 {
-    compare_reader::packed(reader::read(declarations, text, out, words, sets))
-}
-
-fn plain_read(
-    declarations: &[u8],
-    text: &[u8],
-    out: &mut [u8],
-    words: &mut [u32],
-    sets: &mut [u64],
-) -> u64 {
-    compare_reader::packed(naive_read::read(declarations, text, out, words, sets))
-}
-
 fn run_compare(arguments: &Arguments) -> Result<ExitCode, String> {
     let options = ["files", "seed", "jobs", "texts", "least", "failures", "programs", "self"];
     arguments.allow(&options, 0)?;
@@ -164,14 +109,14 @@ fn run_compare(arguments: &Arguments) -> Result<ExitCode, String> {
             reference: &exact_expand,
             plain: None,
             program: None,
-            checkers: &[&plain_check, &exact_check],
+            checkers: &[&plain, &exact],
         };
         let readers = Readers {
             subject: None,
             reference: &exact_read,
             plain: Some(&plain_read),
             program: None,
-            checkers: &[&plain_check, &exact_check],
+            checkers: &[&plain, &exact],
         };
         run.compare(Checkers::two(PLAIN, EXACT), writers, readers)?
     } else {
@@ -192,14 +137,14 @@ fn run_compare(arguments: &Arguments) -> Result<ExitCode, String> {
             reference: &exact_expand,
             plain: Some(&plain_expand),
             program: Some(&expand_program),
-            checkers: &[check, &exact_check],
+            checkers: &[check, &exact],
         };
         let readers = Readers {
             subject: Some(read),
             reference: &exact_read,
             plain: Some(&plain_read),
             program: Some(&read_program),
-            checkers: &[check, &exact_check],
+            checkers: &[check, &exact],
         };
         run.compare(checkers, writers, readers)?
     };
@@ -288,7 +233,7 @@ fn run_mutants(arguments: &Arguments) -> Result<ExitCode, String> {
     arguments.allow(&["files", "seed"], 0)?;
     let files = arguments.number("files", 20_000)?;
     let seed = arguments.number("seed", 1)?;
-    let checkers = mutants::try_checkers(&exact_check, seed, files, false);
+    let checkers = mutants::try_checkers(&exact, seed, files, false);
     let walks = mutants::try_walks(&exact_links, seed, files, false);
     let writers = mutants::try_writers(&exact_expand, seed, files / 10, false);
     let readers = mutants::try_readers(&exact_read, seed, files / 10, false);
@@ -317,7 +262,7 @@ fn run_bench(arguments: &Arguments) -> Result<ExitCode, String> {
     let budget = Duration::from_millis(arguments.number("ms", 120)?);
     let proved = ffi::library();
     let check = |subject: &bench::Subject| {
-        bench::time_check(subject, proved.map(|library| library.check), &exact_check, budget)
+        bench::time_check(subject, proved.map(|library| library.check), &exact, budget)
     };
     let rows = |subjects: Vec<bench::Subject>| {
         subjects.iter().filter(|subject| subject.name.contains(only)).map(check).collect()
@@ -433,7 +378,7 @@ fn run_vectors(arguments: &Arguments) -> Result<ExitCode, String> {
     };
     let rust = Party {
         name: "Rust",
-        check: &exact_check,
+        check: &exact,
         expand: &exact_expand,
         read: &exact_read,
         links: &exact_links,
@@ -441,7 +386,7 @@ fn run_vectors(arguments: &Arguments) -> Result<ExitCode, String> {
     };
     let plain = Party {
         name: "the plain reading",
-        check: &plain_check,
+        check: &plain,
         expand: &plain_expand,
         read: &plain_read,
         links: &plain_links,

@@ -12,18 +12,6 @@ const OUT: usize = 58_916;
 const WORDS: usize = 14_729;
 const SETS: usize = 4_096;
 
-/// `nezkaldo_expand` and `nezkaldo_expand_renamed`: the choice of names is by the call.
-type Expand = unsafe extern "C" fn(
-    job: *const u8,
-    job_length: usize,
-    out: *mut u8,
-    out_length: usize,
-    words: *mut u32,
-    words_length: usize,
-    sets: *mut u64,
-    sets_length: usize,
-) -> u64;
-
 unsafe extern "C" {
     fn nezkaldo_check(file: *const u8, file_length: usize, free: *mut u64, free_length: usize) -> u64;
     fn nezkaldo_expand(
@@ -79,7 +67,9 @@ fn check(file: &[u8]) -> Result<(), Refusal> {
     if answer >> 32 == 0 { Ok(()) } else { Err(Refusal(answer)) }
 }
 
-fn expand(call: Expand, job: &[u8]) -> Result<Vec<u8>, Refusal> {
+/// The choice of names is by the call.
+fn expand(rename_all: bool, job: &[u8]) -> Result<Vec<u8>, Refusal> {
+    let call = if rename_all { nezkaldo_expand_renamed } else { nezkaldo_expand };
     let (mut out, mut words, mut sets) = (vec![0; OUT], vec![0; WORDS], vec![0; SETS]);
     // SAFETY: four slices that do not overlap, each with its length; the call keeps none.
     let answer = unsafe {
@@ -131,32 +121,31 @@ fn word_at(file: &[u8], k: usize) -> Option<u32> {
     Some(u32::from_le_bytes(bytes.try_into().ok()?))
 }
 
-fn judge(call: Expand, input: &[u8]) -> Result<String, Refusal> {
+fn judge(rename_all: bool, input: &[u8]) -> Result<String, Refusal> {
     // A job has no contexts, no steps and right 0.
     let is_job = [5, 6, 8].into_iter().all(|k| word_at(input, k) == Some(0));
-    let file = if is_job { expand(call, input)? } else { input.to_vec() };
+    let file = if is_job { expand(rename_all, input)? } else { input.to_vec() };
     check(&file)?;
     let claim = |k| word_at(&file, k).unwrap_or_default();
     let written = if is_job { format!("written {}, ", file.len()) } else { String::new() };
     Ok(format!("{written}accepted: term {} is equal to term {}", claim(7), claim(8)))
 }
 
-fn run(call: Expand, files: &[Vec<u8>]) -> Result<String, Refusal> {
-    let [declarations, text] = files else { return judge(call, &files[0]) };
+fn run(rename_all: bool, files: &[Vec<u8>]) -> Result<String, Refusal> {
+    let [declarations, text] = files else { return judge(rename_all, &files[0]) };
     let job = read(declarations, text)?;
-    Ok(format!("read {}, {}", job.len(), judge(call, &job)?))
+    Ok(format!("read {}, {}", job.len(), judge(rename_all, &job)?))
 }
 
 fn main() -> ExitCode {
     let rename_all = std::env::args().nth(1).is_some_and(|word| word == "--rename");
-    let call: Expand = if rename_all { nezkaldo_expand_renamed } else { nezkaldo_expand };
     let paths = std::env::args().skip(1 + usize::from(rename_all));
     let files: Option<Vec<_>> = paths.map(|path| std::fs::read(path).ok()).collect();
     let Some(files) = files.filter(|files| [1, 2].contains(&files.len())) else {
         eprintln!("usage: check-rust [--rename] FILE\n       check-rust [--rename] DECLARATIONS TEXT");
         return ExitCode::from(2);
     };
-    match run(call, &files) {
+    match run(rename_all, &files) {
         Ok(line) => {
             println!("{line}");
             ExitCode::SUCCESS

@@ -4,7 +4,8 @@
 --     binds_at, lists_at                              what the tests of a record say, in propositions
 --     keeps_exactly                                   THE LAW: by default a variable is kept exactly where one term binds it and no let lists it
 --     kept_bound                                      the same of a kept variable, under either choice
-use mathlib.Core.Path.{◌≡◌, refl, sym, ap, ◌∙◌}
+--     kept_number                                     in well-formed tables only a variable of the job is kept
+use mathlib.Core.Path.{◌≡◌, refl, sym, ap, ◌∙◌, subst}
 use Prim.Native.Nat.{ℕ, zero, suc}
 use mathlib.Core.Bool.{Bool, true, false, cond, not, ◌||◌, false≢true}
 use mathlib.Core.Logic.{◌↔◌, ◌⊎◌, inl, inr}
@@ -14,13 +15,14 @@ use lib.ListN.{length}
 use lib.Dec.{eqb}
 use Rattle.std.proofs.lemmas.Bool.{or_cases, or_left, or_right, false_from_ne_true}
 use Rattle.std.proofs.lemmas.Bool.Decides.{Decides-and, Decides-not, Decides-eqb}
-use Rattle.bundle.specs.Bundle.{Bundle, term_of}
+use Rattle.bundle.specs.Bundle.{Bundle, TermRecord, term_of}
 use Rattle.bundle.specs.Links.{items}
 use Rattle.bundle.specs.Lists.{has}
 use Rattle.logic.specs.Lists.{Among, Number}
-use Rattle.logic.specs.Terms.{Binder, binder, letting, number_of, kind_of, is_binder}
+use Rattle.logic.specs.Terms.{Binder, forAll, exists, binder, letting, number_of, kind_of, is_binder}
 use Rattle.logic.proofs.Exactly.{has_exactly}
-use Rattle.logic.proofs.TermKinds.{kind_test, is_binder_exactly}
+use Rattle.logic.specs.WellFormed.{TermFormed, a_variable, an_application, a_binder, a_let, TablesFormed}
+use Rattle.logic.proofs.TermKinds.{kind_test, binder_kind, is_binder_exactly}
 use Rattle.expansion.specs.declared.Names.{Names}
 use Rattle.expansion.specs.declared.Names.TheVariants.{Keep, RenameAll}
 use Rattle.expansion.specs.Names.{binds, lists, binders, listed, keeps, BindsAt, ListsAt, BoundOnce, KeepsExactly}
@@ -142,10 +144,14 @@ module _ (b : Bundle) (x : ℕ) where
 
   -- ---- THE LAW
 
-  bound_once : keeps Keep b x ≡ true → BoundOnce b x
+  kept_test : (keeps Keep b x ≡ true) ↔ ((binders b T x ≡ 1) × (((t : ℕ) × Number T t × (lists b (term_of b t) x ≡ true)) → ⊥))
   unfolding keeps
+  kept_test =
+      Decides-and (eqb (binders b T x) 1) (not (listed b T x)) (Decides-eqb (binders b T x) 1) (Decides-not (listed b T x) (listed_exactly T))
+
+  bound_once : keeps Keep b x ≡ true → BoundOnce b x
   bound_once e =
-      let holds = (Decides-and (eqb (binders b T x) 1) (not (listed b T x)) (Decides-eqb (binders b T x) 1) (Decides-not (listed b T x) (listed_exactly T))).0 e in
+      let holds = kept_test.0 e in
       let one = one_binder T holds.0 in
       record {
         term = one.term;
@@ -155,15 +161,13 @@ module _ (b : Bundle) (x : ℕ) where
       }
 
   once_bound : BoundOnce b x → keeps Keep b x ≡ true
-  unfolding keeps
   once_bound once =
       let one : OneTo T = record {
         term = once.term;
         bound = (binds_at once.term).1 once.bound;
         alone = λ t h. once.alone t ((binds_at t).0 h);
       } in
-      (Decides-and (eqb (binders b T x) 1) (not (listed b T x)) (Decides-eqb (binders b T x) 1) (Decides-not (listed b T x) (listed_exactly T))).1
-      (one_binds T one, λ h. once.unlisted h.0 ((lists_at h.0).0 (h.1, h.2)))
+      kept_test.1 (one_binds T one, λ h. once.unlisted h.0 ((lists_at h.0).0 (h.1, h.2)))
 
 pub keeps_exactly : KeepsExactly
 keeps_exactly b x = (bound_once b x, once_bound b x)
@@ -174,3 +178,33 @@ pub kept_bound : (names : Names) (b : Bundle) (x : ℕ) → keeps names b x ≡ 
 unfolding keeps
 kept_bound Keep b x e = bound_once b x e
 kept_bound RenameAll b x e = absurd (false≢true e)
+
+-- ---- only a variable of the job is kept
+
+-- a number that is no binder's
+binder_apart : (k : ℕ) → (k ≡ 3 → ⊥) → (k ≡ 4 → ⊥) → (q : Binder) → k ≡ number_of (binder q) → ⊥
+binder_apart k three four forAll e = three e
+binder_apart k three four exists e = four e
+
+module _ (b : Bundle) where
+  -- what a well-formed term binds is a variable of the bundle
+  binds_number : (t x : ℕ) → TermFormed b t → BindsAt b t x → Number (length b.variables) x
+  binds_number t x formed h = go formed
+    where
+      -- the number of its kind, where that is another kind's
+      other : {A : Type 0} (k : ℕ) → (term_of b t).kind ≡ k → ((q : Binder) → k ≡ number_of (binder q) → ⊥) → A
+      other k e apart = absurd (apart h.kind.0 (sym e ∙ binder_kind (term_of b t).kind h.kind.0 h.kind.1))
+
+      kind_is : {r : TermRecord} → term_of b t ≡ r → (term_of b t).kind ≡ r.kind
+      kind_is e = ap (λ (r : TermRecord). r.kind) e
+
+      go : TermFormed b t → Number (length b.variables) x
+      go (a_variable y e n) = other 1 (kind_is e) (binder_apart 1 (λ z. omega arith) (λ z. omega arith))
+      go (an_application f s e known start lows sorts) = other 2 (kind_is e) (binder_apart 2 (λ z. omega arith) (λ z. omega arith))
+      go (a_binder q k y u e kind n low s) = subst (Number (length b.variables)) (sym (ap (λ (r : TermRecord). r.a) e) ∙ h.variable) n
+      go (a_let vs ts u e sv nv st lows low ls) = other 5 (kind_is e) (binder_apart 5 (λ z. omega arith) (λ z. omega arith))
+
+  pub kept_number : TablesFormed b → (names : Names) (x : ℕ) → keeps names b x ≡ true → Number (length b.variables) x
+  kept_number formed names x h =
+      let once = kept_bound names b x h in
+      binds_number once.term x (formed.terms once.term once.bound.is_term) once.bound

@@ -3,13 +3,16 @@
 use mathlib.Core.Path.{refl}
 use Rattle.bundle.specs.Words.{encode}
 use Rattle.bundle.specs.File.{bundle_of}
+use Rattle.logic.specs.Terms.{tree}
+use Rattle.expansion.specs.Names.{keeps}
 use Rattle.expansion.specs.Visit.{expanded}
 use Rattle.expansion.specs.File.{file_words}
 use Rattle.expansion.specs.NameExamples.{NamesRight}
 
 pub names_right : NamesRight
-unfolding expanded file_words bundle_of encode
+unfolding expanded file_words bundle_of encode keeps tree
 names_right = record {
+  once_itself = (refl, (tt, (tt, tt)));
   once_kept = refl;
   once_renamed = refl;
   unused_kept = refl;

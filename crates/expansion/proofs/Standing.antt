@@ -2,7 +2,7 @@
 --     StandsAs, Stands, Stand              the numbers of a node are terms, each with the tree that the node shows; its binders are the job's
 --     stands_term, stand_terms, stands_kept, stand_kept     they are terms, in longer bundles too
 --     application_sorts, binder_sorts, let_lists     what a well-formed bundle says of a term, from its tree
---     node_here_lem, node_made             the node of a term, by its record
+--     node_made                            the node of a term, by its record
 --     standing                             THE LAW: the node of a term stands for it
 use mathlib.Core.Path.{◌≡◌, refl, sym, ap, ap₂, ◌∙◌, subst}
 use Prim.Native.Nat.{ℕ, zero, suc, ◌+◌, ◌≤◌, ◌<◌}
@@ -166,7 +166,7 @@ module _ (b : Bundle) where
       ap₂ (block r.place r.term.a (items b r.term.a)) (nodes_same f g n h (items b r.term.b) below.1) (h r.term.c below.0.1)
   node_reads other r n below f g h = refl
 
-  pub node_here_lem : (t : ℕ) → Number (length b.terms) t → Before (refs b (term_of b t)) t
+  node_here_lem : (t : ℕ) → Number (length b.terms) t → Before (refs b (term_of b t)) t
       → node_at b t ≡ node_by b (node_at b) (record { place = t; term = term_of b t })
   unfolding node_at node_by refs
   node_here_lem zero n below = absurd (omega arith)

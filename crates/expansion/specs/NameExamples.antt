@@ -7,7 +7,9 @@ use Rattle.bundle.specs.Words.{encode}
 use Rattle.bundle.specs.File.{bundle_of}
 use Rattle.expansion.specs.declared.Names.{Names}
 use Rattle.expansion.specs.declared.Names.TheVariants.{Keep, RenameAll}
+use Rattle.logic.specs.Terms.{tree}
 use Rattle.expansion.specs.Visit.{expanded}
+use Rattle.expansion.specs.NamesKept.{NamesKept}
 use Rattle.expansion.specs.File.{file_words}
 
 -- the words of the file that is written for a job, given as words
@@ -182,6 +184,8 @@ renamed_shared =
 -- ---- the statement
 
 pub record NamesRight : Type 0 where
+  -- its names are all kept
+  pub once_itself : NamesKept Keep (bundle_of (encode once)) (tree (bundle_of (encode once)) 4)
   pub once_kept : written Keep once ≡ kept_once
   pub once_renamed : written RenameAll once ≡ renamed_once
   pub unused_kept : written Keep unused ≡ kept_unused
