@@ -14,16 +14,16 @@ extern "C" {
 
 /* Checks the bundle of `file_length` bytes at `file`.
  *
- * Returns less than 2^32 where it is accepted: then both sides of its claim (header words 7 and 8) are closed and have equal value in every finite world. The number is
- * that of the pairs of terms that the last REFL walked visited, at most 4,096; 0 where no REFL was walked (document 02, Req 04). Else
- * number * 2^32 + record of the first check of documents 01 and 02 that fails (record 0 for 1 to 4 and 15). So `answer >> 32` is 0 exactly where the file
- * is accepted.
+ * Returns less than 2^32 where it is accepted: then both sides of its claim (header words 7 and 8) are closed and have equal value in every finite
+ * world, whatever it picks for choices (term kind 6; document 02, Req 07). The number is that of the pairs of terms that the last REFL walked visited, at
+ * most 4,096; 0 where no REFL was walked (Req 04). Else number * 2^32 + record of the first check of documents 01 and 02 that fails (record 0 for 1 to 4
+ * and 15). So `answer >> 32` is 0 exactly where the file is accepted.
  *
  * `free` is lent for writing: `free_length` words of 64 bits, at least four for each of the file's terms (else check 4 fails); 4,096 are
  * always enough. It may hold anything before. Accepted: words 4*(i-1) to 4*(i-1)+3 are the free variables of term i, variables 1 to 64 in the first of
  * them and so on: bit (v-1)%64 of word 4*(i-1)+(v-1)/64 is set exactly where variable v is free in term i; the rest is zero. Refused: all zero.
  *
- * It takes at most 288 KB of stack, whatever the file; 112 KB where the file has at most 64 variables.
+ * It takes at most 288 KB of stack, whatever the file; 128 KB where the file has at most 64 variables.
  *
  * Both pointers are never null; with length 0 they may point anywhere that is aligned. The areas do not overlap. */
 uint64_t nezkaldo_check(const uint8_t *file, size_t file_length, uint64_t *free, size_t free_length);
@@ -32,8 +32,9 @@ uint64_t nezkaldo_check(const uint8_t *file, size_t file_length, uint64_t *free,
  *
  * Names: the call is the choice. nezkaldo_expand keeps: a quantifier's variable stays as it is where exactly one term record of the job binds it (of all
  * T, also those that the rule does not reach) and no let of the job lists it; else the quantifier gets a new variable, a record after the job's. So the
- * right side may be an old record, even the rule itself. nezkaldo_expand_renamed gives every quantifier a new variable (document 02, Req 06). All that
- * follows is so of both; a job may be refused by 16 under one choice and not under the other.
+ * right side may be an old record, even the rule itself. nezkaldo_expand_renamed gives every quantifier a new variable (document 02, Req 06). A choice
+ * (term kind 6, Req 07) counts as a quantifier here. All that follows is so of both; a job may be refused by 16 under one choice of names and not under
+ * the other.
  *
  * Returns the length of the file that now stands at the start of `out`, at most 58,916: nezkaldo_check, lent four words for each of its terms, accepts
  * it, its left is the rule, its right holds no let. Else number * 2^32 + record of the first check of document 01 that fails (record 0 for 1 to 4 and

@@ -11,7 +11,7 @@ use crate::compare_reader::Reader;
 use crate::compare_writer::Writer;
 use crate::expand::{Names, written};
 use crate::generate::derive::REFL;
-use crate::generate::jobs::{self, OLD_BYTES, QUANTIFIERS};
+use crate::generate::jobs::{self, CHOICES, OLD_BYTES, QUANTIFIERS};
 use crate::generate::whole::{self, Length};
 use crate::generate::{large, texts};
 use crate::read;
@@ -133,6 +133,7 @@ pub fn subjects() -> Vec<Subject> {
     let length = Length { pairs: MOST_PAIRS, differs: false, binders: 4 };
     subjects.push(made("4,096 pairs", whole::one_walk(rng(), length)));
     subjects.push(made("1,000 nested binders", whole::shared_binders(rng(), 1_000, 100)));
+    subjects.push(made("128 SKO steps", large::many_skolem(rng(), 128)));
     subjects
 }
 
@@ -234,14 +235,15 @@ pub struct Rule {
 }
 
 /// Those of the expansions, whose lets list every variable that a quantifier binds, so that
-/// none is kept; and one of quantifiers over different variables, all of them kept unless all
-/// are renamed.
+/// none is kept; one of quantifiers over different variables, and one of choices, all of them
+/// kept unless all are renamed.
 pub fn jobs() -> Vec<Rule> {
     let sized = SIZES.map(|(name, bytes)| (name.to_string(), jobs::of_size(bytes)));
     let quantified = (format!("{QUANTIFIERS} quantifiers"), jobs::quantified(QUANTIFIERS));
+    let chosen = (format!("{CHOICES} choices"), jobs::chosen(CHOICES));
     sized
         .into_iter()
-        .chain([quantified])
+        .chain([quantified, chosen])
         .map(|(name, words)| Rule { name, job: to_bytes(&words) })
         .collect()
 }
@@ -430,8 +432,8 @@ mod tests {
         }
     }
 
-    /// The jobs of the expansions keep no name, the one of quantifiers all of them, which
-    /// makes its file shorter.
+    /// The jobs of the expansions keep no name, those of quantifiers and choices all of them,
+    /// which makes their files shorter.
     #[test]
     fn jobs_are_what_they_say() {
         let writer: Writer = &|job, names, out, words, sets| {
@@ -441,12 +443,13 @@ mod tests {
         for (place, rule) in jobs.iter().enumerate() {
             let mut quantified = Quantified::default();
             quantified.add(&written(&rule.job, Names::Keep).expect("it fits"));
-            let last = place == SIZES.len();
+            let kept = place >= SIZES.len();
             let kinds = Quantified {
-                kept: u64::from(last),
+                kept: u64::from(kept),
                 // The smallest has no quantifier.
-                renamed: u64::from(!last && place > 0),
+                renamed: u64::from(!kept && place > 0),
                 both: 0,
+                choices: [u64::from(place > SIZES.len()), 0],
             };
             assert_eq!(quantified, kinds, "{}", rule.name);
             let bytes = Names::ALL.map(|names| {
@@ -454,9 +457,9 @@ mod tests {
                 assert!(row.rust > 0.0 && row.proved.is_none() && row.name == rule.name);
                 row.bytes
             });
-            assert_eq!(bytes[0] < bytes[1], last, "{}", rule.name);
+            assert_eq!(bytes[0] < bytes[1], kept, "{}", rule.name);
         }
-        assert_eq!(jobs.len(), SIZES.len() + 1);
+        assert_eq!(jobs.len(), SIZES.len() + 2);
     }
 
     /// Pairs of the files in which REFL walks; the others have none.

@@ -9,6 +9,7 @@ use crate::bundle::{LEFT, MAX_SETS, RIGHT, Section, area_words, counts_of, to_wo
 use crate::check::{check, check_with};
 use crate::compare_links::{self, Counter, Walks};
 use crate::compare_pairs::{self, Pairs};
+use crate::compare_skolem::Skolem;
 use crate::eval::{claim_holds, steps_hold};
 use crate::fault::{Broken, Fault};
 use crate::generate::{Case, Family, case};
@@ -85,6 +86,8 @@ pub struct Report {
     /// Refused stray steps, by the other number that refuses them: 12, which comes before 22,
     /// or 21, 13 or 14, which come after it; 0 where there is none.
     pub stray: Counts,
+    /// Choices and SKO steps.
+    pub skolem: Skolem,
     /// Accepted claims that were tried in worlds.
     pub claims: u64,
     /// Those of them whose sides are different terms.
@@ -120,6 +123,7 @@ impl Default for Report {
             walked_pairs: 0,
             pairs: Pairs::default(),
             stray: Counts::new(),
+            skolem: Skolem::default(),
             claims: 0,
             claims_apart: 0,
             claims_everywhere: 0,
@@ -162,6 +166,7 @@ impl Report {
             }
         }
         self.count_stray(file, answer);
+        self.skolem.add(file, answer);
         let counters = [checkers.subject.links, checkers.reference.links];
         for step in compare_links::steps(file, answer, index) {
             let plain = plain.map(|plain| plain.links);
@@ -320,6 +325,7 @@ impl fmt::Display for Report {
             stray(14),
             stray(12)
         )?;
+        write!(out, "{}", self.skolem)?;
         writeln!(
             out,
             "{} accepted claims, all closed, tried in worlds, {} of them with different sides; {} \

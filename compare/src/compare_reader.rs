@@ -257,6 +257,8 @@ fn same_term(one: &Plain, other: &Plain) -> bool {
             }
             Tree::ForAll(variable, body) => number(body).map(|body| Tree::ForAll(*variable, body)),
             Tree::Exists(variable, body) => number(body).map(|body| Tree::Exists(*variable, body)),
+            // No text has a choice.
+            Tree::Choice(..) => None,
             Tree::Let(variables, bounds, body) => all(bounds)
                 .zip(number(body))
                 .map(|(bounds, body)| Tree::Let(variables.clone(), bounds, body)),

@@ -8,6 +8,7 @@ use crate::bundle::{LEFT, MAX_BYTES, MAX_SETS, MAX_WORDS, RIGHT, Section, counts
 use crate::compare::{Checker, SMALL, WORLDS};
 use crate::eval::claim_holds;
 use crate::expand::{Names, written};
+use crate::generate::builder::CHOICE;
 use crate::generate::derive::BIND;
 use crate::generate::jobs::{Job, JobFamily, job};
 use crate::naive::{Plain, Tree, load};
@@ -96,7 +97,7 @@ pub struct Writers<'a> {
 
 pub type Difference = tally::Difference<JobFamily>;
 
-/// Files by what became of the names of their quantifiers.
+/// Files by what became of the names of their quantifiers and choices.
 #[derive(Clone, Copy, Debug, Default, PartialEq, Eq)]
 pub struct Quantified {
     /// A variable is kept.
@@ -105,6 +106,8 @@ pub struct Quantified {
     pub renamed: u64,
     /// One is kept and another renamed.
     pub both: u64,
+    /// The variable of a choice is kept, and that of one is renamed.
+    pub choices: [u64; 2],
 }
 
 impl Quantified {
@@ -115,22 +118,34 @@ impl Quantified {
         let word = |section, record, field| words[counts.place(section, record, field)];
         let variable = |term| word(Section::Terms, term, 1);
         let (mut kept, mut renamed) = (false, false);
+        let mut choices = [false; 2];
         for step in 1..=counts[Section::Steps] {
             let [rule, left, right] = [0, 2, 3].map(|field| word(Section::Steps, step, field));
             if rule == BIND {
                 let same = variable(left) == variable(right);
                 kept |= same;
                 renamed |= !same;
+                choices[usize::from(!same)] |= word(Section::Terms, left, 0) == CHOICE;
             }
         }
         self.kept += u64::from(kept);
         self.renamed += u64::from(renamed);
         self.both += u64::from(kept && renamed);
+        for (count, choice) in self.choices.iter_mut().zip(choices) {
+            *count += u64::from(choice);
+        }
     }
 
     /// The kinds that were counted fewer than `least` times.
     pub fn unseen(&self, least: u64) -> Vec<&'static str> {
-        let kinds = [("kept", self.kept), ("renamed", self.renamed), ("both", self.both)];
+        let [kept, renamed] = self.choices;
+        let kinds = [
+            ("kept", self.kept),
+            ("renamed", self.renamed),
+            ("both", self.both),
+            ("choice kept", kept),
+            ("choice renamed", renamed),
+        ];
         kinds.into_iter().filter(|&(_, count)| count < least).map(|(kind, _)| kind).collect()
     }
 }
@@ -300,7 +315,9 @@ pub fn holds_let(plain: &Plain, term: u32) -> bool {
         holds[number as usize] = match plain.tree(number) {
             Tree::Variable(_) => false,
             Tree::Application(_, arguments) => arguments.iter().any(|&part| holds[part as usize]),
-            Tree::ForAll(_, body) | Tree::Exists(_, body) => holds[*body as usize],
+            Tree::ForAll(_, body) | Tree::Exists(_, body) | Tree::Choice(_, body) => {
+                holds[*body as usize]
+            }
             Tree::Let(..) => true,
         };
     }
@@ -337,12 +354,14 @@ impl fmt::Display for Report {
             writeln!(out, "{names}:")?;
             tally.write_table(out, "jobs", "written", numbers())?;
         }
-        let Quantified { kept, renamed, both } = self.quantified;
+        let Quantified { kept, renamed, both, choices } = self.quantified;
         writeln!(
             out,
             "of the files written with {}, {kept} have a variable kept, {renamed} one renamed, \
-             {both} both",
-            Names::Keep
+             {both} both; {} have a choice's variable kept, {} one's renamed",
+            Names::Keep,
+            choices[0],
+            choices[1]
         )?;
         for difference in &self.differences {
             writeln!(out, "DIFFERENCE: job {difference}")?;

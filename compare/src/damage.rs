@@ -136,7 +136,8 @@ impl Draft {
         match rng.below(100) {
             0..3 => self.spoil_walk(rng),
             3..6 => self.spoil_scope(rng),
-            6..28 => self.spoil_field(rng),
+            6..9 => self.spoil_skolem(rng),
+            9..28 => self.spoil_field(rng),
             28..32 => self.spoil_symbol(rng),
             32..35 => self.empty_lists(rng),
             35..46 => self.copy_field(rng),
@@ -301,6 +302,94 @@ impl Draft {
         }
     }
 
+    /// One fault at a SKO step: in its rule, sides, premises or premise, in the context of the
+    /// premise, or in the choice that takes the variable's place.
+    pub fn spoil_skolem(&mut self, rng: &mut Rng) {
+        let terms = self.counts[Section::Terms];
+        let steps: Vec<u32> = (1..=self.counts[Section::Steps])
+            .filter(|&step| {
+                matches!(self.get(Section::Steps, step, 0), 6 | 7)
+                    && (1..=terms).contains(&self.get(Section::Steps, step, 2))
+            })
+            .collect();
+        let Some(&step) = rng.pick(&steps) else { return self.spoil_field(rng) };
+        let [rule, left] = [0, 2].map(|field| self.get(Section::Steps, step, field));
+        let premise = self.list(self.get(Section::Steps, step, 4)).first().copied().unwrap_or(0);
+        let premise_there = (1..=self.counts[Section::Steps]).contains(&premise);
+        let context = if premise_there { self.get(Section::Steps, premise, 1) } else { 0 };
+        let term = rng.between(1, terms);
+        let variable = rng.between(1, self.counts[Section::Variables].max(1));
+        let chosen = match context {
+            1.. if context <= self.counts[Section::Contexts] => {
+                self.list(self.get(Section::Contexts, context, 2)).first().copied().unwrap_or(0)
+            }
+            _ => 0,
+        };
+        match rng.below(16) {
+            0 => self.set(Section::Steps, step, 0, 13 - rule),
+            1 => {
+                let other = rng.one_of([4, 5, 8]);
+                self.set(Section::Steps, step, 0, other);
+            }
+            2 => {
+                let (side, other) = (rng.between(2, 3), rng.between(1, terms));
+                self.set(Section::Steps, step, side as usize, other);
+            }
+            3 => {
+                let premises = [premise; 2];
+                let count = rng.one_of([0, 2]);
+                let start = self.append_list(&premises[..count]);
+                self.set(Section::Steps, step, 4, start);
+            }
+            4 => {
+                let other = rng.between(1, step);
+                let start = self.append_list(&[other]);
+                self.set(Section::Steps, step, 4, start);
+            }
+            5 => {
+                let other = rng.below(self.counts[Section::Contexts] + 1);
+                self.set(Section::Steps, step, 1, other);
+            }
+            // The left's quantifier, variable or body.
+            6 | 7 => self.spoil_term(rng, left),
+            8 if premise_there => {
+                let field = rng.between(1, 3) as usize;
+                let old = self.get(Section::Steps, premise, field);
+                let word = self.plausible(rng, Section::Steps, premise, old);
+                self.set(Section::Steps, premise, field, word);
+            }
+            9..12 if chosen != 0 => match rng.below(4) {
+                0 => {
+                    let parent = rng.below(context);
+                    self.set(Section::Contexts, context, 3, parent);
+                }
+                1 => {
+                    let start = self.append_list(&[variable]);
+                    self.set(Section::Contexts, context, 1, start);
+                }
+                2 => {
+                    let start = self.append_list(&[term]);
+                    self.set(Section::Contexts, context, 2, start);
+                }
+                _ => {
+                    for (field, word) in [1, variable, 0].into_iter().enumerate() {
+                        self.set(Section::Contexts, context, field, word);
+                    }
+                }
+            },
+            _ if (1..=terms).contains(&chosen) => match rng.below(3) {
+                // What stands in the choice: a not, or the body.
+                0 => {
+                    let inner = self.get(Section::Terms, chosen, 2);
+                    let there = (1..=terms).contains(&inner);
+                    self.spoil_term(rng, if there { inner } else { chosen });
+                }
+                _ => self.spoil_term(rng, chosen),
+            },
+            _ => self.set(Section::Steps, step, 2, term),
+        }
+    }
+
     /// A context and those towards the empty one.
     fn chain(&self, context: u32) -> Vec<u32> {
         let mut chain = Vec::new();
@@ -321,7 +410,7 @@ impl Draft {
             place += 1;
             let parts = match self.record(Section::Terms, term)[..] {
                 [2, _, arguments, _] => self.list(arguments),
-                [3 | 4, _, body, _] => vec![body],
+                [3 | 4 | 6, _, body, _] => vec![body],
                 [5, _, bounds, body] => [self.list(bounds), vec![body]].concat(),
                 _ => vec![],
             };
@@ -340,12 +429,11 @@ impl Draft {
         let variable = rng.between(1, self.counts[Section::Variables].max(1));
         let lower = rng.between(1, term.max(2) - 1);
         match (self.get(Section::Terms, term, 0), rng.below(3)) {
-            (3 | 4, 0) => {
-                let kind = 7 - self.get(Section::Terms, term, 0);
-                self.set(Section::Terms, term, 0, kind);
+            (kind @ (3 | 4 | 6), 0) => {
+                self.set(Section::Terms, term, 0, another_kind(rng, kind));
             }
-            (3 | 4, 1) => self.set(Section::Terms, term, 2, lower),
-            (1 | 3 | 4, _) => self.set(Section::Terms, term, 1, variable),
+            (3 | 4 | 6, 1) => self.set(Section::Terms, term, 2, lower),
+            (1 | 3 | 4 | 6, _) => self.set(Section::Terms, term, 1, variable),
             (2, 0) => {
                 let declared = self.counts[Section::Symbols];
                 let (some, other) = (rng.between(1, 8), 33 + rng.below(declared + 1));
@@ -428,9 +516,9 @@ impl Draft {
             let values = self.list(copy[field]);
             copy[field] = self.append_list(&values);
         }
-        // Now and then with the other quantifier, which makes it another term.
-        if (copy[0] == 3 || copy[0] == 4) && rng.chance(40) {
-            copy[0] = 7 - copy[0];
+        // Now and then with another binder, which makes it another term.
+        if matches!(copy[0], 3 | 4 | 6) && rng.chance(40) {
+            copy[0] = another_kind(rng, copy[0]);
         }
         self.append(Section::Terms, &copy);
     }
@@ -551,6 +639,15 @@ impl Draft {
                 _ => self.spoil_count(rng),
             }
         }
+    }
+}
+
+/// Another kind of binder: mostly the other quantifier for one.
+fn another_kind(rng: &mut Rng, kind: u32) -> u32 {
+    match kind {
+        3 | 4 if rng.chance(70) => 7 - kind,
+        3 | 4 => 6,
+        _ => rng.one_of([3, 4]),
     }
 }
 

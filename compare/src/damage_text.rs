@@ -4,7 +4,7 @@
 use crate::rng::Rng;
 
 /// What a lexeme may be replaced by: words, brackets, and what the grammar has not.
-const OTHERS: [&str; 34] = [
+const OTHERS: [&str; 35] = [
     "(",
     ")",
     "true",
@@ -16,6 +16,7 @@ const OTHERS: [&str; 34] = [
     "=",
     "forall",
     "exists",
+    "choice",
     "let",
     "Bool",
     "Item",

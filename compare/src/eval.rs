@@ -1,6 +1,6 @@
-//! Values of terms in finite worlds (document 01, "Values"), to test that what
-//! is accepted holds. A world has items 0 to n - 1 and a meaning for each
-//! declared symbol. Truth is 0 or 1.
+//! Values of terms in finite worlds (document 01, "Values"; Req 07), to test that what
+//! is accepted holds. A world has items 0 to n - 1, a meaning for each declared symbol, and a
+//! pick for each sort. Truth is 0 or 1.
 
 use crate::bundle::BUILT_IN;
 use crate::naive::{Plain, Tree};
@@ -18,14 +18,29 @@ enum Meaning {
     Seeded(u64),
 }
 
+/// The pick of a sort: a value for each set of its values. Value v is in set s where bit v of
+/// s is set, so that the same set always gives the same pick.
+pub type Pick = Vec<u32>;
+
 #[derive(Clone, Debug)]
 pub struct World {
     items: u32,
     meanings: Vec<Meaning>,
+    /// By sort.
+    picks: [Pick; 2],
 }
+
+const SORTS: [u32; 2] = [0, 1];
 
 fn size(sort: u32, items: u32) -> u32 {
     if sort == 0 { 2 } else { items }
+}
+
+/// What may be picked from each set: a member, or any value from the empty set.
+fn choices(sort: u32, items: u32) -> Vec<Vec<u32>> {
+    let values = size(sort, items);
+    let members = |set: u32| (0..values).filter(move |value| set == 0 || set >> value & 1 == 1);
+    (0..1 << values).map(|set| members(set).collect()).collect()
 }
 
 /// The number of argument tuples, if a table can hold them.
@@ -47,12 +62,19 @@ impl World {
                 None => Meaning::Seeded(rng.next_u64()),
             })
             .collect();
-        World { items, meanings }
+        let picks = SORTS.map(|sort| {
+            let choices = choices(sort, items);
+            choices
+                .iter()
+                .map(|members| members[rng.below(members.len() as u32) as usize])
+                .collect()
+        });
+        World { items, meanings, picks }
     }
 
-    /// Every world with so many items, as far as the symbols `used` go; `None`
+    /// Every world with so many items, as far as what is `used` goes; `None`
     /// where there are more than `most`.
-    pub fn all(plain: &Plain, items: u32, used: &BTreeSet<u32>, most: usize) -> Option<Vec<World>> {
+    pub fn all(plain: &Plain, items: u32, used: &Used, most: usize) -> Option<Vec<World>> {
         // Each table entry is a digit; its base is the result's size. A symbol with one
         // meaning only, or that is not used, needs no table.
         let mut bases = Vec::new();
@@ -60,7 +82,7 @@ impl World {
         let mut worlds = 1usize;
         for (index, (result, sorts)) in plain.symbols.iter().enumerate() {
             let base = size(*result, items);
-            if base == 1 || !used.contains(&(BUILT_IN + 1 + index as u32)) {
+            if base == 1 || !used.symbols.contains(&(BUILT_IN + 1 + index as u32)) {
                 tables.push(None);
                 continue;
             }
@@ -71,22 +93,43 @@ impl World {
             bases.extend(std::iter::repeat_n(base, entries));
             tables.push(Some(entries));
         }
+        // So is what is picked from each set, of those that may be picked.
+        let choices = SORTS.map(|sort| {
+            let mut choices = choices(sort, items);
+            if !used.picks.contains(&sort) {
+                choices.iter_mut().for_each(|members| members.truncate(1));
+            }
+            choices
+        });
+        for members in choices.iter().flatten() {
+            worlds = worlds.checked_mul(members.len()).filter(|&worlds| worlds <= most)?;
+            bases.push(members.len() as u32);
+        }
         let mut digits = vec![0; bases.len()];
         let mut found = Vec::with_capacity(worlds);
         loop {
             let mut rest = digits.as_slice();
+            let mut take = |count: usize| {
+                let (taken, others) = rest.split_at(count);
+                rest = others;
+                taken
+            };
             let meanings = tables
                 .iter()
                 .map(|&entries| match entries {
-                    Some(entries) => {
-                        let (table, others) = rest.split_at(entries);
-                        rest = others;
-                        Meaning::Table(table.to_vec())
-                    }
+                    Some(entries) => Meaning::Table(take(entries).to_vec()),
                     None => Meaning::Seeded(0),
                 })
                 .collect();
-            found.push(World { items, meanings });
+            let picks = choices.each_ref().map(|choices| {
+                let places = take(choices.len());
+                choices
+                    .iter()
+                    .zip(places)
+                    .map(|(members, &place)| members[place as usize])
+                    .collect()
+            });
+            found.push(World { items, meanings, picks });
             let Some(place) = (0..digits.len()).find(|&place| digits[place] + 1 < bases[place])
             else {
                 return Some(found);
@@ -96,12 +139,25 @@ impl World {
         }
     }
 
-    /// The world in which each declared symbol has the given table.
+    /// The world in which each declared symbol has the given table, and the least value is
+    /// picked.
     pub fn with_tables(items: u32, tables: &[&[u32]]) -> Self {
         World {
             items,
             meanings: tables.iter().map(|table| Meaning::Table(table.to_vec())).collect(),
+            picks: SORTS
+                .map(|sort| choices(sort, items).iter().map(|members| members[0]).collect()),
         }
+    }
+
+    /// The same with these picks, of truth and of items.
+    pub fn picking(self, picks: [Pick; 2]) -> Self {
+        World { picks, ..self }
+    }
+
+    /// What is picked from the set of the values of a sort for which a test holds.
+    fn pick(&self, sort: u32, set: usize) -> u32 {
+        self.picks[sort as usize][set]
     }
 
     fn apply(&self, plain: &Plain, symbol: u32, arguments: &[u32]) -> u32 {
@@ -166,6 +222,7 @@ impl<'a> Evaluator<'a> {
             }
             Tree::ForAll(variable, body) => self.quantified(*variable, *body, 0),
             Tree::Exists(variable, body) => self.quantified(*variable, *body, 1),
+            Tree::Choice(variable, body) => self.chosen(*variable, *body),
             Tree::Let(variables, bounds, body) => {
                 let values: Result<Vec<u32>, TooMuch> =
                     bounds.iter().map(|&bound| self.value(bound)).collect();
@@ -198,6 +255,26 @@ impl<'a> Evaluator<'a> {
         value
     }
 
+    /// The pick from the set of the values for which the body is true.
+    fn chosen(&mut self, variable: u32, body: u32) -> Result<u32, TooMuch> {
+        let place = variable as usize - 1;
+        let sort = self.plain.variables[place];
+        let before = self.values[place];
+        let mut set = Ok(0);
+        for taken in 0..size(sort, self.world.items) {
+            self.values[place] = taken;
+            match self.value(body) {
+                Ok(holds) => set = set.map(|set| set | (holds as usize) << taken),
+                Err(TooMuch) => {
+                    set = Err(TooMuch);
+                    break;
+                }
+            }
+        }
+        self.values[place] = before;
+        set.map(|set| self.world.pick(sort, set))
+    }
+
     /// Exchanges what these variables, all different, take for other values.
     fn exchange(&mut self, variables: &[u32], values: &mut [u32]) {
         for (&variable, value) in variables.iter().zip(values) {
@@ -213,9 +290,18 @@ impl<'a> Evaluator<'a> {
     }
 }
 
-/// Declared symbols in these terms and the terms below them.
-pub fn symbols_in(plain: &Plain, terms: &[u32]) -> BTreeSet<u32> {
-    let mut symbols = BTreeSet::new();
+/// What of a world the values of some terms depend on.
+#[derive(Clone, Debug, Default)]
+pub struct Used {
+    /// Declared symbols.
+    pub symbols: BTreeSet<u32>,
+    /// The sorts of choices.
+    pub picks: BTreeSet<u32>,
+}
+
+/// What these terms and the terms below them use.
+pub fn used_in(plain: &Plain, terms: &[u32]) -> Used {
+    let mut used = Used::default();
     let mut seen = BTreeSet::new();
     let mut pending = terms.to_vec();
     while let Some(term) = pending.pop() {
@@ -225,7 +311,7 @@ pub fn symbols_in(plain: &Plain, terms: &[u32]) -> BTreeSet<u32> {
         match plain.tree(term) {
             Tree::Variable(_) => {}
             Tree::Application(symbol, arguments) => {
-                symbols.extend(Some(*symbol).filter(|&symbol| symbol > BUILT_IN));
+                used.symbols.extend(Some(*symbol).filter(|&symbol| symbol > BUILT_IN));
                 pending.extend(arguments);
             }
             Tree::ForAll(_, body) | Tree::Exists(_, body) => pending.push(*body),
@@ -233,9 +319,13 @@ pub fn symbols_in(plain: &Plain, terms: &[u32]) -> BTreeSet<u32> {
                 pending.extend(bounds);
                 pending.push(*body);
             }
+            Tree::Choice(variable, body) => {
+                used.picks.insert(plain.variables[*variable as usize - 1]);
+                pending.push(*body);
+            }
         }
     }
-    symbols
+    used
 }
 
 /// How a claim was tested.
@@ -243,7 +333,7 @@ pub fn symbols_in(plain: &Plain, terms: &[u32]) -> BTreeSet<u32> {
 pub struct Tested {
     pub worlds: usize,
     /// Every world of 1 and of 2 items was among them, as far as the claim's symbols
-    /// go, each with every value of the claim's free variables.
+    /// and choices go, each with every value of the claim's free variables.
     pub all_small: bool,
     /// Evaluations that were given up.
     pub given_up: usize,
@@ -258,7 +348,7 @@ const FREE: usize = 6;
 /// these are few, else, and with 3 items, for up to 64 random ones.
 pub fn claim_holds(plain: &Plain, most: usize, rng: &mut Rng) -> Result<Tested, String> {
     let (left, right) = (plain.left, plain.right);
-    let used = symbols_in(plain, &[left, right]);
+    let used = used_in(plain, &[left, right]);
     let free: Vec<u32> = plain.free(left).union(plain.free(right)).copied().collect();
     let mut tested = Tested { all_small: free.len() <= FREE, ..Tested::default() };
     let mut worlds = Vec::new();

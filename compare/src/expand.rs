@@ -1,10 +1,10 @@
 //! The writer of let expansions, from document 01. It takes a job and writes
 //! the file of the derivation that expands every let and renames the
-//! quantifiers, all of them or those whose names are not kept (Req 06).
+//! quantifiers and choices, all of them or those whose names are not kept (Req 06).
 
 use crate::answer::{Reason, Refusal};
 use crate::bundle::{Counts, MAX_BYTES, MAX_SETS, MAX_WORDS, SET_WORDS, Section, to_bytes};
-use crate::check::{Lookup, Quantifier, Tables, Term};
+use crate::check::{Binder, Lookup, Tables, Term};
 use crate::fault::{Exact, Fault, OLD_VARIABLES, Rules};
 use crate::set::Set;
 use std::fmt;
@@ -14,7 +14,7 @@ const CONG: u32 = 2;
 const BIND: u32 = 4;
 const LET: u32 = 5;
 
-/// Which quantifiers keep their variable.
+/// Which quantifiers and choices keep their variable.
 #[derive(Clone, Copy, Debug, Default, PartialEq, Eq, PartialOrd, Ord, Hash)]
 pub enum Names {
     /// Those whose variable exactly one term record of the job binds and no let lists.
@@ -141,10 +141,11 @@ fn kept<R: Rules>(rules: R, job: &Tables, names: Names) -> Set {
     let (mut bound, mut again, mut listed) = (Set::EMPTY, Set::EMPTY, Set::EMPTY);
     for number in 1..=job.terms.count() {
         match job.terms.get(number).term {
-            Term::Quantifier { kind, variable, .. } => {
+            Term::Binder { binder, variable, .. } => {
                 if passed_over(Fault::BindersOfReached, number)
-                    || kind == Quantifier::Exists && rules.has(Fault::ForAllsCounted)
-                    || kind == Quantifier::ForAll && rules.has(Fault::ExistsCounted)
+                    || binder != Binder::ForAll && rules.has(Fault::ForAllsCounted)
+                    || binder != Binder::Exists && rules.has(Fault::ExistsCounted)
+                    || binder == Binder::Choice && rules.has(Fault::ChoicesUncounted)
                 {
                     continue;
                 }
@@ -187,7 +188,7 @@ fn reached(job: &Tables) -> Vec<bool> {
         match job.terms.get(number).term {
             Term::Variable(_) => {}
             Term::Application { arguments, .. } => parts.extend(job.lists.values(arguments)),
-            Term::Quantifier { body, .. } => parts.push(body),
+            Term::Binder { body, .. } => parts.push(body),
             Term::Let { bounds, body, .. } => {
                 parts.extend(job.lists.values(bounds));
                 parts.push(body);
@@ -275,8 +276,13 @@ impl<'a, R: Rules> Writer<'a, R> {
                 let result = self.application(symbol, results)?;
                 (CONG, result, carried)
             }
-            Term::Quantifier { kind, variable, body } => {
-                let (result, carried) = self.quantifier(kind, variable, body, context)?;
+            Term::Binder { binder: Binder::Choice, .. }
+                if self.rules.has(Fault::ChoicesNotVisited) =>
+            {
+                (REFL, term, Vec::new())
+            }
+            Term::Binder { binder, variable, body } => {
+                let (result, carried) = self.binder(binder, variable, body, context)?;
                 (BIND, result, vec![carried])
             }
             Term::Let { variables, bounds, body } => {
@@ -369,14 +375,18 @@ impl<'a, R: Rules> Writer<'a, R> {
         }
     }
 
-    fn quantifier(
+    fn binder(
         &mut self,
-        kind: Quantifier,
+        binder: Binder,
         x: u32,
         body: u32,
         context: u32,
     ) -> Result<(u32, Carried), Full> {
-        let kept = self.keeps(x);
+        let mut kept = self.keeps(x);
+        if binder == Binder::Choice {
+            kept &= !self.rules.has(Fault::ChoicesNotKept);
+            kept |= self.rules.has(Fault::ChoicesKept);
+        }
         let y = if kept {
             x
         } else {
@@ -411,11 +421,7 @@ impl<'a, R: Rules> Writer<'a, R> {
         if !self.rules.has(Fault::ImagesKept) {
             self.images[x as usize - 1] = outer;
         }
-        let kind = match kind {
-            Quantifier::ForAll => 3,
-            Quantifier::Exists => 4,
-        };
-        let record = [kind, y, carried.result, 0];
+        let record = [binder.kind(), y, carried.result, 0];
         let result = if kept && self.rules.has(Fault::KeptResultNotLookedUp) {
             self.push_term(record, record)?
         } else {
@@ -424,19 +430,19 @@ impl<'a, R: Rules> Writer<'a, R> {
         Ok((result, carried))
     }
 
-    /// Whether a quantifier over this variable keeps it.
+    /// Whether a binder of this variable keeps it.
     fn keeps(&self, x: u32) -> bool {
         let mut kept = self.kept.has(x);
         if self.rules.has(Fault::BindersOfGrowingFile) {
             let terms = self.sections[Section::Terms as usize].chunks(Section::Terms.width());
-            kept &= terms.filter(|term| matches!(term[0], 3 | 4) && term[1] == x).count() == 1;
+            kept &= terms.filter(|term| matches!(term[0], 3 | 4 | 6) && term[1] == x).count() == 1;
         }
         if self.rules.has(Fault::KeptFirstTimeOnly) {
             let steps = self.sections[Section::Steps as usize].chunks(Section::Steps.width());
             let mut carried = steps.filter(|step| step[0] == BIND).map(|step| step[2]);
             kept &= !carried.any(|term| {
                 let own = &self.job.terms.get(term).term;
-                matches!(own, Term::Quantifier { variable, .. } if *variable == x)
+                matches!(own, Term::Binder { variable, .. } if *variable == x)
             });
         }
         kept

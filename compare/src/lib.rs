@@ -9,6 +9,7 @@ pub mod compare;
 pub mod compare_links;
 pub mod compare_pairs;
 pub mod compare_reader;
+pub mod compare_skolem;
 pub mod compare_writer;
 pub mod damage;
 pub mod damage_text;

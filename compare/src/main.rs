@@ -198,6 +198,7 @@ impl Run {
             & self.seen("counts of links", &report.walks.unseen(self.least))
             & self.seen("walks of REFL", &report.pairs.unseen(self.least))
             & self.seen("other numbers of stray steps", &report.unseen_stray(self.least))
+            & self.seen("choices and SKO steps", &report.skolem.unseen(self.least))
             & report.agrees();
         let begun = Instant::now();
         let report =
@@ -327,8 +328,9 @@ fn run_smt(arguments: &Arguments) -> Result<ExitCode, String> {
     let path = arguments.plain().first().ok_or("smt needs a file")?;
     let plain =
         naive::load(&read(path)?, MAX_SETS).map_err(|refusal| format!("{path}: {refusal}"))?;
-    let query = smt::query(&plain)
-        .ok_or(format!("{path}: a side of the claim is too long to write out"))?;
+    let query = smt::query(&plain).ok_or(format!(
+        "{path}: a side of the claim is too long to write out, or holds a choice"
+    ))?;
     print!("{query}");
     Ok(ExitCode::SUCCESS)
 }

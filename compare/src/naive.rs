@@ -15,6 +15,7 @@ pub enum Tree {
     ForAll(u32, u32),
     Exists(u32, u32),
     Let(Vec<u32>, Vec<u32>, u32),
+    Choice(u32, u32),
 }
 
 #[derive(Clone, Debug, PartialEq, Eq)]
@@ -298,6 +299,9 @@ impl Plain {
                 && bounds.iter().all(|&term| lower(term));
             return sound.then_some(Tree::Let(variables, bounds, c));
         }
+        if kind == 6 && c == 0 && self.is_variable(a) && lower(b) {
+            return Some(Tree::Choice(a, b));
+        }
         None
     }
 
@@ -324,6 +328,9 @@ impl Plain {
             Tree::Let(variables, bounds, body) => {
                 self.pairs_fit(variables, bounds).then(|| self.sort(*body))
             }
+            Tree::Choice(variable, body) => {
+                (self.sort(*body) == 0).then(|| self.variables[*variable as usize - 1])
+            }
         }
     }
 
@@ -333,7 +340,9 @@ impl Plain {
         match tree {
             Tree::Variable(variable) => BTreeSet::from([*variable]),
             Tree::Application(_, arguments) => of_all(arguments),
-            Tree::ForAll(variable, body) | Tree::Exists(variable, body) => {
+            Tree::ForAll(variable, body)
+            | Tree::Exists(variable, body)
+            | Tree::Choice(variable, body) => {
                 let mut free = self.free(*body).clone();
                 free.remove(variable);
                 free
@@ -449,7 +458,7 @@ impl Plain {
         let is_term = |term: u32| term >= 1 && term <= counts[Section::Terms];
         let Some(premises) = self.list(fields[4]) else { return Some(Reason::Step) };
         if rule == 0
-            || rule > 5
+            || rule > 7
             || context > counts[Section::Contexts]
             || !is_term(left)
             || !is_term(right)
@@ -462,7 +471,7 @@ impl Plain {
         let due = match rule {
             1 => 0,
             3 => 2,
-            4 => 1,
+            4 | 6 | 7 => 1,
             _ => premises.len(),
         };
         if premises.len() != due {
@@ -479,7 +488,9 @@ impl Plain {
             2 => self.cong(&step, &before),
             3 => self.trans(&step, &before[0], &before[1]),
             4 => self.bind(&step, &before[0]),
-            _ => self.let_(&step, &before),
+            5 => self.let_(&step, &before),
+            6 => self.sko_exists(&step, &before[0]),
+            _ => self.sko_for_all(&step, &before[0]),
         };
         self.steps.push(step);
         verdict
@@ -583,6 +594,7 @@ impl Plain {
             Tree::ForAll(variable, _) => Mark::ForAll(sort(variable)),
             Tree::Exists(variable, _) => Mark::Exists(sort(variable)),
             Tree::Let(variables, _, _) => Mark::Let(variables.iter().map(sort).collect()),
+            Tree::Choice(variable, _) => Mark::Choice(sort(variable)),
         }
     }
 
@@ -597,7 +609,9 @@ impl Plain {
             Tree::Application(_, arguments) => {
                 rest.extend(arguments.iter().rev().map(|&term| (term, scope.clone())));
             }
-            Tree::ForAll(variable, body) | Tree::Exists(variable, body) => {
+            Tree::ForAll(variable, body)
+            | Tree::Exists(variable, body)
+            | Tree::Choice(variable, body) => {
                 rest.push((*body, inside(&[*variable])));
             }
             Tree::Let(variables, bounds, body) => {
@@ -631,6 +645,7 @@ impl Plain {
         let (x, phi, y, psi) = match (self.tree(step.left), self.tree(step.right)) {
             (Tree::ForAll(x, phi), Tree::ForAll(y, psi)) => (*x, *phi, *y, *psi),
             (Tree::Exists(x, phi), Tree::Exists(y, psi)) => (*x, *phi, *y, *psi),
+            (Tree::Choice(x, phi), Tree::Choice(y, psi)) => (*x, *phi, *y, *psi),
             _ => return Some(Reason::Rule),
         };
         if premise.left != phi || premise.right != psi || premise.context == 0 {
@@ -655,6 +670,41 @@ impl Plain {
             Some(term) => self.free(term).contains(&y),
         });
         if free.contains(&y) || taken { Some(Reason::Side) } else { None }
+    }
+
+    fn sko_exists(&self, step: &Step, premise: &Step) -> Option<Reason> {
+        let Tree::Exists(x, phi) = *self.tree(step.left) else { return Some(Reason::Rule) };
+        self.sko(step, premise, x, phi, |chosen| chosen == phi)
+    }
+
+    fn sko_for_all(&self, step: &Step, premise: &Step) -> Option<Reason> {
+        let Tree::ForAll(x, phi) = *self.tree(step.left) else { return Some(Reason::Rule) };
+        let negated = Tree::Application(3, vec![phi]);
+        self.sko(step, premise, x, phi, |chosen| *self.tree(chosen) == negated)
+    }
+
+    /// From a quantifier over x in phi, where x alone is replaced by a choice of x in a body
+    /// that is the right one.
+    fn sko(
+        &self,
+        step: &Step,
+        premise: &Step,
+        x: u32,
+        phi: u32,
+        right_body: impl Fn(u32) -> bool,
+    ) -> Option<Reason> {
+        if premise.left != phi || premise.right != step.right || premise.context == 0 {
+            return Some(Reason::Rule);
+        }
+        let (entry, parent) = &self.contexts[premise.context as usize - 1];
+        let Entry::Replaces(variables, terms) = entry else { return Some(Reason::Rule) };
+        if *variables != [x] || terms.len() != 1 || *parent != step.context {
+            return Some(Reason::Rule);
+        }
+        match *self.tree(terms[0]) {
+            Tree::Choice(chosen, body) if chosen == x && right_body(body) => None,
+            _ => Some(Reason::Rule),
+        }
     }
 
     fn let_(&self, step: &Step, before: &[Step]) -> Option<Reason> {
@@ -690,6 +740,7 @@ enum Mark {
     ForAll(u32),
     Exists(u32),
     Let(Vec<u32>),
+    Choice(u32),
 }
 
 /// A binder around a term, and those around it.

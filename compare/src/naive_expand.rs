@@ -144,6 +144,7 @@ impl Writer<'_> {
             }
             Tree::ForAll(variable, body) => vec![3, *variable, *body, 0],
             Tree::Exists(variable, body) => vec![4, *variable, *body, 0],
+            Tree::Choice(variable, body) => vec![6, *variable, *body, 0],
             Tree::Let(..) => unreachable!("no result is a let"),
         };
         self.terms.push((record, Some(tree)));
@@ -216,6 +217,11 @@ impl Writer<'_> {
                 let right = self.term(Tree::Exists(y, result));
                 self.step(4, context, term, right, &[step])
             }
+            Tree::Choice(x, body) => {
+                let (y, result, step) = self.rename(x, body, context)?;
+                let right = self.term(Tree::Choice(y, result));
+                self.step(4, context, term, right, &[step])
+            }
             Tree::Let(_, bounds, body) => {
                 let (results, mut steps) = self.visit_all(&bounds, context)?;
                 let replacing = self.list(&results);
@@ -239,13 +245,17 @@ impl Writer<'_> {
         Some((results, steps))
     }
 
-    /// Whether a quantifier over x keeps it, counted anew each time.
+    /// Whether a binder of x keeps it, counted anew each time.
     fn keeps(&self, x: u32) -> bool {
         let mut binders = 0;
         let mut lists = 0;
         for tree in &self.plain.terms {
             match tree {
-                Tree::ForAll(variable, _) | Tree::Exists(variable, _) if *variable == x => {
+                Tree::ForAll(variable, _)
+                | Tree::Exists(variable, _)
+                | Tree::Choice(variable, _)
+                    if *variable == x =>
+                {
                     binders += 1;
                 }
                 Tree::Let(variables, _, _) if variables.contains(&x) => lists += 1,
@@ -258,7 +268,7 @@ impl Writer<'_> {
         }
     }
 
-    /// Visits a quantifier's body under its own variable, where that is kept, or a new one.
+    /// Visits a binder's body under its own variable, where that is kept, or a new one.
     fn rename(&mut self, x: u32, body: u32, context: u32) -> Option<(u32, u32, u32)> {
         let mut y = x;
         if !self.keeps(x) {

@@ -430,6 +430,7 @@ impl Job<'_> {
                 let variables = self.list(variables);
                 [5, variables, self.list(bounds), *body]
             }
+            Tree::Choice(..) => unreachable!("no text has a choice"),
         };
         self.terms.push((record, tree));
         self.terms.len() as u32

@@ -76,7 +76,7 @@ impl Results {
         page.push_str(&share_table(&self.doubling, Share::Step, true));
         page.push_str(
             "\n## Writing\n\nThe largest jobs with files of these sizes, the same as before Req 06: their lets list every variable \
-             that a quantifier binds, so no name is kept under either choice; and a rule of quantifiers over different variables, whose names are all kept or all renamed. \
+             that a quantifier binds, so no name is kept under either choice; and a rule of quantifiers over different variables and one of choices (Req 07), whose names are all kept or all renamed. \
              \"Clear\" is the time to clear the three areas.\n",
         );
         for (names, rows) in self.writers() {

@@ -1,5 +1,5 @@
 //! The claim of an accepted file as an SMT-LIB 2 query: can its sides differ? A
-//! solver has to answer unsat.
+//! solver has to answer unsat. SMT-LIB has no choice.
 
 use crate::bundle::BUILT_IN;
 use crate::naive::{Plain, Tree};
@@ -10,7 +10,7 @@ use std::fmt::Write;
 /// bytes a side.
 const LONGEST: usize = 1 << 20;
 
-/// `None` where a side would be too long.
+/// `None` where a side would be too long or holds a choice.
 pub fn query(plain: &Plain) -> Option<String> {
     let mut text = String::from("(set-logic ALL)\n(declare-sort Item 0)\n");
     for (symbol, (result, sorts)) in (BUILT_IN + 1..).zip(&plain.symbols) {
@@ -73,6 +73,7 @@ fn write_term(plain: &Plain, term: u32, text: &mut String) -> Option<()> {
         }
         Tree::ForAll(variable, body) => write_binder(plain, "forall", *variable, *body, text)?,
         Tree::Exists(variable, body) => write_binder(plain, "exists", *variable, *body, text)?,
+        Tree::Choice(..) => return None,
         Tree::Let(variables, bounds, body) => {
             text.push_str("(let (");
             for (place, (variable, &bound)) in variables.iter().zip(bounds).enumerate() {

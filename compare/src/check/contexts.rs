@@ -1,6 +1,6 @@
 //! Contexts (refusals 10 and 11) and the images of variables in them.
 
-use super::terms::{Term, pairs_fit};
+use super::terms::{Binder, Term, pairs_fit};
 use super::{Tables, first_refusal, member};
 use crate::answer::{Reason, Refusal};
 use crate::bundle::Section;
@@ -175,7 +175,9 @@ impl Contexts {
                     } else {
                         moved.insert(member(rules, variable));
                     }
-                    if unsettled == 0 && !disjoint(rules, free, parent_moved) {
+                    let exempt = rules.has(Fault::UnsettledChoiceTaken)
+                        && matches!(known.term, Term::Binder { binder: Binder::Choice, .. });
+                    if unsettled == 0 && !disjoint(rules, free, parent_moved) && !exempt {
                         unsettled = place;
                     }
                 }

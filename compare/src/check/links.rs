@@ -69,7 +69,7 @@ mod tests {
     #[test]
     fn the_two_walks_agree() {
         let mut walks = [0, 0];
-        for index in 0..4_000 {
+        for index in 0..5_000 {
             let file = case(9, index).bytes;
             let Ok(tables) = Tables::decode(Exact, &file, |_| true) else { continue };
             let Ok(contexts) = Contexts::decode(Exact, &tables) else { continue };

@@ -24,7 +24,7 @@ pub use links::links;
 pub(crate) use links::links_with;
 pub use lists::Lists;
 pub use signature::{Arguments, Profile, Signature, Sort};
-pub use terms::{Quantifier, Term, Terms};
+pub use terms::{Binder, Term, Terms};
 pub use whole::MOST_PAIRS;
 
 use crate::answer::{Accepted, Reason, Refusal, Whole};

@@ -1,7 +1,7 @@
 //! Steps (refusals 12, 22, 21, 13 and 14, in this order) and the claim (15).
 
 use super::contexts::{Contexts, Entry};
-use super::terms::Term;
+use super::terms::{Binder, Term};
 use super::whole::{self, Binders};
 use super::{Lists, Tables, first_refusal, member};
 use crate::answer::{Accepted, Ending, Reason, Refusal, Walk};
@@ -14,6 +14,11 @@ pub const CONG: u32 = 2;
 const TRANS: u32 = 3;
 const BIND: u32 = 4;
 const LET: u32 = 5;
+const SKO_EXISTS: u32 = 6;
+const SKO_FOR_ALL: u32 = 7;
+
+/// The symbol "not".
+const NOT: u32 = 3;
 
 #[derive(Clone, Copy, Debug, PartialEq, Eq)]
 pub struct Step {
@@ -183,7 +188,11 @@ impl<'a, R: Rules> Checker<'a, R> {
             CONG => require(self.cong(step).passes, Reason::Rule),
             TRANS => self.trans(step),
             BIND => self.bind(step),
-            _ => require(self.let_(step), Reason::Rule),
+            LET => require(self.let_(step), Reason::Rule),
+            _ => {
+                let is_side = self.rules.has(Fault::SkoFailureIsSide);
+                require(self.sko(step), if is_side { Reason::Side } else { Reason::Rule })
+            }
         }
     }
 
@@ -234,7 +243,7 @@ impl<'a, R: Rules> Checker<'a, R> {
     fn references_sound(&self, number: u32, step: &Step) -> bool {
         let Tables { lists, terms, .. } = self.tables;
         let largest = if self.rules.has(Fault::PremiseOfItself) { number } else { number - 1 };
-        (REFL..=LET).contains(&step.rule)
+        (REFL..=SKO_FOR_ALL).contains(&step.rule)
             && step.context <= self.contexts.count()
             && terms.is_term(step.left)
             && terms.is_term(step.right)
@@ -249,6 +258,11 @@ impl<'a, R: Rules> Checker<'a, R> {
                     count == 2 || self.rules.has(Fault::SparePremiseOfTransTaken) && count > 2
                 }
                 (BIND, count) => count == 1,
+                (SKO_EXISTS | SKO_FOR_ALL, count) => {
+                    count == 1
+                        || self.rules.has(Fault::SkoCountIsFalse)
+                        || self.rules.has(Fault::SkoSparePremiseTaken) && count > 1
+                }
                 (CONG, count) if self.rules.has(Fault::CongCountIsBadStep) => {
                     match terms.get(step.left).term {
                         Term::Application { arguments, .. } => count == lists.length(arguments),
@@ -375,8 +389,8 @@ impl<'a, R: Rules> Checker<'a, R> {
         let Tables { lists, terms, .. } = self.tables;
         let left = terms.get(step.left);
         let (
-            Term::Quantifier { kind, variable: x, body },
-            Term::Quantifier { kind: other, variable: y, body: result },
+            Term::Binder { binder, variable: x, body },
+            Term::Binder { binder: other, variable: y, body: result },
         ) = (left.term, terms.get(step.right).term)
         else {
             return Err(Reason::Rule);
@@ -401,7 +415,7 @@ impl<'a, R: Rules> Checker<'a, R> {
             Entry::Fixes(variable) => variable == y || self.rules.has(Fault::BindFixesAny),
             _ => false,
         };
-        let follows = (kind == other || self.rules.has(Fault::BindKindsDiffer))
+        let follows = self.same_kind(binder, other)
             && !(self.rules.has(Fault::BindSameNameRefused) && x == y)
             && premise.left == body
             && (premise.right == result || self.rules.has(Fault::BindBodyUnread))
@@ -417,6 +431,17 @@ impl<'a, R: Rules> Checker<'a, R> {
         }
         require(follows, Reason::Rule)?;
         require(sides, Reason::Side)
+    }
+
+    /// Whether the two sides of BIND have one kind.
+    #[inline(always)]
+    fn same_kind(&self, binder: Binder, other: Binder) -> bool {
+        if binder == other {
+            return binder != Binder::Choice || !self.rules.has(Fault::BindChoiceRefused);
+        }
+        let is_choice = binder == Binder::Choice || other == Binder::Choice;
+        self.rules.has(Fault::BindKindsDiffer) && !is_choice
+            || self.rules.has(Fault::BindChoiceMeetsQuantifier) && is_choice
     }
 
     /// `y` is free neither in the term nor in the image of any of its free
@@ -438,6 +463,65 @@ impl<'a, R: Rules> Checker<'a, R> {
         !moved.members().any(|variable| {
             self.contexts.image(context, variable).is_some_and(|image| self.is_free(y, image))
         })
+    }
+
+    /// SKO for the rule's quantifier: the premise carries its body to the right side where its
+    /// variable alone is replaced by the choice that takes its place.
+    fn sko(&self, step: &Step) -> bool {
+        let Tables { lists, terms, .. } = self.tables;
+        let quantifier = if step.rule == SKO_EXISTS { Binder::Exists } else { Binder::ForAll };
+        let Term::Binder { binder, variable: x, body } = terms.get(step.left).term else {
+            return false;
+        };
+        let Some((premise, _)) = lists.split(step.premises) else { return false };
+        let premise = &self.steps[premise as usize];
+        let context = self.contexts.get(premise.context);
+        let replaces_x = match context.entry {
+            Entry::Replaces { variables, terms: replacements } => {
+                let alone = lists.length(variables) == 1 || self.rules.has(Fault::SkoReplacesMore);
+                let first = |list| lists.split(list).map_or(0, |(value, _)| value);
+                alone
+                    && (first(variables) == x || self.rules.has(Fault::SkoReplacesAnother))
+                    && self.takes_place(first(replacements), quantifier, x, body)
+            }
+            _ => false,
+        };
+        let quantified = binder == quantifier
+            || self.rules.has(Fault::SkoTakesEitherQuantifier) && binder != Binder::Choice
+            || self.rules.has(Fault::SkoTakesChoice)
+                && (quantifier, binder) == (Binder::Exists, Binder::Choice);
+        quantified
+            && (premise.left == body || self.rules.has(Fault::SkoBodyUnread))
+            && (premise.right == step.right || self.rules.has(Fault::SkoRightUnread))
+            && (replaces_x || self.rules.has(Fault::SkoContextUnread))
+            && (self.same_context(context.parent, step.context)
+                || self.rules.has(Fault::SkoParentUnread))
+    }
+
+    /// Whether a term is the choice of `x` that takes its place where the quantifier binds it in
+    /// the body: in the body for an exists, in its negation for a for-all.
+    fn takes_place(&self, term: u32, quantifier: Binder, x: u32, body: u32) -> bool {
+        let Tables { lists, terms, .. } = self.tables;
+        let Term::Binder { binder: Binder::Choice, variable, body: inner } = terms.get(term).term
+        else {
+            return self.rules.has(Fault::SkoTakesAnyTerm);
+        };
+        let negated = || match terms.get(inner).term {
+            Term::Application { symbol, arguments } => {
+                let not = symbol == NOT
+                    || self.rules.has(Fault::SkoAnySymbolNegates) && lists.length(arguments) == 1;
+                not && (lists.single(arguments) == Some(body)
+                    || self.rules.has(Fault::SkoNegatesAnother))
+            }
+            _ => false,
+        };
+        let plain = match quantifier {
+            Binder::ForAll => self.rules.has(Fault::SkoForAllWithoutNot),
+            _ => !self.rules.has(Fault::SkoExistsWithNot),
+        };
+        (variable == x || self.rules.has(Fault::SkoOfAnotherVariable))
+            && (if plain { inner == body } else { negated() }
+                || self.rules.has(Fault::SkoOfAnyBody))
     }
 
     fn let_(&self, step: &Step) -> bool {

@@ -8,19 +8,42 @@ use crate::bundle::SET_WORDS;
 use crate::fault::{Fault, Rules};
 use crate::set::Set;
 
-/// A term record; lists are given by their start.
+/// A term record; lists are given by their start. The tag has a place of its own: kept in the
+/// unused values of a binder, it makes REFL's walk nearly a tenth slower.
 #[derive(Clone, Copy, Debug, PartialEq, Eq)]
+#[repr(u32)]
 pub enum Term {
     Variable(u32),
     Application { symbol: u32, arguments: u32 },
-    Quantifier { kind: Quantifier, variable: u32, body: u32 },
+    Binder { binder: Binder, variable: u32, body: u32 },
     Let { variables: u32, bounds: u32, body: u32 },
 }
 
 #[derive(Clone, Copy, Debug, PartialEq, Eq)]
-pub enum Quantifier {
+pub enum Binder {
     ForAll,
     Exists,
+    Choice,
+}
+
+impl Binder {
+    /// The binder of a term's kind.
+    fn of_kind(kind: u32) -> Option<Self> {
+        match kind {
+            3 => Some(Binder::ForAll),
+            4 => Some(Binder::Exists),
+            6 => Some(Binder::Choice),
+            _ => None,
+        }
+    }
+
+    pub fn kind(self) -> u32 {
+        match self {
+            Binder::ForAll => 3,
+            Binder::Exists => 4,
+            Binder::Choice => 6,
+        }
+    }
 }
 
 #[derive(Clone, Copy, Debug)]
@@ -209,10 +232,10 @@ impl<R: Rules> Decoder<'_, R> {
                     && self.terms_within(symbol, arguments, largest);
                 sound.then_some(Term::Application { symbol, arguments })
             }
-            [kind @ (3 | 4), variable, body, 0] => {
-                let kind = if kind == 3 { Quantifier::ForAll } else { Quantifier::Exists };
+            [kind @ (3 | 4 | 6), variable, body, 0] => {
+                let binder = Binder::of_kind(kind)?;
                 let sound = signature.is_variable(variable) && lower(body);
-                sound.then_some(Term::Quantifier { kind, variable, body })
+                sound.then_some(Term::Binder { binder, variable, body })
             }
             [5, variables, bounds, body] => {
                 let sound = lists.starts(variables)
@@ -256,12 +279,24 @@ impl<R: Rules> Decoder<'_, R> {
                 };
                 fits.then_some(result)
             }
-            Term::Quantifier { variable, body, .. } => {
+            Term::Binder { binder, variable, body } => {
+                let own = self.signature.variable(variable);
+                let is_choice = binder == Binder::Choice;
                 let sound = self.terms.get(body).sort == Sort::Truth
-                    || self.rules.has(Fault::BodySortUnread);
-                let exempt = self.rules.has(Fault::TruthQuantifierRefused)
-                    && self.signature.variable(variable) == Sort::Truth;
-                (sound && !exempt).then_some(Sort::Truth)
+                    || self.rules.has(Fault::BodySortUnread)
+                    || is_choice && self.rules.has(Fault::ChoiceBodySortUnread);
+                let exempt = own == Sort::Truth
+                    && self.rules.has(if is_choice {
+                        Fault::TruthChoiceRefused
+                    } else {
+                        Fault::TruthQuantifierRefused
+                    });
+                let sort = if is_choice && !self.rules.has(Fault::ChoiceIsTruth) {
+                    own
+                } else {
+                    Sort::Truth
+                };
+                (sound && !exempt).then_some(sort)
             }
             Term::Let { variables, bounds, body } => {
                 let least = u32::from(!self.rules.has(Fault::EmptyLetTaken));
@@ -322,8 +357,12 @@ impl<R: Rules> Decoder<'_, R> {
         match term {
             Term::Variable(variable) => [1, variable, 0, 0],
             Term::Application { symbol, arguments } => [2, symbol, self.lists.class(arguments), 0],
-            Term::Quantifier { variable, body, .. } => [
-                if self.rules.has(Fault::QuantifiersAlike) { 3 } else { record[0] },
+            Term::Binder { variable, body, .. } => [
+                match record[0] {
+                    4 if self.rules.has(Fault::QuantifiersAlike) => 3,
+                    6 if self.rules.has(Fault::ChoiceEqualsExists) => 4,
+                    kind => kind,
+                },
                 variable,
                 body,
                 0,
@@ -340,9 +379,11 @@ impl<R: Rules> Decoder<'_, R> {
         match term {
             Term::Variable(variable) => self.terms.sets.add(Set::of(member(rules, variable))),
             Term::Application { arguments, .. } => self.free_of_list(arguments),
-            Term::Quantifier { variable, body, .. } => {
+            Term::Binder { binder, variable, body } => {
                 let body = self.free_of(body);
-                if rules.has(Fault::QuantifierBindsNothing) {
+                if rules.has(Fault::QuantifierBindsNothing) && binder != Binder::Choice
+                    || rules.has(Fault::ChoiceBindsNothing) && binder == Binder::Choice
+                {
                     body
                 } else {
                     self.terms.sets.but(body, member(rules, variable))

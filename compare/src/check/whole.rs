@@ -7,7 +7,7 @@
 //! and put back on the way out, so that no lookup depends on how many binders were crossed.
 
 use super::contexts::Contexts;
-use super::terms::Term;
+use super::terms::{Binder, Term};
 use super::{Tables, member};
 use crate::answer::{Ending, Whole};
 use crate::fault::{Fault, Rules};
@@ -182,12 +182,12 @@ impl<R: Rules> Walk<'_, R> {
                     break;
                 }
                 (
-                    Term::Quantifier { kind, variable: x, body },
-                    Term::Quantifier { kind: other, variable: y, body: result },
-                ) if (kind == other || self.rules.has(Fault::WholeKindsUnread))
-                    && self.same_sort(x, y) =>
-                {
-                    self.binders.cross(self.rules, x, y);
+                    Term::Binder { binder, variable: x, body },
+                    Term::Binder { binder: other, variable: y, body: result },
+                ) if self.same_kind(binder, other) && self.same_sort(x, y) => {
+                    if !(binder == Binder::Choice && self.rules.has(Fault::WholeChoiceNotCrossed)) {
+                        self.binders.cross(self.rules, x, y);
+                    }
                     (left, right) = (body, result);
                 }
                 (
@@ -290,6 +290,16 @@ impl<R: Rules> Walk<'_, R> {
         self.context != 0
             && walk(self.rules, self.tables, self.contexts, &mut binders, 0, sides).ending
                 == Ending::Same
+    }
+
+    #[inline(always)]
+    fn same_kind(&self, binder: Binder, other: Binder) -> bool {
+        if binder == other {
+            return binder != Binder::Choice || !self.rules.has(Fault::WholeChoicesDiffer);
+        }
+        let is_choice = binder == Binder::Choice || other == Binder::Choice;
+        self.rules.has(Fault::WholeKindsUnread) && !is_choice
+            || self.rules.has(Fault::WholeChoiceMeetsQuantifier) && is_choice
     }
 
     #[inline(always)]

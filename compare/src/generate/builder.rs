@@ -12,13 +12,19 @@ pub const ITEM: u32 = 1;
 
 pub const FOR_ALL: u32 = 3;
 pub const EXISTS: u32 = 4;
+pub const CHOICE: u32 = 6;
+
+/// The binders of one variable.
+pub const BINDERS: [u32; 3] = [FOR_ALL, EXISTS, CHOICE];
+
+pub const NOT: u32 = 3;
 
 #[derive(Clone, Debug, PartialEq, Eq, Hash)]
 pub enum Shape {
     Variable(u32),
     Application(u32, Vec<u32>),
-    /// Kind, variable, body.
-    Quantifier(u32, u32, u32),
+    /// Kind, variable, body: a quantifier or a choice.
+    Binder(u32, u32, u32),
     Let(Vec<u32>, Vec<u32>, u32),
 }
 
@@ -91,6 +97,8 @@ pub struct Builder {
     known_cells: HashMap<(u32, u32), u32>,
     /// How often, in percent, a list shares the tail of an earlier one.
     sharing: u32,
+    /// Whether random terms have choices.
+    choices: bool,
 }
 
 impl Builder {
@@ -108,6 +116,25 @@ impl Builder {
             cells: Vec::new(),
             known_cells: HashMap::new(),
             sharing,
+            choices: true,
+        }
+    }
+
+    /// The same without choices in random terms.
+    pub fn without_choices(self) -> Self {
+        Builder { choices: false, ..self }
+    }
+
+    pub fn has_choices(&self) -> bool {
+        self.choices
+    }
+
+    /// A kind of binder for random terms.
+    pub fn random_kind(&mut self) -> u32 {
+        match self.rng.below(100) {
+            0..20 if self.choices => CHOICE,
+            0..65 => FOR_ALL,
+            _ => EXISTS,
         }
     }
 
@@ -203,7 +230,7 @@ impl Builder {
             Shape::Application(symbol, arguments) => {
                 [Word(2), Word(*symbol), List(self.list(arguments)), zero]
             }
-            Shape::Quantifier(kind, variable, body) => {
+            Shape::Binder(kind, variable, body) => {
                 [Word(*kind), Word(*variable), Word(*body), zero]
             }
             Shape::Let(variables, bounds, body) => {
@@ -225,8 +252,8 @@ impl Builder {
         self.term(Shape::Application(symbol, arguments.to_vec()))
     }
 
-    pub fn quantify(&mut self, kind: u32, variable: u32, body: u32) -> u32 {
-        self.term(Shape::Quantifier(kind, variable, body))
+    pub fn bind(&mut self, kind: u32, variable: u32, body: u32) -> u32 {
+        self.term(Shape::Binder(kind, variable, body))
     }
 
     pub fn bind_let(&mut self, variables: &[u32], bounds: &[u32], body: u32) -> u32 {
@@ -237,7 +264,8 @@ impl Builder {
         match shape {
             Shape::Variable(variable) => self.variable_sort(*variable),
             Shape::Application(symbol, _) => self.profile(*symbol).0,
-            Shape::Quantifier(..) => TRUTH,
+            Shape::Binder(CHOICE, variable, _) => self.variable_sort(*variable),
+            Shape::Binder(..) => TRUTH,
             Shape::Let(_, _, body) => self.sort(*body),
         }
     }
@@ -248,7 +276,7 @@ impl Builder {
         match shape {
             Shape::Variable(variable) => Set::of(*variable),
             Shape::Application(_, arguments) => of_all(arguments),
-            Shape::Quantifier(_, variable, body) => self.free(*body).but(*variable),
+            Shape::Binder(_, variable, body) => self.free(*body).but(*variable),
             Shape::Let(variables, bounds, body) => {
                 self.free(*body).without(variables.iter().copied().collect()).union(of_all(bounds))
             }

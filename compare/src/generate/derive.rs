@@ -2,7 +2,7 @@
 //! fits, chosen at random, with earlier steps used again now and then. In a
 //! careless derivation some choices are wrong on purpose.
 
-use super::builder::{Builder, EXISTS, Entry, FOR_ALL, Shape};
+use super::builder::{Builder, CHOICE, EXISTS, Entry, FOR_ALL, NOT, Shape, TRUTH};
 use super::replace::{MISSES, replaced};
 use crate::bundle::{Counts, Section};
 use crate::set::Set;
@@ -13,6 +13,13 @@ pub const CONG: u32 = 2;
 pub const TRANS: u32 = 3;
 pub const BIND: u32 = 4;
 pub const LET: u32 = 5;
+pub const SKO_EXISTS: u32 = 6;
+pub const SKO_FOR_ALL: u32 = 7;
+
+/// The rule of SKO for a quantifier.
+pub fn sko(kind: u32) -> u32 {
+    if kind == EXISTS { SKO_EXISTS } else { SKO_FOR_ALL }
+}
 
 /// A place where a careless derivation may choose wrongly.
 #[derive(Clone, Copy, Debug, PartialEq, Eq)]
@@ -29,6 +36,7 @@ pub enum Slip {
     Name,
     Bind,
     Let,
+    Sko,
     /// A replacement that is not settled in its parent.
     Replacement,
     Claim,
@@ -40,7 +48,7 @@ pub enum Slip {
 
 /// Wrong choices to be tried by themselves, and together where the order of
 /// refusals in a step decides.
-pub const SLIPS: [&[Slip]; 21] = [
+pub const SLIPS: [&[Slip]; 25] = [
     &[Slip::Refl],
     &[Slip::Image],
     &[Slip::Middle],
@@ -52,6 +60,10 @@ pub const SLIPS: [&[Slip]; 21] = [
     &[Slip::Bind],
     &[Slip::Bind],
     &[Slip::Let],
+    &[Slip::Sko],
+    &[Slip::Sko],
+    &[Slip::Sko, Slip::Replacement],
+    &[Slip::Sko, Slip::Stray],
     &[Slip::Replacement],
     &[Slip::Claim],
     &[Slip::Whole],
@@ -189,8 +201,13 @@ impl<'a> Derivation<'a> {
             Shape::Application(symbol, arguments) => {
                 self.application(context, term, symbol, &arguments)
             }
-            Shape::Quantifier(kind, variable, body) => {
-                self.quantifier(context, term, kind, variable, body)
+            Shape::Binder(kind, variable, body) => {
+                let skolem = kind != CHOICE && self.chance(40);
+                let found = skolem.then(|| self.skolem(context, term, kind, variable, body));
+                match found.flatten() {
+                    Some(step) => Some(step),
+                    None => self.binder(context, term, kind, variable, body),
+                }
             }
             Shape::Let(variables, bounds, body) => {
                 self.let_(context, term, &variables, &bounds, body)
@@ -308,7 +325,7 @@ impl<'a> Derivation<'a> {
         }
     }
 
-    fn quantifier(&mut self, context: u32, term: u32, kind: u32, x: u32, body: u32) -> Option<u32> {
+    fn binder(&mut self, context: u32, term: u32, kind: u32, x: u32, body: u32) -> Option<u32> {
         let y = self.new_name(context, term, x);
         let fixing = self.builder.fix(y, context);
         let y_term = self.builder.variable_term(y);
@@ -329,7 +346,7 @@ impl<'a> Derivation<'a> {
                         renaming = self.builder.replace(&[x, more], &[y_term, y_term], fixing);
                     }
                 }
-                3 => kind_after = FOR_ALL + EXISTS - kind,
+                3 => kind_after = self.builder.another_kind_of(kind, x),
                 4 => {
                     // The right shape above another context.
                     let elsewhere =
@@ -348,8 +365,62 @@ impl<'a> Derivation<'a> {
         if self.slips(Slip::Bind) && self.chance(30) {
             result = body;
         }
-        let right = self.builder.quantify(kind_after, y, result);
+        let right = self.builder.bind(kind_after, y, result);
         Some(self.step(BIND, context, term, right, &[premise]))
+    }
+
+    /// A step from a quantifier to its body, where a choice takes its variable's place; `None`
+    /// where the choice is not settled.
+    fn skolem(&mut self, context: u32, term: u32, kind: u32, x: u32, body: u32) -> Option<u32> {
+        let mut rule = sko(kind);
+        let negates = kind == FOR_ALL;
+        let (mut variable, mut variables, mut parent) = (x, vec![x], context);
+        let slip = self.slips(Slip::Sko).then(|| self.builder.rng.below(9));
+        let sort = self.builder.variable_sort(x);
+        let same_sort = self.builder.variables_of(sort);
+        let other = self.builder.rng.pick(&same_sort).copied().unwrap_or(x);
+        let under = match slip {
+            Some(2) => self.builder.random_term(TRUTH, 1),
+            _ => body,
+        };
+        let mut inner =
+            if negates == (slip == Some(1)) { under } else { self.builder.apply(NOT, &[under]) };
+        match slip {
+            Some(0) => rule = SKO_EXISTS + SKO_FOR_ALL - rule,
+            Some(3) => inner = self.builder.random_term(TRUTH, 1),
+            Some(4) => variable = other,
+            Some(5) if other != x => variables = vec![other],
+            Some(6) if other != x => variables.insert(self.builder.rng.below(2) as usize, other),
+            Some(7) => {
+                parent = self.builder.rng.below(self.builder.count(Section::Contexts) + 1);
+            }
+            _ => {}
+        }
+        let mut choice = self.builder.bind(CHOICE, variable, inner);
+        if slip == Some(8) {
+            choice = self.builder.random_leaf(sort);
+        }
+        if !self.builder.settled(parent, choice) && !self.slips(Slip::Replacement) {
+            return None;
+        }
+        let terms = vec![choice; variables.len()];
+        let replacing = self.builder.replace(&variables, &terms, parent);
+        let premise = self.carry(replacing, body)?;
+        let mut right = self.right(premise);
+        let mut premises = vec![premise];
+        if self.slips(Slip::Sko) {
+            match self.builder.rng.below(6) {
+                0 => right = body,
+                1 => premises = vec![],
+                2 => premises.push(premise),
+                3 => {
+                    let before = self.any_step(replacing, TRUTH);
+                    premises = vec![before.unwrap_or(premise)];
+                }
+                _ => {}
+            }
+        }
+        Some(self.step(rule, context, term, right, &premises))
     }
 
     /// A variable that may take the place of `x`: one that is there if the sides

@@ -82,12 +82,12 @@ pub fn image_taken_by_quantifier(seed: u64) -> Vec<u32> {
     let (y_term, v_term, z_term) = (b.variable_term(y), b.variable_term(v), b.variable_term(z));
     let f_y = b.apply(f, &[y_term]);
     let p_v_z = b.apply(p, &[v_term, z_term]);
-    let for_z = b.quantify(FOR_ALL, z, p_v_z);
+    let for_z = b.bind(FOR_ALL, z, p_v_z);
     let bound = b.bind_let(&[v], &[f_y], for_z);
-    let left = b.quantify(FOR_ALL, y, bound);
+    let left = b.bind(FOR_ALL, y, bound);
     let p_f_y = b.apply(p, &[f_y, y_term]);
-    let for_y = b.quantify(FOR_ALL, y, p_f_y);
-    let right = b.quantify(FOR_ALL, y, for_y);
+    let for_y = b.bind(FOR_ALL, y, p_f_y);
+    let right = b.bind(FOR_ALL, y, for_y);
 
     let outer_fixing = b.fix(y, 0);
     let outer = b.replace(&[y], &[y_term], outer_fixing);

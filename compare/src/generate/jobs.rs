@@ -1,6 +1,6 @@
 //! Jobs for the writer.
 
-use super::builder::{Builder, EXISTS, FOR_ALL, ITEM, TRUTH};
+use super::builder::{BINDERS, Builder, CHOICE, EXISTS, FOR_ALL, ITEM, TRUTH};
 use super::derive::Care;
 use super::{derivation, examples, limits};
 use crate::bundle::{LEFT, MAX_BYTES, RIGHT, Section, counts_of, to_bytes};
@@ -79,7 +79,12 @@ pub fn job(seed: u64, index: u64) -> Job {
 
 fn builder(mut rng: Rng) -> Builder {
     let sharing = rng.one_of([0, 30, 70, 100]);
+    // The formulas of some jobs are texts.
+    let choices = rng.chance(60);
     let mut builder = Builder::new(rng, sharing);
+    if !choices {
+        builder = builder.without_choices();
+    }
     builder.random_signature();
     builder
 }
@@ -144,24 +149,25 @@ fn named_rule(rng: Rng) -> (Builder, u32) {
 
 /// Binds a variable in a rule: mostly once.
 fn bound(b: &mut Builder, x: u32, rule: u32) -> u32 {
-    let (kind, other) = b.rng.one_of([(FOR_ALL, EXISTS), (EXISTS, FOR_ALL)]);
+    let kind = b.random_kind();
+    let other = b.another_kind(kind);
     let one = match b.rng.below(12) {
-        // No quantifier at all.
+        // No binder of one variable at all.
         0 => return listed(b, x, rule),
-        _ => b.quantify(kind, x, rule),
+        _ => b.bind_as_truth(kind, x, rule),
     };
     let parts = match b.rng.below(12) {
-        // Another record binds it too: another quantifier, another body, around the first.
-        0 => [one, b.quantify(other, x, rule)],
+        // Another record binds it too: of another kind, another body, around the first.
+        0 => [one, b.bind_as_truth(other, x, rule)],
         1 => {
             let negated = b.apply(3, &[rule]);
-            [one, b.quantify(kind, x, negated)]
+            [one, b.bind_as_truth(kind, x, negated)]
         }
         2 => {
             let kind = b.rng.one_of([kind, other]);
-            return b.quantify(kind, x, one);
+            return b.bind_as_truth(kind, x, one);
         }
-        // A let lists it beside the quantifier.
+        // A let lists it beside the binder.
         3 => [one, listed(b, x, rule)],
         // One record is visited twice, in the same context or in two.
         4 => [one, one],
@@ -203,8 +209,8 @@ fn beside(b: &mut Builder, own: &[u32]) {
         match b.rng.below(12) {
             0 => _ = b.variable_term(x),
             1 => {
-                let (body, kind) = (b.random_leaf(TRUTH), b.rng.one_of([FOR_ALL, EXISTS]));
-                b.quantify(kind, x, body);
+                let (body, kind) = (b.random_leaf(TRUTH), b.random_kind());
+                b.bind(kind, x, body);
             }
             2 => {
                 let body = b.random_leaf(TRUTH);
@@ -233,7 +239,7 @@ fn open(rng: Rng) -> Vec<u32> {
     if b.rng.chance(30) {
         // Another variable closed, this one not.
         let other = b.drawn()[0];
-        term = b.quantify(FOR_ALL, other, term);
+        term = b.bind(FOR_ALL, other, term);
     }
     b.words(term, 0)
 }
@@ -318,12 +324,12 @@ fn at_limit(mut rng: Rng, past: bool) -> Vec<u32> {
     }
 }
 
-/// Adds quantifiers over this variable, one on the other, until there are so many terms.
+/// Adds binders of this truth variable, one on the other, until there are so many terms.
 fn fill_terms(b: &mut Builder, variable: u32, target: u32) {
     let mut last = b.apply(1, &[]);
     while b.count(Section::Terms) < target {
-        let kind = b.rng.one_of([FOR_ALL, EXISTS]);
-        last = b.quantify(kind, variable, last);
+        let kind = b.rng.one_of(BINDERS);
+        last = b.bind(kind, variable, last);
     }
 }
 
@@ -333,6 +339,27 @@ pub const QUANTIFIERS: u32 = 128;
 /// So many quantifiers over different variables, a few of them over truth values.
 pub fn quantified(count: u32) -> Vec<u32> {
     many_names(Rng::new(1), count, count)
+}
+
+/// How many choices the benchmark's rule of them has: nearly all that fit, with new names too.
+pub const CHOICES: u32 = 96;
+
+/// A conjunction over so many choices of different variables.
+pub fn chosen(count: u32) -> Vec<u32> {
+    let mut b = Builder::new(Rng::new(1), 100);
+    let a = b.symbol(ITEM, &[]);
+    let p = b.symbol(TRUTH, &[ITEM, ITEM]);
+    let a_term = b.apply(a, &[]);
+    let mut rule = b.apply(1, &[]);
+    for _ in 0..count {
+        let x = b.spare_variable(ITEM);
+        let x_term = b.variable_term(x);
+        let body = b.apply(p, &[x_term, a_term]);
+        let choice = b.bind(CHOICE, x, body);
+        let atom = b.apply(p, &[choice, a_term]);
+        rule = b.apply(4, &[atom, rule]);
+    }
+    b.words(rule, 0)
 }
 
 /// Quantifiers over the first of these variables, which occur in pairs; one without a
@@ -353,7 +380,7 @@ fn many_names(rng: Rng, quantifiers: u32, variables: u32) -> Vec<u32> {
     }
     for (index, &variable) in own.iter().enumerate().rev() {
         let kind = if index % 3 == 2 { EXISTS } else { FOR_ALL };
-        rule = b.quantify(kind, variable, rule);
+        rule = b.bind(kind, variable, rule);
     }
     b.words(rule, 0)
 }
@@ -399,7 +426,7 @@ pub fn many_steps(rng: Rng, steps: u32) -> Vec<u32> {
     // Now and then a quantifier on top costs a step and two contexts.
     let quantified = b.rng.chance(30) && steps > 8;
     let rule = with_visits(&mut b, &full, steps - u32::from(quantified));
-    let rule = if quantified { b.quantify(kind, variable, rule) } else { rule };
+    let rule = if quantified { b.bind(kind, variable, rule) } else { rule };
     b.words(rule, 0)
 }
 
@@ -480,10 +507,10 @@ pub fn conjunction(width: u32) -> (Vec<u32>, Builder, u32) {
         let value = b.apply(constants[part as usize % constants.len()], &[]);
         let body = match part % 4 {
             0 => b.bind_let(&[x], &[value], both_ways),
-            1 => b.quantify(FOR_ALL, x, over_f),
+            1 => b.bind(FOR_ALL, x, over_f),
             2 => b.bind_let(&[x, y], &[value, value], swapped),
             _ => {
-                let exists = b.quantify(EXISTS, y, swapped);
+                let exists = b.bind(EXISTS, y, swapped);
                 b.bind_let(&[x], &[value], exists)
             }
         };

@@ -1,7 +1,7 @@
 //! Large derivations of given shapes, for the comparison and the benchmark.
 
-use super::builder::{Builder, EXISTS, FOR_ALL, ITEM, TRUTH};
-use super::derive::{BIND, CONG, Care, Derivation, LET, REFL};
+use super::builder::{Builder, CHOICE, EXISTS, FOR_ALL, ITEM, NOT, TRUTH};
+use super::derive::{BIND, CONG, Care, Derivation, LET, REFL, sko};
 use super::limits;
 use crate::bundle::Section;
 use crate::rng::Rng;
@@ -139,7 +139,7 @@ pub fn many_quantifiers(rng: Rng, depth: usize, steps: u32) -> Vec<u32> {
         let mut terms = vec![matrix(b, names)];
         for (index, &name) in names.iter().enumerate().rev() {
             let body = *terms.last().expect("the matrix is there");
-            terms.push(b.quantify(kind(index), name, body));
+            terms.push(b.bind(kind(index), name, body));
         }
         terms.reverse();
         terms
@@ -199,11 +199,49 @@ pub fn wide_quantifiers(rng: Rng, depth: usize) -> Vec<u32> {
         let (mut left, mut right, mut step) = (left, right, inside);
         for index in (0..depth).rev() {
             let kind = if index % 3 == formula { EXISTS } else { FOR_ALL };
-            left = b.quantify(kind, old[index], left);
-            right = b.quantify(kind, new[index], right);
+            left = b.bind(kind, old[index], left);
+            right = b.bind(kind, new[index], right);
             step = b.add_step(BIND, contexts[index], left, right, &[step]);
         }
     }
+    b.claim_last()
+}
+
+/// So many quantifiers, at most 128, for-all and exists in turn, that SKO takes away, and a
+/// balanced conjunction of them.
+pub fn many_skolem(rng: Rng, count: u32) -> Vec<u32> {
+    let mut b = Builder::new(rng, 100);
+    let constants: [u32; 16] = std::array::from_fn(|_| b.symbol(ITEM, &[]));
+    let symbols: [u32; 8] = std::array::from_fn(|_| b.symbol(TRUTH, &[ITEM, ITEM]));
+    let x = b.variable(ITEM);
+    let x_term = b.variable_term(x);
+    let mut parts = Vec::new();
+    for part in 0..count as usize {
+        let (p, kind) = (symbols[part / 16], [FOR_ALL, EXISTS][part % 2]);
+        let constant = b.apply(constants[part % 16], &[]);
+        let body = b.apply(p, &[x_term, constant]);
+        let inner = if kind == FOR_ALL { b.apply(NOT, &[body]) } else { body };
+        let choice = b.bind(CHOICE, x, inner);
+        let context = b.replace(&[x], &[choice], 0);
+        let chosen = b.add_step(REFL, context, x_term, choice, &[]);
+        let stays = b.add_step(CONG, context, constant, constant, &[]);
+        let (left, right) = (b.bind(kind, x, body), b.apply(p, &[choice, constant]));
+        let premise = b.add_step(CONG, context, body, right, &[chosen, stays]);
+        parts.push((left, right, b.add_step(sko(kind), 0, left, right, &[premise])));
+    }
+    while parts.len() > 1 {
+        parts = parts
+            .chunks(2)
+            .map(|pair| match *pair {
+                [(left, right, step), (other, result, next)] => {
+                    let (left, right) = (b.apply(4, &[left, other]), b.apply(4, &[right, result]));
+                    (left, right, b.add_step(CONG, 0, left, right, &[step, next]))
+                }
+                _ => pair[0],
+            })
+            .collect();
+    }
+    b.repeat_step(parts[0].2);
     b.claim_last()
 }
 

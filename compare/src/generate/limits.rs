@@ -68,7 +68,7 @@ pub fn fill(builder: &mut Builder, section: Section, target: u32) {
                 };
                 let variable = some_variable(builder);
                 let kind = builder.rng.one_of([FOR_ALL, EXISTS]);
-                last = Some(builder.quantify(kind, variable, body));
+                last = Some(builder.bind(kind, variable, body));
             }
             Section::Links => {
                 let value = builder.rng.next_u32();

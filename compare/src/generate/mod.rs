@@ -9,6 +9,7 @@ pub mod large;
 pub mod limits;
 pub mod printing;
 pub mod replace;
+pub mod skolem;
 pub mod stray;
 mod terms;
 pub mod texts;
@@ -38,6 +39,8 @@ pub enum Family {
     Whole,
     /// Free variables that no entry mentions, or only just.
     Stray,
+    /// Choices and SKO, some of them damaged there.
+    Choice,
     /// Document 01's examples, often damaged.
     Example,
     /// Random words of the right length, random bytes.
@@ -54,10 +57,11 @@ pub struct Case {
 pub fn case(seed: u64, index: u64) -> Case {
     let mut rng = Rng::for_file(seed, index);
     let family = match rng.below(1000) {
-        0..190 => Family::Derivation,
-        190..355 => Family::Careless,
-        355..655 => Family::Damaged,
-        655..770 => Family::Order,
+        0..180 => Family::Derivation,
+        180..340 => Family::Careless,
+        340..625 => Family::Damaged,
+        625..730 => Family::Order,
+        730..770 => Family::Choice,
         770..870 => Family::Whole,
         870..910 => Family::Stray,
         910..925 => Family::Limit,
@@ -110,6 +114,13 @@ pub fn case(seed: u64, index: u64) -> Case {
             let mut draft = Draft::new(stray::any(rng.clone()));
             if rng.chance(15) {
                 draft.spoil_scope(&mut rng);
+            }
+            draft.bytes()
+        }
+        Family::Choice => {
+            let mut draft = Draft::new(skolem::any(rng.clone()));
+            if rng.chance(20) {
+                draft.spoil_skolem(&mut rng);
             }
             draft.bytes()
         }
@@ -176,7 +187,11 @@ fn attempt(mut rng: Rng, care: Care, whole: u32) -> (Vec<u32>, bool) {
 }
 
 fn large(mut rng: Rng) -> Vec<u32> {
-    match rng.below(6) {
+    match rng.below(7) {
+        4 => {
+            let count = rng.between(1, 128);
+            large::many_skolem(rng, count)
+        }
         0 => {
             let (depth, steps) = (rng.between(20, 256), rng.between(8, 120));
             large::deep_contexts(rng, depth, steps)

@@ -1,13 +1,14 @@
-//! Terms as texts: the lexemes of a term, and lexemes with white space and comments.
+//! Terms as texts: the lexemes of a term, and lexemes with white space and comments. A choice
+//! has no text.
 
-use super::builder::{Builder, FOR_ALL, Shape, TRUTH};
+use super::builder::{Builder, CHOICE, FOR_ALL, Shape, TRUTH};
 use crate::rng::Rng;
 
 /// Terms are printed as trees, a shared one again and again; not beyond so many
 /// lexemes.
 const MOST: usize = 30_000;
 
-/// The lexemes of a term; `None` where they are too many.
+/// The lexemes of a term; `None` where they are too many, or a choice is in it.
 pub fn lexemes(builder: &mut Builder, term: u32) -> Option<Vec<String>> {
     let mut printer = Printer { builder, lexemes: Vec::new() };
     printer.term(term)?;
@@ -52,7 +53,8 @@ impl Printer<'_> {
                 }
                 self.put(")");
             }
-            Shape::Quantifier(kind, variable, body) => self.quantifier(kind, variable, body)?,
+            Shape::Binder(CHOICE, ..) => return None,
+            Shape::Binder(kind, variable, body) => self.quantifier(kind, variable, body)?,
             Shape::Let(variables, bounds, body) => {
                 self.put_binder("let");
                 for (variable, bound) in variables.into_iter().zip(bounds) {
@@ -81,7 +83,7 @@ impl Printer<'_> {
             self.put(")");
             let together = self.builder.rng.chance(60);
             match *self.builder.shape(body) {
-                Shape::Quantifier(inner, next, rest) if inner == kind && together => {
+                Shape::Binder(inner, next, rest) if inner == kind && together => {
                     (variable, body) = (next, rest);
                 }
                 _ => break,

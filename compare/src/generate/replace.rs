@@ -1,7 +1,7 @@
 //! A term's copy with its free variables replaced and its binders renamed at random, or nearly
 //! so: the two sides of REFL for whole terms (Req 04).
 
-use super::builder::{Builder, EXISTS, FOR_ALL, ITEM, Shape, TRUTH};
+use super::builder::{Builder, CHOICE, ITEM, Shape, TRUTH};
 use crate::bundle::Section;
 use crate::set::Set;
 
@@ -118,17 +118,21 @@ impl Replacing<'_> {
                 }
                 Some(self.builder.apply(symbol, &arguments?))
             }
-            Shape::Quantifier(kind, x, body) => {
-                let [y] = self.names(&[x], body)?[..] else { return None };
+            Shape::Binder(kind, x, body) => {
+                let resorts = kind != CHOICE;
+                let [y] = self.names(&[x], body, resorts)?[..] else { return None };
                 let mut kind = kind;
                 if self.misses(Miss::Kind) {
-                    kind = FOR_ALL + EXISTS - kind;
-                    self.made();
+                    let other = self.builder.another_kind_of(kind, x);
+                    if other != kind {
+                        kind = other;
+                        self.made();
+                    }
                 }
                 self.scope.push((x, y));
                 let body = self.copy(body)?;
                 self.scope.pop();
-                Some(self.builder.quantify(kind, y, body))
+                Some(self.builder.bind(kind, y, body))
             }
             Shape::Let(variables, bounds, body) => self.let_(&variables, &bounds, body),
         }
@@ -189,8 +193,8 @@ impl Replacing<'_> {
     }
 
     /// Names in the copy for the variables of a binder: none that is free there in what the
-    /// body's other variables become.
-    fn names(&mut self, variables: &[u32], body: u32) -> Option<Vec<u32>> {
+    /// body's other variables become. Whether one may be of another sort is told.
+    fn names(&mut self, variables: &[u32], body: u32, resorts: bool) -> Option<Vec<u32>> {
         let own: Set = variables.iter().copied().collect();
         let free = self.builder.free(body);
         let taken = free.without(own).members().fold(Set::EMPTY, |taken, x| {
@@ -205,7 +209,7 @@ impl Replacing<'_> {
         let mut names: Vec<u32> = Vec::new();
         for &x in variables {
             let mut sort = self.builder.variable_sort(x);
-            if variables.len() == 1 && !free.has(x) && self.misses(Miss::Sort) {
+            if resorts && variables.len() == 1 && !free.has(x) && self.misses(Miss::Sort) {
                 sort = TRUTH + ITEM - sort;
             }
             let all = self.builder.variables_of(sort);
@@ -253,7 +257,7 @@ impl Replacing<'_> {
     }
 
     fn let_(&mut self, variables: &[u32], bounds: &[u32], body: u32) -> Option<u32> {
-        let mut names = self.names(variables, body)?;
+        let mut names = self.names(variables, body, true)?;
         let sorts = |builder: &Builder, names: &[u32]| -> Vec<u32> {
             names.iter().map(|&name| builder.variable_sort(name)).collect()
         };

@@ -2,8 +2,8 @@
 //! variable that is free in one side or in both, or bound there, and that entries mention in
 //! each way, or not at all; some of the steps are refused by another number, too.
 
-use super::builder::{Builder, EXISTS, FOR_ALL, ITEM, TRUTH};
-use super::derive::{BIND, CONG, LET, REFL, TRANS};
+use super::builder::{BINDERS, Builder, FOR_ALL, ITEM, TRUTH};
+use super::derive::{BIND, CONG, LET, REFL, SKO_EXISTS, SKO_FOR_ALL, TRANS};
 use super::replace::{MISSES, replaced};
 use crate::bundle::Section;
 use crate::rng::Rng;
@@ -158,7 +158,7 @@ impl Stage {
         let [other, ..] = self.others;
         let (f_x, other_term) = (self.f_of(x_term), self.b.variable_term(other));
         let p_x_x = self.p_of(x_term, x_term);
-        let kind = self.b.rng.one_of([FOR_ALL, EXISTS]);
+        let kind = self.b.rng.one_of(BINDERS);
         match self.b.rng.below(11) {
             0 => x_term,
             1 => f_x,
@@ -169,7 +169,7 @@ impl Stage {
             }
             // Free beside bound.
             4 => {
-                let bound = self.b.quantify(kind, x, p_x_x);
+                let bound = self.b.bind_as_truth(kind, x, p_x_x);
                 let free = self.p_of(a_term, x_term);
                 let both = self.b.rng.one_of([[bound, free], [free, bound]]);
                 self.b.apply(4, &both)
@@ -183,10 +183,10 @@ impl Stage {
             }
             8 => {
                 let body = self.p_of(other_term, x_term);
-                self.b.quantify(kind, other, body)
+                self.b.bind(kind, other, body)
             }
             // Not free.
-            9 => self.b.quantify(kind, x, p_x_x),
+            9 => self.b.bind(kind, x, p_x_x),
             _ => self.b.bind_let(&[x], &[a_term], p_x_x),
         }
     }
@@ -248,8 +248,8 @@ impl Stage {
         let first = self.refl(renaming, z_term, x_term);
         let second = self.refl(renaming, x_term, x_term);
         let premise = self.b.add_step(CONG, renaming, from, to, &[first, second]);
-        let kind = self.b.rng.one_of([FOR_ALL, EXISTS]);
-        let (left, right) = (self.b.quantify(kind, z, from), self.b.quantify(kind, x, to));
+        let kind = self.b.rng.one_of(BINDERS);
+        let (left, right) = (self.b.bind(kind, z, from), self.b.bind(kind, x, to));
         self.b.add_step(BIND, context, left, right, &[premise]);
     }
 
@@ -262,8 +262,8 @@ impl Stage {
         let name = self.b.rng.one_of([self.x, self.x, y]);
         let [w_term, z_term, name_term] = [w, z, name].map(|name| self.b.variable_term(name));
         let (from, to) = (self.p_of(z_term, w_term), self.p_of(name_term, f_x));
-        let kind = self.b.rng.one_of([FOR_ALL, EXISTS]);
-        let (left, right) = (self.b.quantify(kind, z, from), self.b.quantify(kind, name, to));
+        let kind = self.b.rng.one_of(BINDERS);
+        let (left, right) = (self.b.bind(kind, z, from), self.b.bind(kind, name, to));
         if self.b.rng.chance(50) {
             self.refl(outer, left, right);
             return;
@@ -297,8 +297,7 @@ impl Stage {
             let first = self.refl(renaming, x_term, y_term);
             let second = self.refl(renaming, w_term, f_x);
             let premise = self.b.add_step(CONG, renaming, from, to, &[first, second]);
-            let (left, right) =
-                (self.b.quantify(FOR_ALL, x, from), self.b.quantify(FOR_ALL, y, to));
+            let (left, right) = (self.b.bind(FOR_ALL, x, from), self.b.bind(FOR_ALL, y, to));
             self.b.add_step(BIND, outer, left, right, &[premise]);
         }
     }
@@ -310,11 +309,13 @@ impl Stage {
         let premise = self.b.add_step(CONG, context, a_term, a_term, &[]);
         let sides = [[term, closed], [closed, term], [term, term]];
         let [left, right] = self.b.rng.one_of(sides);
-        let (rule, premises) = match self.b.rng.below(5) {
+        let (rule, premises) = match self.b.rng.below(7) {
             0 => (CONG, vec![]),
             1 => (CONG, vec![premise]),
             2 => (TRANS, vec![premise; 2]),
             3 => (BIND, vec![premise]),
+            4 => (SKO_EXISTS, vec![premise]),
+            5 => (SKO_FOR_ALL, vec![premise]),
             _ => (LET, vec![premise; 2]),
         };
         self.b.add_step(rule, context, left, right, &premises);
@@ -325,11 +326,12 @@ impl Stage {
         let term = self.term();
         let own = self.b.count(Section::Steps) + 1;
         let over = self.b.count(Section::Contexts) + 1;
-        let (rule, context, premises) = match self.b.rng.below(5) {
+        let (rule, context, premises) = match self.b.rng.below(6) {
             0 => (0, context, vec![]),
-            1 => (LET + 1, context, vec![]),
+            1 => (SKO_FOR_ALL + 1, context, vec![]),
             2 => (REFL, over, vec![]),
             3 => (CONG, context, vec![own]),
+            4 => (self.b.rng.one_of([SKO_EXISTS, SKO_FOR_ALL]), context, vec![]),
             _ => (TRANS, context, vec![]),
         };
         self.b.add_step(rule, context, term, term, &premises);

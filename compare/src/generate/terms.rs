@@ -1,7 +1,7 @@
 //! Random signatures and terms.
 
-use super::builder::{Builder, EXISTS, FOR_ALL, ITEM, Shape, TRUTH};
-use crate::bundle::Section;
+use super::builder::{BINDERS, Builder, CHOICE, EXISTS, FOR_ALL, ITEM, Shape, TRUTH};
+use crate::bundle::{BUILT_IN, Section};
 use crate::fault::OLD_VARIABLES;
 use std::collections::BTreeSet;
 
@@ -134,7 +134,50 @@ impl Builder {
         let body = self.random_term(TRUTH, depth.saturating_sub(1));
         let variable = self.random_binder(body);
         let kind = if self.rng.chance(60) { FOR_ALL } else { EXISTS };
-        self.quantify(kind, variable, body)
+        self.bind(kind, variable, body)
+    }
+
+    /// A choice of a variable of this sort; a leaf where there is no such variable.
+    pub fn random_choice(&mut self, sort: u32, depth: u32) -> u32 {
+        let body = self.random_term(TRUTH, depth.saturating_sub(1));
+        let any = self.variables_of(sort);
+        let free: Vec<u32> = any.iter().copied().filter(|&x| self.free(body).has(x)).collect();
+        let some = if !free.is_empty() && self.rng.chance(85) { &free } else { &any };
+        match self.rng.pick(some).copied() {
+            Some(variable) => self.bind(CHOICE, variable, body),
+            None => self.random_leaf(sort),
+        }
+    }
+
+    /// Another kind of binder.
+    pub fn another_kind(&mut self, kind: u32) -> u32 {
+        let mut other = self.random_kind();
+        while other == kind {
+            other = self.random_kind();
+        }
+        other
+    }
+
+    /// Another kind of binder of this variable, so that the terms have the same sort; the same
+    /// kind where there is none.
+    pub fn another_kind_of(&mut self, kind: u32, variable: u32) -> u32 {
+        let truth = self.variable_sort(variable) == TRUTH;
+        let others: Vec<u32> = BINDERS
+            .into_iter()
+            .filter(|&other| other != kind && (truth || (kind == CHOICE) == (other == CHOICE)))
+            .collect();
+        self.rng.pick(&others).copied().unwrap_or(kind)
+    }
+
+    /// A binder of a body as a truth term: a choice of an item stands in an equality.
+    pub fn bind_as_truth(&mut self, kind: u32, variable: u32, body: u32) -> u32 {
+        let bound = self.bind(kind, variable, body);
+        if self.sort(bound) == TRUTH {
+            return bound;
+        }
+        // In every signature the first symbol is an item constant.
+        let constant = self.apply(BUILT_IN + 1, &[]);
+        self.apply(8, &[bound, constant])
     }
 
     pub fn random_let(&mut self, sort: u32, depth: u32) -> u32 {
@@ -191,6 +234,7 @@ impl Builder {
             }
             18..42 if sort == TRUTH => self.random_quantifier(depth),
             42..62 => self.random_let(sort, depth),
+            62..72 if self.has_choices() => self.random_choice(sort, depth),
             _ => self.random_application(sort, depth),
         }
     }
@@ -217,8 +261,8 @@ impl Builder {
                     self.bind_let(&[variable], &[constant], closed)
                 }
                 _ => {
-                    let kind = if self.rng.chance(60) { FOR_ALL } else { EXISTS };
-                    self.quantify(kind, variable, closed)
+                    let kind = self.random_kind();
+                    self.bind_as_truth(kind, variable, closed)
                 }
             };
         }

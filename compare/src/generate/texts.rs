@@ -117,7 +117,7 @@ impl Source {
 
     fn signature(rng: &mut Rng) -> Self {
         let sharing = rng.one_of([0, 30, 70, 100]);
-        let mut builder = Builder::new(Rng::new(rng.next_u64()), sharing);
+        let mut builder = Builder::new(Rng::new(rng.next_u64()), sharing).without_choices();
         builder.random_signature();
         // Sort lists of other symbols, and links that nobody uses.
         for _ in 0..rng.below(3) {

@@ -1,7 +1,7 @@
 //! Files about REFL for whole terms (Req 04): random walks, and walks of given lengths and
 //! shapes.
 
-use super::builder::{Builder, EXISTS, FOR_ALL, ITEM, TRUTH};
+use super::builder::{BINDERS, Builder, CHOICE, EXISTS, FOR_ALL, ITEM, TRUTH};
 use super::derive::{BIND, Care, Derivation, LET, REFL, Slip};
 use super::replace::{MISSES, Miss, replaced};
 use crate::bundle::Section;
@@ -74,7 +74,7 @@ pub fn of_length(b: &mut Builder, length: Length) -> (u32, [u32; 2]) {
         sides = if place % 4 == 3 {
             [b.bind_let(&[x], &[free_term], sides[0]), b.bind_let(&[y], &[a_term], sides[1])]
         } else {
-            [b.quantify(kind, x, sides[0]), b.quantify(kind, y, sides[1])]
+            [b.bind(kind, x, sides[0]), b.bind(kind, y, sides[1])]
         };
     }
     (context, sides)
@@ -139,7 +139,7 @@ fn doubles(rng: Rng) -> Vec<u32> {
         2 => {
             let (p, [one, other]) = (8, [[left, x_term], [right, a_term]]);
             let (one, other) = (b.apply(p, &one), b.apply(p, &other));
-            (left, right) = (b.quantify(EXISTS, y, one), b.quantify(EXISTS, y, other));
+            (left, right) = (b.bind(EXISTS, y, one), b.bind(EXISTS, y, other));
         }
         _ => {}
     }
@@ -203,19 +203,19 @@ pub fn shared_binders(rng: Rng, depth: u32, every: u32) -> Vec<u32> {
             term = b.apply(4, &[atom, term]);
         }
         let kind = if level % 3 == 2 { EXISTS } else { FOR_ALL };
-        term = b.quantify(kind, names[level as usize % 4], term);
+        term = b.bind(kind, names[level as usize % 4], term);
     }
     let sides = outer.map(|name| {
         let name_term = b.variable_term(name);
         let atom = b.apply(p, &[name_term, name_term]);
         let body = b.apply(4, &[atom, term]);
-        b.quantify(FOR_ALL, name, body)
+        b.bind(FOR_ALL, name, body)
     });
     b.add_step(REFL, 0, sides[0], sides[1], &[]);
     b.claim_last()
 }
 
-/// Binders in one another, quantifiers and lets, with other names on the right, over a leaf
+/// Binders in one another, choices and lets too, with other names on the right, over a leaf
 /// that is bound far outside or replaced; now and then the leaf is another one.
 fn deep(rng: Rng) -> Vec<u32> {
     let mut b = Builder::new(rng, 100);
@@ -227,7 +227,7 @@ fn deep(rng: Rng) -> Vec<u32> {
     let (a_term, free_term) = (b.apply(a, &[]), b.variable_term(free));
     let context = b.replace(&[free], &[a_term], 0);
     let shift = b.rng.below(count) as usize;
-    let depth = b.rng.between(1, 400) as usize;
+    let depth = b.rng.between(1, 380) as usize;
     let name = |side: usize, level: usize| names[(level + side * shift) % names.len()];
     let seen = b.rng.below(depth as u32) as usize;
     let wrong = b.rng.chance(40);
@@ -236,7 +236,7 @@ fn deep(rng: Rng) -> Vec<u32> {
         b.variable_term(name(side, at))
     });
     let lets = b.rng.chance(40);
-    let kind = |level: usize| if level % 3 == 2 { EXISTS } else { FOR_ALL };
+    let kind = |level: usize| [FOR_ALL, EXISTS, CHOICE, FOR_ALL, FOR_ALL][level % 5];
     let images = [free_term, if b.rng.chance(80) { a_term } else { free_term }];
     let sides = [0, 1].map(|side| {
         let mut term = b.apply(p, &[leaves[side], images[side]]);
@@ -244,7 +244,7 @@ fn deep(rng: Rng) -> Vec<u32> {
             term = if lets && level % 2 == 0 {
                 b.bind_let(&[name(side, level)], &[images[side]], term)
             } else {
-                b.quantify(kind(level), name(side, level), term)
+                b.bind_as_truth(kind(level), name(side, level), term)
             };
         }
         term
@@ -264,6 +264,7 @@ fn add_walk(b: &mut Builder, context: u32, [left, right]: [u32; 2]) {
 /// outer binder's: it then takes the variable of an image.
 fn under_binders(rng: Rng) -> Vec<u32> {
     let mut b = Builder::new(rng, 50);
+    b.symbol(ITEM, &[]);
     let f = b.symbol(ITEM, &[ITEM]);
     let p = b.symbol(TRUTH, &[ITEM, ITEM]);
     let before = b.rng.one_of([0, 0, 3, 60, 63, 64, 127, 190, 250]);
@@ -274,12 +275,13 @@ fn under_binders(rng: Rng) -> Vec<u32> {
     let new = b.rng.one_of([y, y, x, other]);
     let [x_term, y_term, z_term, w_term, new_term] =
         [x, y, z, w, new].map(|name| b.variable_term(name));
-    let [outer, inner] = [0; 2].map(|_| b.rng.one_of([FOR_ALL, EXISTS]));
+    let [outer, inner] = [0; 2].map(|_| b.rng.one_of(BINDERS));
     let fixing = b.fix(y, 0);
     let renaming = b.replace(&[x], &[y_term], fixing);
     let premise = if b.rng.chance(50) {
         let (left, right) = (b.apply(p, &[x_term, z_term]), b.apply(p, &[y_term, new_term]));
-        let (left, right) = (b.quantify(inner, z, left), b.quantify(inner, new, right));
+        let left = b.bind_as_truth(inner, z, left);
+        let right = b.bind_as_truth(inner, new, right);
         b.add_step(REFL, renaming, left, right, &[])
     } else {
         // The same with a let between the two.
@@ -287,33 +289,50 @@ fn under_binders(rng: Rng) -> Vec<u32> {
         let bound = b.add_step(REFL, renaming, f_x, f_y, &[]);
         let replacing = b.replace(&[w], &[f_y], renaming);
         let (left, right) = (b.apply(p, &[w_term, z_term]), b.apply(p, &[f_y, new_term]));
-        let (left, right) = (b.quantify(inner, z, left), b.quantify(inner, new, right));
+        let left = b.bind_as_truth(inner, z, left);
+        let right = b.bind_as_truth(inner, new, right);
         let body = b.add_step(REFL, replacing, left, right, &[]);
         let left = b.bind_let(&[w], &[f_x], left);
         b.add_step(LET, renaming, left, right, &[bound, body])
     };
     let body = b.step(premise);
-    let (left, right) = (b.quantify(outer, x, body.left), b.quantify(outer, y, body.right));
+    let (left, right) = (b.bind(outer, x, body.left), b.bind(outer, y, body.right));
     b.add_step(BIND, 0, left, right, &[premise]);
     b.claim_last()
 }
 
 /// A closed claim by one REFL: an atom of bound variables under a few binders whose names
-/// recur, so that a nearer one hides another on one side or both.
+/// recur, so that a nearer one hides another on one side or both. Inside the outermost, some
+/// are lets of one variable by another, or by its own name outside.
 fn recurring_names(rng: Rng) -> Vec<u32> {
     let mut b = Builder::new(rng, 50);
+    b.symbol(ITEM, &[]);
     let p = b.symbol(TRUTH, &[ITEM, ITEM]);
     let names: [u32; 3] = std::array::from_fn(|_| b.variable(ITEM));
-    let kinds: Vec<u32> =
-        (0..b.rng.between(2, 3)).map(|_| b.rng.one_of([FOR_ALL, EXISTS])).collect();
+    let inner: Vec<Option<u32>> = (0..b.rng.between(1, 2))
+        .map(|_| if b.rng.chance(30) { None } else { Some(b.rng.one_of(BINDERS)) })
+        .collect();
+    let outermost = b.rng.one_of(BINDERS);
+    let own = b.rng.chance(30);
+    let inner = if own { vec![None, Some(b.rng.one_of(BINDERS))] } else { inner };
     let [left, right] = [0; 2].map(|_| {
-        let some: Vec<u32> = kinds.iter().map(|_| b.rng.one_of(names)).collect();
-        let leaves = [0; 2].map(|_| {
+        let some: Vec<u32> = (0..=inner.len()).map(|_| b.rng.one_of(names)).collect();
+        let leaf = |b: &mut Builder| {
             let name = b.rng.pick(&some).copied().unwrap_or(names[0]);
             b.variable_term(name)
-        });
-        let atom = b.apply(p, &leaves);
-        kinds.iter().zip(some).fold(atom, |body, (&kind, name)| b.quantify(kind, name, body))
+        };
+        let leaves = if own { [b.variable_term(some[0]); 2] } else { [leaf(&mut b), leaf(&mut b)] };
+        let mut term = b.apply(p, &leaves);
+        for (kind, &name) in inner.iter().zip(&some) {
+            term = match *kind {
+                Some(kind) => b.bind_as_truth(kind, name, term),
+                None => {
+                    let bound = if own { b.variable_term(name) } else { leaf(&mut b) };
+                    b.bind_let(&[name], &[bound], term)
+                }
+            };
+        }
+        b.bind(outermost, some[inner.len()], term)
     });
     b.add_step(REFL, 0, left, right, &[]);
     b.claim_last()
@@ -337,8 +356,8 @@ fn prepare(b: &mut Builder, miss: Option<Miss>) -> Option<(u32, u32)> {
     let (z_term, other) = (b.variable_term(z), b.random_leaf(sort));
     let symbol = if sort == TRUTH { b.rng.one_of([4, 5, 6, 7]) } else { 8 };
     let body = b.apply(symbol, &[z_term, other]);
-    let kind = b.rng.one_of([FOR_ALL, EXISTS]);
-    let term = b.quantify(kind, w, body);
+    let kind = b.rng.one_of(BINDERS);
+    let term = b.bind(kind, w, body);
     Some((b.scope(context, &[term]), term))
 }
 
@@ -411,8 +430,8 @@ pub fn any(mut rng: Rng) -> Vec<u32> {
     match rng.below(100) {
         0..38 => walks(rng),
         38..41 => under_binders(rng),
-        41..43 => recurring_names(rng),
-        43..72 => {
+        41..45 => recurring_names(rng),
+        45..72 => {
             let near = rng.chance(50);
             let care = if near { Care::But(&[Slip::Whole]) } else { Care::Full };
             super::walking(rng, care)
@@ -450,7 +469,7 @@ pub fn one_for_many(rng: Rng, rules: u32) -> Vec<u32> {
             let three = b.apply(p(2), &[v, z]);
             let four = b.apply(8, &[f_x, y]);
             let inner = b.apply(6, &[two, three]);
-            let inner = b.quantify(FOR_ALL, names[2], inner);
+            let inner = b.bind(FOR_ALL, names[2], inner);
             let both = b.apply(4, &[one, four]);
             let all = b.apply(5, &[both, inner]);
             let five = b.apply(p(3), &[v, v]);
@@ -460,8 +479,8 @@ pub fn one_for_many(rng: Rng, rules: u32) -> Vec<u32> {
             let all = b.apply(4, &[all, six]);
             let all = b.apply(3, &[all]);
             let all = b.apply(4, &[all, inner]);
-            let exists = b.quantify(EXISTS, names[1], all);
-            b.quantify(FOR_ALL, names[0], exists)
+            let exists = b.bind(EXISTS, names[1], all);
+            b.bind(FOR_ALL, names[0], exists)
         };
         let left = side(&mut b, terms[0], [x, y, z]);
         let right = side(&mut b, bound, if rule % 2 == 0 { [s, t, z] } else { [y, x, t] });

@@ -27,6 +27,7 @@ fn check_files(checkers: Checkers) {
     assert_eq!(report.walks.unseen(1), [], "{report}");
     assert_eq!(report.pairs.unseen(20), [], "{report}");
     assert_eq!(report.unseen_stray(10), [], "{report}");
+    assert_eq!(report.skolem.unseen(10), <[&str; 0]>::default(), "{report}");
     assert!(report.walked > FILES / 30, "{report}");
 }
 

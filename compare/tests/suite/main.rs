@@ -7,6 +7,7 @@ mod long_texts;
 mod names;
 mod parties;
 mod reader;
+mod skolem;
 mod stray;
 mod teeth;
 mod variables;

@@ -128,18 +128,18 @@ fn bound_by_one_record() {
     for kind in [FOR_ALL, EXISTS] {
         let mut g = Given::new();
         let body = g.p(X, X);
-        let rule = g.b.quantify(kind, X, body);
+        let rule = g.b.bind(kind, X, body);
         assert_eq!(g.names(rule), [(X, X)]);
 
         let mut g = Given::new();
         let body = g.b.variable_term(T);
-        let rule = g.b.quantify(kind, T, body);
+        let rule = g.b.bind(kind, T, body);
         assert_eq!(g.names(rule), [(T, T)], "over a truth value");
 
         let mut g = Given::new();
         let body = g.p(X, Y);
-        let inner = g.b.quantify(kind, Y, body);
-        let rule = g.b.quantify(FOR_ALL, X, inner);
+        let inner = g.b.bind(kind, Y, body);
+        let rule = g.b.bind(FOR_ALL, X, inner);
         assert_eq!(g.names(rule), [(Y, Y), (X, X)]);
     }
 }
@@ -151,27 +151,27 @@ fn bound_by_two_records() {
     for (one, other) in [(FOR_ALL, EXISTS), (EXISTS, FOR_ALL)] {
         let mut g = Given::new();
         let body = g.p(X, X);
-        let parts = [one, other].map(|kind| g.b.quantify(kind, X, body));
+        let parts = [one, other].map(|kind| g.b.bind(kind, X, body));
         let rule = g.and(parts[0], parts[1]);
         assert_eq!(g.names(rule), [(X, 5), (X, 6)], "the same body");
 
         let mut g = Given::new();
         let (body, truth) = (g.p(X, X), g.truth());
-        let parts = [body, truth].map(|body| g.b.quantify(one, X, body));
+        let parts = [body, truth].map(|body| g.b.bind(one, X, body));
         let rule = g.and(parts[0], parts[1]);
         assert_eq!(g.names(rule), [(X, 5), (X, 6)], "the same kind");
 
         let mut g = Given::new();
         let body = g.p(X, X);
-        let inner = g.b.quantify(one, X, body);
-        let rule = g.b.quantify(other, X, inner);
+        let inner = g.b.bind(one, X, body);
+        let rule = g.b.bind(other, X, inner);
         assert_eq!(g.names(rule), [(X, 6), (X, 5)], "one within the other");
 
         let mut g = Given::new();
         let body = g.p(X, Y);
-        let parts = [one, other].map(|kind| g.b.quantify(kind, Y, body));
+        let parts = [one, other].map(|kind| g.b.bind(kind, Y, body));
         let both = g.and(parts[0], parts[1]);
-        let rule = g.b.quantify(one, X, both);
+        let rule = g.b.bind(one, X, both);
         assert_eq!(g.names(rule), [(Y, 5), (Y, 6), (X, X)], "x once, y twice");
     }
 }
@@ -189,11 +189,11 @@ fn listed_by_a_let() {
             let rule = if beside {
                 let truth = g.truth();
                 let one = g.b.bind_let(variables, &bounds, truth);
-                let other = g.b.quantify(EXISTS, X, body);
+                let other = g.b.bind(EXISTS, X, body);
                 g.and(one, other)
             } else {
                 let body = g.b.bind_let(variables, &bounds, body);
-                g.b.quantify(FOR_ALL, X, body)
+                g.b.bind(FOR_ALL, X, body)
             };
             let name = if kept { X } else { 5 };
             assert_eq!(g.names(rule), [(X, name)], "{variables:?}, beside: {beside}");
@@ -212,10 +212,10 @@ fn records_that_left_does_not_reach() {
             let beside = |g: &mut Given| {
                 let (truth, a) = (g.truth(), g.a);
                 match record {
-                    "for-all" => _ = g.b.quantify(FOR_ALL, X, truth),
-                    "exists" => _ = g.b.quantify(EXISTS, X, truth),
+                    "for-all" => _ = g.b.bind(FOR_ALL, X, truth),
+                    "exists" => _ = g.b.bind(EXISTS, X, truth),
                     "let" => _ = g.b.bind_let(&[Y, X], &[a, a], truth),
-                    "y" => _ = g.b.quantify(FOR_ALL, Y, truth),
+                    "y" => _ = g.b.bind(FOR_ALL, Y, truth),
                     _ => {}
                 }
             };
@@ -223,7 +223,7 @@ fn records_that_left_does_not_reach() {
                 beside(&mut g);
             }
             let body = g.p(X, X);
-            let rule = g.b.quantify(FOR_ALL, X, body);
+            let rule = g.b.bind(FOR_ALL, X, body);
             if !first {
                 beside(&mut g);
             }
@@ -239,18 +239,18 @@ fn records_that_left_does_not_reach() {
 fn a_record_visited_twice() {
     let mut g = Given::new();
     let body = g.p(X, X);
-    let one = g.b.quantify(FOR_ALL, X, body);
+    let one = g.b.bind(FOR_ALL, X, body);
     let rule = g.and(one, one);
     assert_eq!(g.names(rule), [(X, X), (X, X)]);
 
     // Ay.((let z = a in Ex.p(x,z)) and (let z = y in Ex.p(x,z)))
     let mut g = Given::new();
     let (body, a) = (g.p(X, Z), g.a);
-    let one = g.b.quantify(EXISTS, X, body);
+    let one = g.b.bind(EXISTS, X, body);
     let y_term = g.b.variable_term(Y);
     let [first, second] = [a, y_term].map(|value| g.b.bind_let(&[Z], &[value], one));
     let both = g.and(first, second);
-    let rule = g.b.quantify(FOR_ALL, Y, both);
+    let rule = g.b.bind(FOR_ALL, Y, both);
     assert_eq!(g.names(rule), [(X, X), (X, X), (Y, Y)]);
     let job = g.b.words(rule, 0);
     let file = written(&job, Names::Keep).unwrap();
@@ -276,7 +276,7 @@ fn the_term_of_a_kept_variable() {
         }
         let (body, a) = (g.p(Y, Y), g.a);
         let body = g.b.bind_let(&[Y], &[a], body);
-        let rule = g.b.quantify(FOR_ALL, X, body);
+        let rule = g.b.bind(FOR_ALL, X, body);
         let job = g.b.words(rule, 0);
         let file = written(&job, Names::Keep).unwrap();
         let (old, new) = (records(&job, Section::Terms), records(&file, Section::Terms));
@@ -306,7 +306,7 @@ fn the_result_of_a_kept_name() {
         let body = g.p(X, Y);
         let x_term = g.b.variable_term(X);
         let body = g.b.bind_let(&[Y], &[x_term], body);
-        let rule = g.b.quantify(FOR_ALL, X, body);
+        let rule = g.b.bind(FOR_ALL, X, body);
         let job = g.b.words(rule, 0);
         let file = written(&job, Names::Keep).unwrap();
         let terms = [&job, &file].map(|words| records(words, Section::Terms).len());
@@ -316,11 +316,11 @@ fn the_result_of_a_kept_name() {
     // A part without lets whose names are kept is its own result.
     let mut g = Given::new();
     let (body, a) = (g.p(X, Y), g.a);
-    let inner = g.b.quantify(EXISTS, Y, body);
-    let part = g.b.quantify(FOR_ALL, X, inner);
+    let inner = g.b.bind(EXISTS, Y, body);
+    let part = g.b.bind(FOR_ALL, X, inner);
     let truth = g.b.variable_term(T);
     let both = g.and(part, truth);
-    let rule = g.b.quantify(FOR_ALL, T, both);
+    let rule = g.b.bind(FOR_ALL, T, both);
     let job = g.b.words(rule, 0);
     let file = written(&job, Names::Keep).unwrap();
     assert_eq!((file[LEFT], file[RIGHT]), (rule, rule));
@@ -329,7 +329,7 @@ fn the_result_of_a_kept_name() {
     assert!(steps.iter().all(|step| step[2] == step[3]));
     // One let in it, and all above the let are new.
     let listed = g.b.bind_let(&[Z], &[a], both);
-    let rule = g.b.quantify(EXISTS, T, listed);
+    let rule = g.b.bind(EXISTS, T, listed);
     let job = g.b.words(rule, 0);
     assert_eq!(names_in(&written(&job, Names::Keep).unwrap()), [(Y, Y), (X, X), (T, 5)]);
 }
@@ -340,7 +340,7 @@ fn both_choices_alike() {
     let mut g = Given::new();
     let (body, a) = (g.p(X, Y), g.a);
     let bound = g.b.bind_let(&[X, Y], &[a, a], body);
-    let listed = g.b.quantify(FOR_ALL, X, bound);
+    let listed = g.b.bind(FOR_ALL, X, bound);
     for rule in [bound, listed] {
         let job = g.b.words(rule, 0);
         let file = written(&job, Names::Keep);
@@ -359,11 +359,11 @@ fn kept_at_the_ends_of_words() {
             (0..255).for_each(|_| _ = b.variable(ITEM));
             let terms = [x, y].map(|variable| b.variable_term(variable));
             let body = b.apply(8, &terms);
-            let inner = b.quantify(FOR_ALL, y, body);
-            let rule = b.quantify(EXISTS, x, inner);
+            let inner = b.bind(FOR_ALL, y, body);
+            let rule = b.bind(EXISTS, x, inner);
             if twice {
                 let truth = b.apply(1, &[]);
-                b.quantify(EXISTS, y, truth);
+                b.bind(EXISTS, y, truth);
             }
             let found = written(&b.words(rule, 0), Names::Keep).unwrap();
             let name = if twice { 256 } else { y };
@@ -381,7 +381,7 @@ fn limits_by_the_choice() {
         let mut b = Builder::new(Rng::new(1), 0);
         (0..variables).for_each(|_| _ = b.variable(ITEM));
         let body = b.apply(1, &[]);
-        let rule = b.quantify(FOR_ALL, variables, body);
+        let rule = b.bind(FOR_ALL, variables, body);
         assert_eq!(both(&b.words(rule, 0)), expected, "{variables} variables");
     }
     // Two contexts for each quantifier.
@@ -398,7 +398,7 @@ fn limits_by_the_choice() {
     ] {
         let mut g = Given::new();
         let body = if there { g.p(X, X) } else { g.truth() };
-        let rule = g.b.quantify(FOR_ALL, X, body);
+        let rule = g.b.bind(FOR_ALL, X, body);
         let mut last = g.truth();
         while g.b.count(Section::Terms) < terms {
             last = g.b.apply(3, &[last]);
@@ -412,7 +412,7 @@ fn limits_by_the_choice() {
 fn generated_jobs() {
     let mut quantified = Quantified::default();
     let (mut itself, mut appended, mut files) = (0, 0, 0);
-    for index in 0..400 {
+    for index in 0..700 {
         let job = named(Rng::for_file(3, index));
         let Ok(file) = written(&job, Names::Keep) else { continue };
         files += 1;
@@ -423,7 +423,7 @@ fn generated_jobs() {
         let new = &terms[records(&job, Section::Terms).len()..];
         appended += u32::from(new.iter().any(|term| term[0] == 1 && term[1] <= old));
     }
-    assert!(files >= 350 && itself >= 20 && appended >= 20, "{files} {itself} {appended}");
+    assert!(files >= 600 && itself >= 20 && appended >= 20, "{files} {itself} {appended}");
     assert!(quantified.unseen(100).is_empty(), "{quantified:?}");
     // Some fit where names are kept, and do not where all are renamed; never the other way.
     let answers = (0..2_000).map(|index| {

@@ -10,7 +10,7 @@ use nezkaldo_compare::compare_reader::{self, Readers};
 use nezkaldo_compare::compare_writer::{self, Quantified, Writers, numbers};
 use nezkaldo_compare::expand::{Names, written};
 use nezkaldo_compare::fault::Fault;
-use nezkaldo_compare::generate::builder::{Builder, EXISTS, FOR_ALL, TRUTH};
+use nezkaldo_compare::generate::builder::{Builder, CHOICE, EXISTS, FOR_ALL, TRUTH};
 use nezkaldo_compare::generate::jobs::{Job, JobFamily};
 use nezkaldo_compare::generate::texts::{Text, TextFamily};
 use nezkaldo_compare::mutants::{broken_checker, broken_reader, broken_writer};
@@ -174,35 +174,46 @@ fn names_not_seen_are_named() {
         assert_eq!(tally.inputs.values().sum::<u64>(), JOBS);
         assert_eq!(tally.calls.values().sum::<u64>(), 2 * JOBS);
     }
-    let Quantified { kept, renamed, both } = report.quantified;
+    let Quantified { kept, renamed, both, choices } = report.quantified;
     assert!(both > 0 && both < kept.min(renamed), "{report}");
     let text = report.to_string();
-    let line = format!("{kept} have a variable kept, {renamed} one renamed, {both} both\n");
+    let line = format!(
+        "{kept} have a variable kept, {renamed} one renamed, {both} both; {} have a choice's \
+         variable kept, {} one's renamed\n",
+        choices[0], choices[1]
+    );
     assert!(text.contains(&line), "{text}");
     assert!(text.contains("names kept:\n") && text.contains("all renamed:\n"), "{text}");
 
     let none = Quantified::default();
-    assert_eq!(none.unseen(1), ["kept", "renamed", "both"]);
-    // A rule without quantifiers, one whose name is kept, one with two binders of x, and one
-    // with another name kept beside these.
-    let file = |kinds: [usize; 2]| {
+    let kinds = ["kept", "renamed", "both", "choice kept", "choice renamed"];
+    assert_eq!(none.unseen(1), kinds);
+    // A rule without binders, one whose name is kept, one with two binders of a variable, and
+    // one with another name kept beside these; the same of choices.
+    let file = |kinds: [usize; 3]| {
         let mut b = Builder::new(Rng::new(1), 0);
-        let (x, y) = (b.variable(TRUTH), b.variable(TRUTH));
+        let [x, y, z] = std::array::from_fn(|_| b.variable(TRUTH));
         let mut rule = b.apply(1, &[]);
-        (0..kinds[0]).for_each(|_| rule = b.quantify(FOR_ALL, x, rule));
-        (0..kinds[1]).for_each(|_| rule = b.quantify(EXISTS, y, rule));
+        (0..kinds[0]).for_each(|_| rule = b.bind(FOR_ALL, x, rule));
+        (0..kinds[1]).for_each(|_| rule = b.bind(EXISTS, y, rule));
+        (0..kinds[2]).for_each(|_| rule = b.bind(CHOICE, z, rule));
         written(&to_bytes(&b.words(rule, 0)), Names::Keep).unwrap()
     };
-    for (quantifiers, unseen) in [
-        ([0, 0], vec!["kept", "renamed", "both"]),
-        ([1, 0], vec!["renamed", "both"]),
-        ([1, 1], vec!["renamed", "both"]),
-        ([0, 2], vec!["kept", "both"]),
-        ([2, 1], vec![]),
+    let [kept, renamed, both, choice_kept, choice_renamed] = kinds;
+    let choices = [choice_kept, choice_renamed];
+    for (binders, unseen) in [
+        ([0, 0, 0], kinds.to_vec()),
+        ([1, 0, 0], [[renamed, both], choices].concat()),
+        ([1, 1, 0], [[renamed, both], choices].concat()),
+        ([0, 2, 0], [[kept, both], choices].concat()),
+        ([2, 1, 0], choices.to_vec()),
+        ([0, 0, 1], vec![renamed, both, choice_renamed]),
+        ([0, 0, 2], vec![kept, both, choice_kept]),
+        ([1, 0, 2], vec![choice_kept]),
     ] {
         let mut quantified = none;
-        quantified.add(&file(quantifiers));
-        assert_eq!(quantified.unseen(1), unseen, "{quantifiers:?}");
+        quantified.add(&file(binders));
+        assert_eq!(quantified.unseen(1), unseen, "{binders:?}");
     }
 }
 
@@ -216,7 +227,7 @@ fn numbers_count_by_the_choice() {
     let mut b = Builder::new(Rng::new(1), 0);
     (0..256).for_each(|_| _ = b.variable(TRUTH));
     let truth = b.apply(1, &[]);
-    let rule = b.quantify(FOR_ALL, 1, truth);
+    let rule = b.bind(FOR_ALL, 1, truth);
     let bytes = to_bytes(&b.words(rule, 0));
     report.add(writers(None), 0, &Job { family: JobFamily::Limit, bytes });
     assert!(report.agrees(), "{report}");

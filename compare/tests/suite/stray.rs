@@ -140,8 +140,8 @@ fn free_and_bound() {
     let mut g = given();
     let (x, y, a_term, x_term, y_term) = (g.x, g.y, g.a_term, g.x_term, g.y_term);
     let (f_x, both) = (g.f(x_term), g.p(x_term, x_term));
-    let for_all = g.b.quantify(FOR_ALL, x, both);
-    let exists = g.b.quantify(EXISTS, y, both);
+    let for_all = g.b.bind(FOR_ALL, x, both);
+    let exists = g.b.bind(EXISTS, y, both);
     let beside = g.b.apply(4, &[for_all, both]);
     let p_y = g.p(y_term, y_term);
     let outside = g.b.bind_let(&[x], &[x_term], both);
@@ -231,7 +231,7 @@ fn stray_before_captured() {
             let (from, to) = (g.p(x_term, y_term), g.p(y_term, y_term));
             let (one, other) = (g.refl(inner, x_term, y_term), g.refl(inner, y_term, y_term));
             let premise = g.b.add_step(CONG, inner, from, to, &[one, other]);
-            let (left, right) = (g.b.quantify(FOR_ALL, x, from), g.b.quantify(FOR_ALL, y, to));
+            let (left, right) = (g.b.bind(FOR_ALL, x, from), g.b.bind(FOR_ALL, y, to));
             g.b.add_step(BIND, outer, left, right, &[premise]);
             assert_eq!(g.answer(), answer, "{names:?}");
         }
@@ -266,7 +266,7 @@ fn out_of_scope() {
             let (one, other) = (g.refl(inner, g.x_term, g.y_term), g.refl(inner, g.z_term, f_x));
             let (from, to) = (g.p(g.x_term, g.z_term), g.p(g.y_term, f_x));
             let premise = g.b.add_step(CONG, inner, from, to, &[one, other]);
-            let (left, right) = (g.b.quantify(FOR_ALL, g.x, from), g.b.quantify(FOR_ALL, g.y, to));
+            let (left, right) = (g.b.bind(FOR_ALL, g.x, from), g.b.bind(FOR_ALL, g.y, to));
             let last = g.b.add_step(BIND, outer, left, right, &[premise]);
             assert_eq!(g.answer(), (answer, if answer == 0 { 0 } else { last }), "{names:?}");
         }

@@ -95,8 +95,8 @@ impl Given {
     /// BIND from for all `x` to for all `y`, where a premise has the body.
     fn bind(&mut self, context: u32, x: u32, y: u32, premise: u32) -> u32 {
         let body = self.b.step(premise);
-        let left = self.b.quantify(FOR_ALL, x, body.left);
-        let right = self.b.quantify(FOR_ALL, y, body.right);
+        let left = self.b.bind(FOR_ALL, x, body.left);
+        let right = self.b.bind(FOR_ALL, y, body.right);
         self.b.add_step(BIND, context, left, right, &[premise])
     }
 
@@ -138,8 +138,8 @@ fn free_sets_of_every_kind_of_term() {
             (x_term, vec![x]),
             (f_y, vec![y]),
             (both, vec![x, y]),
-            (g.b.quantify(FOR_ALL, x, both), vec![y]),
-            (g.b.quantify(EXISTS, y, both), vec![x]),
+            (g.b.bind(FOR_ALL, x, both), vec![y]),
+            (g.b.bind(EXISTS, y, both), vec![x]),
             (g.b.bind_let(&[x], &[a], both), vec![y]),
             (g.b.bind_let(&[x], &[f_y], both), vec![y]),
             (g.b.bind_let(&[y], &[f_y], both), vec![x, y]),
@@ -175,7 +175,7 @@ fn a_term_with_every_variable() {
     let all = b.apply(g, &terms);
     let mut rest = all;
     for &variable in &variables {
-        rest = b.quantify(EXISTS, variable, rest);
+        rest = b.bind(EXISTS, variable, rest);
     }
     b.add_step(REFL, 0, rest, rest, &[]);
     let (answer, free) = held(&b.claim_last());
@@ -414,7 +414,7 @@ fn quantified(variables: u32, quantifiers: u32) -> Vec<u8> {
     for quantifier in (1..=quantifiers).rev() {
         // Variables 1 and V, and others that do not occur.
         let variable = if quantifier == 1 { variables } else { (quantifier - 1) % variables };
-        rule = b.quantify(FOR_ALL, variable.max(1), rule);
+        rule = b.bind(FOR_ALL, variable.max(1), rule);
     }
     b.words(rule, 0).iter().flat_map(|word| word.to_le_bytes()).collect()
 }

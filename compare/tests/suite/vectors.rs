@@ -9,7 +9,7 @@ use nezkaldo_compare::ffi::{self, Library};
 use nezkaldo_compare::vectors::{self, Party, Report};
 
 /// The last request that has landed.
-const LANDED: u32 = 6;
+const LANDED: u32 = 7;
 
 const MOVES: &str = include_str!("../../vectors/moves.txt");
 const REQ_01: &str = include_str!("../../vectors/req01.txt");
@@ -18,6 +18,7 @@ const REQ_03: &str = include_str!("../../vectors/req03.txt");
 const REQ_04: &str = include_str!("../../vectors/req04.txt");
 const REQ_05: &str = include_str!("../../vectors/req05.txt");
 const REQ_06: &str = include_str!("../../vectors/req06.txt");
+const REQ_07: &str = include_str!("../../vectors/req07.txt");
 
 fn held(name: &str, text: &str) -> Report {
     let moved = vectors::moves(MOVES, name, LANDED).unwrap();
@@ -107,7 +108,7 @@ fn vectors_of_req_04() {
 #[test]
 fn vectors_of_req_05() {
     let report = held("req05", REQ_05);
-    assert_eq!((report.cases, report.moved), (249, 0));
+    assert_eq!((report.cases, report.moved), (249, 2));
     assert_eq!(by_call(&report, ["check"]), [249]);
     assert!(vectors::refusals(REQ_05).contains(&22));
 }
@@ -119,4 +120,14 @@ fn vectors_of_req_06() {
     assert_eq!((report.cases, report.moved), (335, 0));
     assert_eq!(by_call(&report, ["write keep", "write rename"]), [169, 166]);
     assert_eq!(vectors::refusals(REQ_06), (1..=9).chain(15..=18).collect::<Vec<u32>>());
+}
+
+/// Choices and SKO: every number of the checker and of the writer.
+#[test]
+fn vectors_of_req_07() {
+    let report = held("req07", REQ_07);
+    assert_eq!((report.cases, report.moved), (314, 0));
+    let calls = ["check", "sets", "write keep", "write rename"];
+    assert_eq!(by_call(&report, calls), [182, 4, 64, 64]);
+    assert_eq!(vectors::refusals(REQ_07), (1..=18).chain([21, 22]).collect::<Vec<u32>>());
 }

@@ -56,7 +56,7 @@ impl Terms {
     }
 
     fn for_all(&mut self, variable: u32, body: u32) -> u32 {
-        self.b.quantify(FOR_ALL, variable, body)
+        self.b.bind(FOR_ALL, variable, body)
     }
 
     /// The walk as the readings and the library tell it, and the answer to a file with this
@@ -115,7 +115,7 @@ fn kinds_and_sorts_of_binders() {
     let truth = t.b.apply(1, &[]);
     let sides = [(FOR_ALL, t.x), (EXISTS, t.x), (FOR_ALL, t.u), (FOR_ALL, t.y)];
     let [all, exists, other_sort, other_name] =
-        sides.map(|(kind, variable)| t.b.quantify(kind, variable, truth));
+        sides.map(|(kind, variable)| t.b.bind(kind, variable, truth));
     assert_eq!(t.walk(0, all, exists), differs(1));
     assert_eq!(t.walk(0, all, other_sort), differs(1));
     assert_eq!(t.walk(0, all, other_name), same(2));
@@ -202,7 +202,7 @@ fn capture_in_every_word() {
         let (x, y) = (names[1], names[number - 1]);
         let (x_term, y_term) = (b.variable_term(x), b.variable_term(y));
         let (left, right) = (b.apply(p, &[x_term, y_term]), b.apply(p, &[y_term, y_term]));
-        let (left, right) = (b.quantify(FOR_ALL, x, left), b.quantify(FOR_ALL, y, right));
+        let (left, right) = (b.bind(FOR_ALL, x, left), b.bind(FOR_ALL, y, right));
         let context = b.fix(y, 0);
         b.add_step(REFL, context, left, right, &[]);
         assert_eq!(judge(&b.claim_last()).0, (13, 1));
@@ -545,6 +545,9 @@ fn rebuilt(
         }
         (Tree::Exists(x, body), Tree::Exists(y, other)) => {
             Tree::Exists(*y, within(&[*x], &[*y], [*body, *other])?)
+        }
+        (Tree::Choice(x, body), Tree::Choice(y, other)) => {
+            Tree::Choice(*y, within(&[*x], &[*y], [*body, *other])?)
         }
         (Tree::Let(from, bounds, body), Tree::Let(to, results, other))
             if bounds.len() == results.len() =>

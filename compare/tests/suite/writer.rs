@@ -112,7 +112,7 @@ fn filled(section: Section) -> (Result<Vec<u8>, Refusal>, Result<Vec<u8>, Refusa
     let (x_term, y_term, a_term) = (b.variable_term(x), b.variable_term(y), b.apply(a, &[]));
     let body = b.apply(p, &[x_term, y_term]);
     let bound = b.bind_let(&[y], &[a_term], body);
-    let rule = b.quantify(FOR_ALL, x, bound);
+    let rule = b.bind(FOR_ALL, x, bound);
     let small = written(&to_bytes(&b.words(rule, 0)), Names::RenameAll).unwrap();
     let grown = counts_of(&small).unwrap()[section] - b.count(section);
     limits::fill(&mut b, section, section.limit() - grown);

@@ -18,7 +18,7 @@ pub record Symbol : Type 0 where
   pub sorts : ℕ
 
 -- Term: kind, then three fields. Kind 1 variable (number a), 2 application (symbol a, list b of arguments), 3 for-all and 4 exists
--- (variable a, body b), 5 let (list a of variables, list b of bound terms, body c).
+-- (variable a, body b), 5 let (list a of variables, list b of bound terms, body c), 6 choice (variable a, body b).
 pub record TermRecord : Type 0 where
   pub kind : ℕ
   pub a : ℕ
@@ -32,7 +32,7 @@ pub record Context : Type 0 where
   pub b : ℕ
   pub parent : ℕ
 
--- Step: rule, context, left, right, list of premises. Rule 1 REFL, 2 CONG, 3 TRANS, 4 BIND, 5 LET.
+-- Step: rule, context, left, right, list of premises. Rule 1 REFL, 2 CONG, 3 TRANS, 4 BIND, 5 LET, 6 SKO for exists, 7 SKO for for-all.
 pub record Step : Type 0 where
   pub rule : ℕ
   pub context : ℕ

@@ -135,7 +135,7 @@ pub fn close_application(
     conclude(filed, Rule::Cong.number(), context, term, right, pairs)
 }
 
-// The contexts of a quantifier over x whose result binds y, with the term t: y fixed, then x replaced by t.
+// The contexts of a binder of x whose result binds y, with the term t: y fixed, then x replaced by t.
 fn open_renaming<S: Appends>(
     scratch: &mut S,
     x: usize,
@@ -160,7 +160,7 @@ fn open_renaming<S: Appends>(
     open_replacing(scratch, variables, context, terms)
 }
 
-// The variable of the result of a quantifier over x: x itself where it is kept, and else one more than all there are. A word.
+// The variable of the result of a binder of x: x itself where it is kept, and else one more than all there are. A word.
 fn name_of(filed: &Filed<'_>, kept: bool, x: usize) -> usize
     requires { x ≤ largest_word }
     ensures { (result ≡ name_of kept filed.now x) × (result ≤ largest_word) }
@@ -172,8 +172,8 @@ fn name_of(filed: &Filed<'_>, kept: bool, x: usize) -> usize
     }
 }
 
-// The variable of a quantifier's result, that one's term and the contexts.
-pub fn open_quantifier(filed: &mut Filed<'_>, kept: bool, x: usize, parent: usize) -> Option<Opened>
+// The variable of a binder's result, that one's term and the contexts.
+pub fn open_binder(filed: &mut Filed<'_>, kept: bool, x: usize, parent: usize) -> Option<Opened>
     requires { (x ≤ largest_word) × (parent ≤ largest_word) }
     ensures { BinderOutcome (open_binder kept filed.old x parent) filed.new result }
 {
@@ -183,8 +183,8 @@ pub fn open_quantifier(filed: &mut Filed<'_>, kept: bool, x: usize, parent: usiz
     Some(Opened { context, variable })
 }
 
-// The result of a quantifier's visit, which binds y in the body's result, and BIND, whose premise is the body's step.
-pub fn close_quantifier(
+// The result of a binder's visit, which binds y in the body's result, and BIND, whose premise is the body's step.
+pub fn close_binder(
     filed: &mut Filed<'_>,
     context: usize,
     term: usize,

@@ -1,6 +1,6 @@
 // The program expand: reads a job of up to 65,536 bytes on standard input and writes the expanded file to standard output. With the argument --rename every
-// quantifier gets a new variable; without it names are kept; anything else is answered with a line on how it is called, on standard error. A job that is
-// refused gets one line `refused`, number, record on standard error. Nothing goes to standard output then.
+// quantifier and choice gets a new variable; without it names are kept; anything else is answered with a line on how it is called, on standard error.
+// A job that is refused gets one line `refused`, number, record on standard error. Nothing goes to standard output then.
 #![tactic(auto)]
 
 use bundle::Bundle;

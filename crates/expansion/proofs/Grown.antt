@@ -1,7 +1,7 @@
 -- A visit only appends, whatever it is given.
 --     placed_longer, variable_longer, application_longer, binder_longer, let_longer    placed terms
 --     concluded_longer, replacing_longer, fixing_longer, fresh_longer, named_longer, open_longer     openers and closers
---     listed_longer, fixed_longer, renaming_longer                                     the contexts of a quantifier
+--     listed_longer, fixed_longer, renaming_longer                                     the contexts of a binder
 --     visit_longer, visit_all_longer                                                    the visits
 --     claiming, claiming_longer, expanded_longer                                       the bundle that is written
 use Prim.Native.Nat.{ℕ, zero, suc}

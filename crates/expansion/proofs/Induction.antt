@@ -3,8 +3,8 @@
 --     left_scope, open_scope               so a term that is covered is in scope, and what may be free in a result is mentioned
 --     refl_instance, leaf_visited          a variable
 --     cong_instance, node_visited          an application
---     NamedAs, new_named, kept_named       the variable of a quantifier's result: a new one, or its own
---     binder_opens, binder_covers, bind_instance, binder_visited     a quantifier: its contexts, its step
+--     NamedAs, new_named, kept_named       the variable of a binder's result: a new one, or its own
+--     binder_opens, binder_covers, bind_instance, binder_visited     a binder: its contexts, its step
 --     block_opens, block_covers, let_instance, block_visited         a let
 --     Open, not_open, not_in_let            what may be free in a result: new variables, and kept ones whose binder is being visited
 --     visit_visited, visit_all_visited      THE LAW
@@ -176,10 +176,10 @@ module _ {V₀ : ℕ} {N : ℕ → Type 0} (b : Bundle) (c t f : ℕ) (ns : Node
       (all_map (λ k n. (n.0, omega (arith, n.1, (sizes to_applied).steps))) v.steps (done_steps ih.done))
       cong_instance (λ B later well. not_refl 2 (λ e. omega arith))
 
--- ---- a quantifier: the variable of its result
+-- ---- a binder: the variable of its result
 
--- A quantifier over x has y for its result's variable, and p is the term of y: y is of x's sort, no other variable that has an image, not free in the
--- quantifier, and in no image.
+-- A binder of x has y for its result's variable, and p is the term of y: y is of x's sort, no other variable that has an image, not free in the
+-- binder's term, and in no image.
 pub record NamedAs (b : Bundle) (c x y : ℕ) (p : PlacedTerm) : Type 0 where
   pub longer : Longer b p.bundle
   pub placed : PlacedAs (var y) p
@@ -231,7 +231,7 @@ module _ {V₀ : ℕ} {N : ℕ → Type 0} (b : Bundle) (c x : ℕ) (old : Check
       here : Number (length b.variables) x
       here = (nx.0, omega (arith, nx.1, s.job))
 
--- ---- a quantifier: its contexts
+-- ---- a binder: its contexts
 
 -- what N allows, and y
 abbrev pub And : (ℕ → Type 0) → ℕ → ℕ → Type 0
@@ -335,7 +335,7 @@ module _ {V₀ : ℕ} {N : ℕ → Type 0} (b : Bundle) (c x y : ℕ) (p : Place
   opening_longer : Longer b opening.bundle
   opening_longer = longer_trans name.longer (longer_trans from_term opened)
 
-  -- the body's free variables are the quantifier's, and x
+  -- the body's free variables are the binder's, and x
   pub binder_covers : (q : Binder) (τ : Term) → Covers b c (bind q x τ) → Covers opening.bundle opening.context τ
   binder_covers q τ covers z f =
       let (r, e) = lookup_covers with_list (x ∷ []) (p.term ∷ []) z (image with_list fixed z) y_lists.sorts passed_on in
@@ -352,7 +352,7 @@ module _ {V₀ : ℕ} {N : ℕ → Type 0} (b : Bundle) (c x y : ℕ) (p : Place
                 ∙ image_stays name.longer old.formed c s.here z e),
           )
 
-  -- where x is kept, what is its own image around the quantifier is so in its body, and so is x
+  -- where x is kept, what is its own image around the binder is so in its body, and so is x
   pub body_itself : x ≡ y → (z : ℕ) → ((z ≡ x → ⊥) → image_tree b c z ≡ var z) → image_tree opening.bundle opening.context z ≡ var z
   unfolding image_tree tree_of_image lookup first
   body_itself same z around = ap (λ (i : Image). tree_of_image opening.bundle i z) (binder_opens.images z) ∙ go (eqb x z) refl
@@ -560,7 +560,7 @@ module _ (names : Names) (j : Bundle) where
       go (inr k) = (kept_bound names j z k.kept).unlisted t (subst (ListsAt j t) (sym e) listed.0)
   not_in_let m t (v ∷ vs) numbers listed may z h (inr among) = not_in_let m t vs numbers.1 listed.1 may z h among
 
-  -- the variable of a quantifier's result, by the choice
+  -- the variable of a binder's result, by the choice
   pub named_by : {N : ℕ → Type 0} (kept : Bool) (b : Bundle) (c x : ℕ) → Checked b → Substitutes V₀ N b c → Number V₀ x → (N x → ⊥)
       → NamedAs b c x (name_of kept b x) (named kept b x)
   named_by true b c x old s nx out = kept_named b c x old s nx out

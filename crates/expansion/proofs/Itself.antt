@@ -37,7 +37,7 @@ use Rattle.expansion.proofs.Induction.{V₀, Open, open_lower, not_open, named_b
 use Rattle.expansion.proofs.Derived.{Derived, start_checked, start_substitutes, rule_visited, derived}
 
 module _ (names : Names) (j : Bundle) where
-  -- the variable of a kept quantifier's result is its own
+  -- the variable of a kept binder's result is its own
   own_name : (kept : Bool) (b : Bundle) (x : ℕ) → kept ≡ true → x ≡ name_of kept b x
   own_name true b x e = refl
   own_name false b x e = absurd (let z : ◌≡◌ {A = ℕ} 0 1 = cc in omega arith)

@@ -19,10 +19,10 @@ use Rattle.bundle.specs.Bundle.{Bundle, TermRecord, term_of}
 use Rattle.bundle.specs.Links.{items}
 use Rattle.bundle.specs.Lists.{has}
 use Rattle.logic.specs.Lists.{Among, Number}
-use Rattle.logic.specs.Terms.{Binder, forAll, exists, binder, letting, number_of, kind_of, is_binder}
+use Rattle.logic.specs.Terms.{Binder, Kind, variable, application, binder, letting, number_of, kind_of, is_binder}
 use Rattle.logic.proofs.Exactly.{has_exactly}
 use Rattle.logic.specs.WellFormed.{TermFormed, a_variable, an_application, a_binder, a_let, TablesFormed}
-use Rattle.logic.proofs.TermKinds.{kind_test, binder_kind, is_binder_exactly}
+use Rattle.logic.proofs.TermKinds.{number_kind, kind_test, is_binder_exactly}
 use Rattle.expansion.specs.declared.Names.{Names}
 use Rattle.expansion.specs.declared.Names.TheVariants.{Keep, RenameAll}
 use Rattle.expansion.specs.Names.{binds, lists, binders, listed, keeps, BindsAt, ListsAt, BoundOnce, KeepsExactly}
@@ -181,28 +181,26 @@ kept_bound RenameAll b x e = absurd (false≢true e)
 
 -- ---- only a variable of the job is kept
 
--- a number that is no binder's
-binder_apart : (k : ℕ) → (k ≡ 3 → ⊥) → (k ≡ 4 → ⊥) → (q : Binder) → k ≡ number_of (binder q) → ⊥
-binder_apart k three four forAll e = three e
-binder_apart k three four exists e = four e
-
 module _ (b : Bundle) where
   -- what a well-formed term binds is a variable of the bundle
   binds_number : (t x : ℕ) → TermFormed b t → BindsAt b t x → Number (length b.variables) x
   binds_number t x formed h = go formed
     where
-      -- the number of its kind, where that is another kind's
-      other : {A : Type 0} (k : ℕ) → (term_of b t).kind ≡ k → ((q : Binder) → k ≡ number_of (binder q) → ⊥) → A
-      other k e apart = absurd (apart h.kind.0 (sym e ∙ binder_kind (term_of b t).kind h.kind.0 h.kind.1))
-
       kind_is : {r : TermRecord} → term_of b t ≡ r → (term_of b t).kind ≡ r.kind
       kind_is e = ap (λ (r : TermRecord). r.kind) e
 
+      -- its kind, where that is no binder's
+      other : {A : Type 0} (k : Kind) → (term_of b t).kind ≡ number_of k → (k ≡ binder h.kind.0 → ⊥) → A
+      other k e apart = absurd (apart (sym (ap kind_of e ∙ number_kind k) ∙ h.kind.1))
+
+      clash : ◌≡◌ {A = ℕ} 0 1 → ⊥
+      clash z = omega arith
+
       go : TermFormed b t → Number (length b.variables) x
-      go (a_variable y e n) = other 1 (kind_is e) (binder_apart 1 (λ z. omega arith) (λ z. omega arith))
-      go (an_application f s e known start lows sorts) = other 2 (kind_is e) (binder_apart 2 (λ z. omega arith) (λ z. omega arith))
+      go (a_variable y e n) = other variable (kind_is e) (λ z. clash cc)
+      go (an_application f s e known start lows sorts) = other application (kind_is e) (λ z. clash cc)
       go (a_binder q k y u e kind n low s) = subst (Number (length b.variables)) (sym (ap (λ (r : TermRecord). r.a) e) ∙ h.variable) n
-      go (a_let vs ts u e sv nv st lows low ls) = other 5 (kind_is e) (binder_apart 5 (λ z. omega arith) (λ z. omega arith))
+      go (a_let vs ts u e sv nv st lows low ls) = other letting (kind_is e) (λ z. clash cc)
 
   pub kept_number : TablesFormed b → (names : Names) (x : ℕ) → keeps names b x ≡ true → Number (length b.variables) x
   kept_number formed names x h =

@@ -1,4 +1,4 @@
--- Worked examples of Req 06, computed from the bytes.
+-- Worked examples of Req 06 and Req 07, computed from the bytes.
 --     names_right   THE THEOREM
 use mathlib.Core.Path.{refl}
 use Rattle.bundle.specs.Words.{encode}
@@ -25,4 +25,8 @@ names_right = record {
   unreached_let_renamed = refl;
   shared_kept = refl;
   shared_renamed = refl;
+  choice_below_let_kept = refl;
+  choice_below_let_renamed = refl;
+  choice_once_kept = refl;
+  choice_once_renamed = refl;
 }

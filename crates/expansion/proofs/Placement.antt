@@ -21,7 +21,7 @@ use Rattle.bundle.specs.Lists.{same_list}
 use Rattle.logic.specs.declared.Signature.TheVariants.{Unknown}
 use Rattle.logic.specs.Lists.{All, Number}
 use Rattle.logic.specs.Symbols.{truth_sort, signature_of, argument_sorts}
-use Rattle.logic.specs.Terms.{Binder, forAll, exists, Term, var, app, bind, let_in, more, Kind, variable, application, binder, letting, other, kind_of}
+use Rattle.logic.specs.Terms.{Binder, Term, var, app, bind, let_in, more, Kind, variable, application, binder, letting, other, kind_of}
 use Rattle.logic.specs.Terms.{gather, tree}
 use Rattle.logic.specs.Terms.{number_of}
 use Rattle.logic.specs.WellFormed.{sort_of_term, ListsFormed, TermFormed, a_variable, an_application, a_binder, a_let, number, list, Fields, fields_as, fields_of}
@@ -170,8 +170,7 @@ module _ (b : Bundle) where
 
   binder_fields : (q : Binder) (x : TermRecord) → x.kind ≡ number_of (binder q) → fields_of b x ≡ plain_fields x
   unfolding fields_of
-  binder_fields forAll x e = ap (λ (n : ℕ). fields_as b (kind_of n) x) e
-  binder_fields exists x e = ap (λ (n : ℕ). fields_as b (kind_of n) x) e
+  binder_fields q x e = ap (λ (n : ℕ). fields_as b (kind_of n) x) e ∙ ap (λ (k : Kind). fields_as b k x) (number_kind (binder q))
 
   application_fields : (x : TermRecord) → x.kind ≡ 2
       → fields_of b x ≡ record { kind = x.kind; first = number x.a; second = list (items b x.b); third = number x.c }

@@ -5,7 +5,7 @@
 --     SmallNode, node_small            the numbers of a node; of the node of a term
 -- Where the last bundle, which is longer than all in between, is within the limits:
 --     list_small, start_small, placed_small, variable_small, concluded_small, replacing_small, fixing_small     openers and closers
---     new_small, fresh_small, name_small, named_small, open_small     those of a quantifier
+--     new_small, fresh_small, name_small, named_small, open_small     those of a binder
 --     visit_small, visit_all_small      the visits
 --     expanded_small                   THE LAW: the bundle that is written
 use Prim.Native.Nat.{ℕ, zero, suc, ◌+◌, ◌*◌, ◌-◌, ◌^◌, ◌≤◌, ◌<◌}
@@ -25,7 +25,7 @@ use Rattle.logic.specs.declared.Image.{Image}
 use Rattle.logic.specs.declared.Image.TheVariants.{Own, Gives}
 use Rattle.logic.specs.declared.Mention.{Mention}
 use Rattle.logic.specs.declared.Mention.TheVariants.{Fixed, Replaced, Absent}
-use Rattle.logic.specs.Terms.{Binder, forAll, exists, Kind, kind_of, variable, application, binder, letting, other, number_of}
+use Rattle.logic.specs.Terms.{Binder, forAll, exists, choice, Kind, kind_of, variable, application, binder, letting, other, number_of}
 use Rattle.logic.specs.Contexts.{Entry, fixing as isFixing, replacing as isReplacing, noEntry, entry_of, lookup, mention_as, mention, first, image_by, own_image}
 use Rattle.logic.specs.Contexts.{image}
 use Rattle.logic.specs.Longer.{Longer, with_variables, with_terms, with_links, with_contexts, with_steps, start_of, consecutive, add_list, list_start}
@@ -257,6 +257,7 @@ pub record SmallVisits (v : Visits) : Type 0 where
 pub binder_word : (q : Binder) → Word (number_of (binder q))
 binder_word forAll = omega arith
 binder_word exists = omega arith
+binder_word choice = omega arith
 
 -- `end` is the last bundle, and within the limits.
 module _ {end : Bundle} (fit : Within (own_counts end)) where

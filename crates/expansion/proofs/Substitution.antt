@@ -1,5 +1,5 @@
 -- Contexts of the visits, and the results that they put in for variables. V₀ is the number of the job's variables; those past it are new. N x says
--- that x may be free in a result: nothing at the start, and in a quantifier's body the variable that its result binds too.
+-- that x may be free in a result: nothing at the start, and in a binder's body the variable that its result binds too.
 --     Result, result_kept                  a result holds no let, and only variables that N allows are free in it
 --     Substitutes, substitutes_kept        the invariant of a context: images are results; what may be free in a result is mentioned, and its own
 --                                          image; new variables are never replaced

@@ -72,7 +72,7 @@ rows =
     ∷ refused (encode repeated) 20 8 5
     -- 11. The writer on let x≃a in p(x,x) with four terms, with areas of the least lengths: a file of 356 bytes, zeros after them, scratch ends zero;
     ∷ expand Keep (encode job) 58916 14729 4096 (Written 356) (encode file ++ replicate 58560 0) (replicate 14729 0) (replicate 4096 0)
-    -- the same where all names are to be new: no quantifier is here.
+    -- the same where all names are to be new: no binder is here.
     ∷ expand RenameAll (encode job) 58916 14729 4096 (Written 356) (encode file ++ replicate 58560 0) (replicate 14729 0) (replicate 4096 0)
     -- That file is accepted; right is term 5.
     ∷ accepted (encode file) 20 4 5 (firsts (1 ∷ 0 ∷ 1 ∷ 0 ∷ 0 ∷ []))

@@ -31,7 +31,7 @@ unfolding has items
 listed b zero x = false
 listed b (suc n) x = lists b (term_of b (suc n)) x || listed b n x
 
--- A quantifier's variable x is kept where exactly one term record of the job binds it and no let lists it: of all T records, also those that the rule
+-- A binder's variable x is kept where exactly one term record of the job binds it and no let lists it: of all T records, also those that the rule
 -- does not reach. Where all are renamed, none is kept.
 unfoldable pub keeps : Names → Bundle → ℕ → Bool
 unfolding binders listed
@@ -40,7 +40,7 @@ keeps RenameAll b x = false
 
 -- ---- the same in propositions
 
--- term t binds x: its record is a binder's, of either kind, and x is its variable
+-- term t binds x: its record is a binder's, of any kind, and x is its variable
 pub record BindsAt (b : Bundle) (t x : ℕ) : Type 0 where
   pub is_term : Number (length b.terms) t
   pub kind : (q : Binder) × (kind_of (term_of b t).kind ≡ binder q)

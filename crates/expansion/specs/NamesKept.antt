@@ -1,5 +1,5 @@
 -- What keeping names comes to: a rule without lets all of whose bound variables are kept is its own expansion.
---     NamesKept        a term holds no let, and each quantifier in it has a kept variable
+--     NamesKept        a term holds no let, and each binder in it has a kept variable
 --     KeptIsItself     THE STATEMENT; proofs/ has it under the name `kept_is_itself`
 use Rattle.std.specs.Prelude.{◌≡◌, true, [], length}
 use Rattle.bundle.specs.Bundle.{Bundle}

@@ -61,7 +61,7 @@ close_application c t f v =
     let p : PlacedTerm = place_application v.bundle f v.results in
     concluded p.bundle 2 c t p.term v.steps
 
--- ---- Quantifier: the variable of its result, that one's term, fixing context, replacing context, body, result, BIND.
+-- ---- Binder (a quantifier or a choice): the variable of its result, that one's term, fixing context, replacing context, body, result, BIND.
 
 -- the new variable is one more than all there are
 abbrev pub new_variable : Bundle → ℕ
@@ -71,7 +71,7 @@ new_variable b = suc (length b.variables)
 abbrev pub fresh : Bundle → ℕ → PlacedTerm
 fresh b x = place_variable (with_variables b (sort_of_variable b x ∷ [])) (new_variable b)
 
--- A quantifier over x has for its result's variable x itself where that is kept, and else a new one of the same sort; and that one's term, which for x is
+-- A binder of x has for its result's variable x itself where that is kept, and else a new one of the same sort; and that one's term, which for x is
 -- looked up first.
 abbrev pub name_of : (kept : Bool) → Bundle → ℕ → ℕ
 name_of true b x = x

@@ -1,7 +1,7 @@
 -- Terms filed by their digests, and the walk down the chain of a digest.
 --     variable_digest, application_digest, binder_digest, let_digest_lem     whatever is looked up has the digest that it is looked up by
 --     plain_digest                           the digest of a term with no list, by its kind
---     binder_kind                            the number of a binder
+--     binder_kind                            the number of a binder is of no kind that has lists
 --     plain_digested, application_digested, let_digested, formed_digested     digests that stay where the bundle grows: of a term with no list,
 --                                                  of an application or a let whose lists were just appended, of a term of well-formed tables
 --     filed_none, filed_on, term_indexed           nothing is filed at first; then one term more is; the index after a term was appended and filed
@@ -27,10 +27,11 @@ use Rattle.bundle.proofs.LinkNotes.{zeros}
 use Rattle.bundle.specs.Filed.{digests, mix, Filed}
 use Rattle.bundle.proofs.Filed.{mix_small, Sought, sought_lowest}
 use Rattle.bundle.proofs.Filed.{filed_none as none-filed, filed_on as on-filed}
-use Rattle.logic.specs.Terms.{Binder, forAll, exists, Kind, application, binder, letting, number_of, kind_of}
+use Rattle.logic.specs.Terms.{Binder, Kind, application, binder, letting, number_of, kind_of}
 use Rattle.logic.specs.WellFormed.{TablesFormed}
 use Rattle.logic.specs.Lookup.{seek, same_variable, same_application, same_binder, same_let}
 use Rattle.logic.specs.Longer.{Longer, with_terms, add_list, list_start}
+use Rattle.logic.proofs.TermKinds.{number_kind}
 use Rattle.logic.proofs.Tests.{and_left, and_right, same_list_lem}
 use Rattle.logic.proofs.Longer.{longer_refl, longer_trans, list_longer, list_added, terms_longer, term_added}
 use Rattle.logic.proofs.Kept.{term_kept, arguments_kept, let_lists_kept}
@@ -79,16 +80,19 @@ application_digest b f ts r e =
     let q = both (eqb r.a f) (same_list (items b r.b) ts) p.1 in
     rw (eqb-true r.kind 2 p.0, eqb-true r.a f q.0, same_list_lem (items b r.b) ts q.1)
 
-pub binder_kind : (q : Binder) → (3 ≤ number_of (binder q)) × (number_of (binder q) ≤ 4)
-binder_kind forAll = (omega arith, omega arith)
-binder_kind exists = (omega arith, omega arith)
+pub binder_kind : (q : Binder) → (number_of (binder q) ≡ 2 → ⊥) × (number_of (binder q) ≡ 5 → ⊥)
+unfolding kind_of
+binder_kind q = (λ e. clash (let k = sym (ap kind_of e) ∙ number_kind (binder q) in cc), λ e. clash (let k = sym (ap kind_of e) ∙ number_kind (binder q) in cc))
+  where
+    clash : ◌≡◌ {A = ℕ} 0 1 → ⊥
+    clash z = omega arith
 
 pub binder_digest : (b : Bundle) (q : Binder) (y t : ℕ) (r : TermRecord) → same_binder q y t r ≡ true → lookup_digest b r ≡ root_digest (number_of (binder q)) y
 unfolding same_binder
 binder_digest b q y t r e =
     let p = both (eqb r.kind (number_of (binder q))) (eqb r.a y && eqb r.b t) e in
     let k : r.kind ≡ number_of (binder q) = eqb-true _ _ p.0 in
-    plain b r (λ z. omega (arith, k, z, (binder_kind q).0)) (λ z. omega (arith, k, z, (binder_kind q).1))
+    plain b r (λ z. (binder_kind q).0 (sym k ∙ z)) (λ z. (binder_kind q).1 (sym k ∙ z))
     ∙ ap₂ root_digest k (eqb-true _ _ (both (eqb r.a y) (eqb r.b t) p.1).0)
 
 pub let_digest_lem : (b : Bundle) (vs ts : List ℕ) (t : ℕ) (r : TermRecord) → same_let b vs ts t r ≡ true → lookup_digest b r ≡ let_digest vs ts t

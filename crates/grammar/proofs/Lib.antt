@@ -8,6 +8,7 @@
 --     NamesExact    THE THEOREMS of 19 and 20 together
 --     NamesPlaced   where the names stand: whole, before the byte of 19, with the kind due
 --     Erased        THE THEOREM: the parser that keeps no formula gives the same verdict
+--     Quantifiers   each binder of a formula that a text spells is a quantifier
 --     Examples      the examples
 pub mod Machine
 pub mod Words
@@ -18,4 +19,5 @@ pub mod NamesMet
 pub mod NamesExact
 pub mod NamesPlaced
 pub mod Erased
+pub mod Quantifiers
 pub mod Examples

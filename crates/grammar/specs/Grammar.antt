@@ -27,7 +27,7 @@ mutual
     connects : Connective → Formula → Formula → Bracketed
     -- f33 φ ..: one argument or more
     applies : List ℕ → Formula → Formulas → Bracketed
-    -- forall ((v1 Bool) ..) φ: one variable or more; so exists
+    -- forall ((v1 Bool) ..) φ: one variable or more; so exists. No text spells a choice: proofs/Quantifiers.
     quantifies : Binder → SortedVariable → List SortedVariable → Formula → Bracketed
     -- let ((v1 φ) ..) ψ: one variable or more
     lets : List ℕ → Formula → Bindings → Formula → Bracketed

@@ -5,7 +5,8 @@
 --     formed_context                     in a well-formed bundle a context of a kind other than 0 is well formed,
 --     parent_lower, same_sorts           so its parent is lower; its terms have the sorts of its variables
 --     fixed_tree, replaced_tree, replaced_sorts     so these equations hold of what the rules' Fixes and Replaces say
-use mathlib.Core.Path.{◌≡◌, refl, sym, ap, ap₂, ◌∙◌}
+--     replaced_settled                   and the terms of what Replaces says are settled in the parent: check 11
+use mathlib.Core.Path.{◌≡◌, refl, sym, ap, ap₂, ◌∙◌, subst}
 use Prim.Native.Nat.{ℕ, ◌<◌}
 use native.Mathlib.Omega.{arith}
 use mathlib.Core.Bool.{Bool, true, false, cond}
@@ -17,13 +18,13 @@ use Rattle.bundle.specs.Links.{items}
 use Rattle.logic.specs.declared.Mention.TheVariants.{Fixed, Replaced, Absent}
 use Rattle.logic.specs.declared.Image.{Image}
 use Rattle.logic.specs.declared.Image.TheVariants.{Own}
-use Rattle.logic.specs.Lists.{Number}
+use Rattle.logic.specs.Lists.{All, Number}
 use Rattle.logic.specs.Table.{table}
 use Rattle.logic.specs.Terms.{Term, Terms, var, none, more, gather, tree}
 use Rattle.logic.specs.Sorts.{sort}
-use Rattle.logic.specs.Contexts.{entry_of, lookup, mention_as, mention, first, image_by, own_image, image, tree_of_image, image_tree}
+use Rattle.logic.specs.Contexts.{entry_of, lookup, mention_as, mention, first, image_by, own_image, image, tree_of_image, image_tree, Settled}
 use Rattle.logic.specs.WellFormed.{sort_of_term, ContextFormed, fixes, replaces, WellFormed}
-use Rattle.logic.specs.Instance.{Fixes, Replaces}
+use Rattle.logic.specs.Instance.{Fixes, Replaces, AllSettled}
 use Rattle.logic.proofs.Tables.{table_step, everywhere}
 
 -- The tree that the lists of a replacing context give for x, f x where they do not mention it.
@@ -86,7 +87,7 @@ module _ (b : Bundle) where
       go true = refl
       go false = refl
 
-  lookup_given : (vs ts : List ℕ) (f : ℕ → Image) (x : ℕ)
+  pub lookup_given : (vs ts : List ℕ) (f : ℕ → Image) (x : ℕ)
       → tree_of_image b (first (lookup vs ts x) (f x)) x ≡ given vs (gather (tree b) ts) (λ y. tree_of_image b (f y) y) x
   unfolding lookup first tree_of_image given gather
   lookup_given [] ts f x = refl
@@ -132,6 +133,17 @@ module _ (b : Bundle) where
   same_sorts (fixes x p e n l) k = absurd (let one : 1 ≡ 2 = ap (λ (r : Context). r.kind) (sym e) ∙ k in omega arith)
   same_sorts (replaces vs ts p e i vars j terms ls l s) k = rw e (ls.sorts ∙ sorts_gather (items b ts))
 
+  -- and are settled in its parent: check 11
+  settled_terms : {c : ℕ} → ContextFormed b c → (context_of b c).kind ≡ 2
+      → AllSettled b (context_of b c).parent (gather (tree b) (items b (context_of b c).b))
+  unfolding gather
+  settled_terms (fixes x p e n l) k = absurd (let one : 1 ≡ 2 = ap (λ (r : Context). r.kind) (sym e) ∙ k in omega arith)
+  settled_terms (replaces vs ts p e i vars j terms ls l s) k = rw e (gathered (items b ts) s)
+    where
+      gathered : (ts : List ℕ) → All (λ t. Settled b p (tree b t)) ts → AllSettled b p (gather (tree b) ts)
+      gathered [] h = tt
+      gathered (t ∷ ts) h = (h.0, gathered ts h.1)
+
   -- ---- the same, of what the rules say of a context
 
   module _ (wf : WellFormed b) where
@@ -151,3 +163,7 @@ module _ (b : Bundle) where
         sym (ap (map (sort_of_variable b)) r.variables)
         ∙ same_sorts (formed_context wf Δ (λ e. omega (arith, r.kind))) r.kind
         ∙ ap (sorts_of b) r.terms
+
+    pub replaced_settled : {Δ Γ : ℕ} {xs : List ℕ} {ts : Terms} → Replaces b Δ xs ts Γ → AllSettled b Γ ts
+    replaced_settled {Δ} {Γ} r =
+        subst (AllSettled b Γ) r.terms (rw r.parent at (settled_terms (formed_context wf Δ (λ e. omega (arith, r.kind))) r.kind))

@@ -32,14 +32,18 @@
 --     CongWalk         THE THEOREMS: CONG's test reads at most, and where it passes exactly, the links of its three lists
 --     LetSide          THE THEOREM: LET's printed side holds of every instance in a well-formed bundle
 --     Values           laws of values: domains, quantifiers, valuations; a value depends on the free variables only
+--     Picks            sets of values as lists; THE THEOREM: there are picks for every size
 --     ReplacementSound THE THEOREM: a term seen through a context has the value of its capture-avoiding replacement
+--     Symbols          the symbol table: declared symbols have records, and stay where more are declared
+--     ValueSorts       THE THEOREM: values keep sorts
+--     ImageSorts       THE THEOREM: what is seen through a context of a well-formed bundle is a valuation
 --     Sound            THE THEOREMS: where every step holds, both sides of a step in context 0 have equal values in every world
+--     Records          records from their fields, for bundles that are written out
 --     CounterExample   document 01's counter-example: with BIND's printed condition alone a step leads from false to true
 --     EntryFacts       what a context that passes check 10 is, by its kind
 --     Walked           the image of a variable on the walk towards the empty context
---     Symbols          the symbol table: declared symbols have records, and stay where more are declared
---     ValueSorts       THE THEOREM: values keep sorts
 --     Meanings         THE MEANINGS: the sentences of document 01 of values; worlds of every size and valuations exist
+--     UnsettledChoice  THE THEOREM: without check 11 soundness fails, by a choice that is not settled
 --     Longer           longer bundles: records and lists appended
 --     Kept             what old numbers of a well-formed bundle stand for in a longer one
 --     FormedKept       old records of a well-formed bundle are well formed in a longer one
@@ -49,6 +53,7 @@
 --     WalkBound        THE THEOREMS: what a walk can cost
 --     ReplacementRules replacements from replacements of parts, as CONG and BIND have them
 --     ReflExamples     examples of whole-term REFL, by computation
+--     SkolemExample    both SKO rules on a bundle, by computation
 pub mod Tables
 pub mod Firsts
 pub mod Tests
@@ -82,14 +87,18 @@ pub mod Pairs
 pub mod CongWalk
 pub mod LetSide
 pub mod Values
+pub mod Picks
 pub mod ReplacementSound
+pub mod Symbols
+pub mod ValueSorts
+pub mod ImageSorts
 pub mod Sound
+pub mod Records
 pub mod CounterExample
 pub mod EntryFacts
 pub mod Walked
-pub mod Symbols
-pub mod ValueSorts
 pub mod Meanings
+pub mod UnsettledChoice
 pub mod Longer
 pub mod Kept
 pub mod FormedKept
@@ -99,3 +108,4 @@ pub mod NextStep
 pub mod WalkBound
 pub mod ReplacementRules
 pub mod ReflExamples
+pub mod SkolemExample

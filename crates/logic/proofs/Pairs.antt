@@ -21,13 +21,14 @@ use Rattle.bundle.specs.Bundle.{Bundle, Step, step_of}
 use Rattle.logic.specs.Terms.{tree}
 use Rattle.logic.specs.Free.{free_at}
 use Rattle.logic.specs.Contexts.{image}
-use Rattle.logic.specs.Rules.{Rule, REFL, CONG, TRANS, BIND, LET, noRule, rule_of, refl_holds, refl_suffices, suffices_as, suffices, matches, sides}
-use Rattle.logic.specs.Rules.{step_refers, scoped, step_tests, step_fault, steps_fault, walked, walked_pairs, last_pairs}
+use Rattle.logic.specs.Rules.{Rule, REFL, CONG, TRANS, BIND, LET, SKO_EXISTS, SKO_FOR_ALL, noRule, rule_of, refl_holds, refl_suffices, suffices_as}
+use Rattle.logic.specs.Rules.{suffices, matches, sides, step_refers, scoped, step_tests, step_fault, steps_fault, walked, walked_pairs, last_pairs}
 use Rattle.logic.specs.ReflWalk.{refl_walk, pair_limit}
 use Rattle.logic.specs.Instance.{ReflForm}
 use Rattle.logic.specs.Statements.{Spent, SpentExactly, WalkedExactly, LastWalked, no_walk, last_walk, LastPairs, LastPairsAtMost}
 use Rattle.logic.proofs.Tests.{and_left, and_right, failing_none}
 use Rattle.logic.proofs.Firsts.{none_bad}
+use Rattle.logic.proofs.RuleNumbers.{number_of_rule}
 use Rattle.logic.proofs.ReflWalk.{walk_some}
 use Rattle.logic.proofs.ReflStep.{form_exactly}
 use Rattle.logic.proofs.Instances.{refers_exactly}
@@ -40,22 +41,12 @@ unfolding rule_of
 rule_refl r e = rw e
 
 pub refl_rule : (r : ℕ) → rule_of r ≡ REFL → r ≡ 1
-unfolding rule_of
-refl_rule r e = go (eqb r 1) refl (eqb r 2) (eqb r 3) (eqb r 4) (eqb r 5) e
-  where
-    go : (p : Bool) → eqb r 1 ≡ p → (q t u v : Bool)
-        → cond p REFL (cond q CONG (cond t TRANS (cond u BIND (cond v LET noRule)))) ≡ REFL → r ≡ 1
-    go true is q t u v h = eqb-true r 1 is
-    go false is true t u v h = cc
-    go false is false true u v h = cc
-    go false is false false true v h = cc
-    go false is false false false true h = cc
-    go false is false false false false h = cc
+refl_rule r e = number_of_rule r REFL e (λ o. let z : ◌≡◌ {A = ℕ} 0 1 = cc in omega arith)
 
 -- only a REFL is spent, and only where no form takes it and the walk visits more
 suffices_false : (b : Bundle) (s : Step) (r : ℕ) → suffices_as b (rule_of r) s ≡ false → (r ≡ 1) × (refl_holds b s ≡ false) × (pair_limit < (refl_walk b s).pairs)
-unfolding rule_of suffices_as refl_suffices
-suffices_false b s r e = go (eqb r 1) refl (eqb r 2) (eqb r 3) (eqb r 4) (eqb r 5) e
+unfolding suffices_as refl_suffices
+suffices_false b s r e = go (rule_of r) refl e
   where
     walk_over : (p : Bool) → (p || leb (refl_walk b s).pairs pair_limit) ≡ false → Dec ((refl_walk b s).pairs ≤ pair_limit)
         → (p ≡ false) × (pair_limit < (refl_walk b s).pairs)
@@ -63,16 +54,16 @@ suffices_false b s r e = go (eqb r 1) refl (eqb r 2) (eqb r 3) (eqb r 4) (eqb r 
     walk_over false h (yes le) = absurd (false≢true (sym h ∙ le-leb (refl_walk b s).pairs pair_limit le))
     walk_over false h (no over) = (refl, omega arith)
 
-    go : (p : Bool) → eqb r 1 ≡ p → (q t u v : Bool)
-        → suffices_as b (cond p REFL (cond q CONG (cond t TRANS (cond u BIND (cond v LET noRule))))) s ≡ false
-        → (r ≡ 1) × (refl_holds b s ≡ false) × (pair_limit < (refl_walk b s).pairs)
-    go true is q t u v h =
-        let (no_form, over) = walk_over (refl_holds b s) h (dec_le (refl_walk b s).pairs pair_limit) in (eqb-true r 1 is, no_form, over)
-    go false is true t u v h = absurd (false≢true (sym h))
-    go false is false true u v h = absurd (false≢true (sym h))
-    go false is false false true v h = absurd (false≢true (sym h))
-    go false is false false false true h = absurd (false≢true (sym h))
-    go false is false false false false h = absurd (false≢true (sym h))
+    go : (k : Rule) → rule_of r ≡ k → suffices_as b k s ≡ false → (r ≡ 1) × (refl_holds b s ≡ false) × (pair_limit < (refl_walk b s).pairs)
+    go REFL is h =
+        let (no_form, over) = walk_over (refl_holds b s) h (dec_le (refl_walk b s).pairs pair_limit) in (refl_rule r is, no_form, over)
+    go CONG is h = absurd (false≢true (sym h))
+    go TRANS is h = absurd (false≢true (sym h))
+    go BIND is h = absurd (false≢true (sym h))
+    go LET is h = absurd (false≢true (sym h))
+    go SKO_EXISTS is h = absurd (false≢true (sym h))
+    go SKO_FOR_ALL is h = absurd (false≢true (sym h))
+    go noRule is h = absurd (false≢true (sym h))
 
 false_suffices : (b : Bundle) (s : Step) (r : ℕ) → r ≡ 1 → refl_holds b s ≡ false → pair_limit < (refl_walk b s).pairs → suffices_as b (rule_of r) s ≡ false
 unfolding suffices_as refl_suffices

@@ -5,24 +5,13 @@ use mathlib.Core.Path.{◌≡◌, refl}
 use Prim.Native.Nat.{ℕ}
 use mathlib.Core.Bool.{true, false}
 use mathlib.Core.List.{[], ◌∷◌}
-use Rattle.bundle.specs.Bundle.{Symbol, Link, TermRecord, Context, Bundle}
+use Rattle.bundle.specs.Bundle.{Bundle}
 use Rattle.logic.specs.Checks.{sections_fault}
 use Rattle.logic.specs.Contexts.{image, contexts_fault}
 use Rattle.logic.specs.declared.Limited.TheVariants.{Same, Spent}
 use Rattle.logic.specs.Free.{free_at}
 use Rattle.logic.specs.ReflWalk.{PairWalk, pair_walk_by, pair_walk, within_by, pair_limit}
-
-abbrev symbol : ℕ → ℕ → Symbol
-symbol r ss = record { result = r; sorts = ss }
-
-abbrev link : ℕ → ℕ → Link
-link u n = record { value = u; next = n }
-
-abbrev term : ℕ → ℕ → ℕ → ℕ → TermRecord
-term k a b c = record { kind = k; a = a; b = b; c = c }
-
-abbrev context : ℕ → ℕ → ℕ → ℕ → Context
-context k a b c = record { kind = k; a = a; b = b; parent = c }
+use Rattle.logic.proofs.Records.{symbol, link, term, context}
 
 -- a context, a left and a right side, and what their walk is
 abbrev walked : Bundle → ℕ → ℕ → ℕ → PairWalk

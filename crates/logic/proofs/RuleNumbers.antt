@@ -1,27 +1,22 @@
 -- Rules and their numbers.
 --     number_of_rule      the number that stands for a rule
-use mathlib.Core.Path.{◌≡◌, sym, ap, ◌∙◌}
-use native.Mathlib.Omega.{arith}
-use Prim.Native.Nat.{ℕ, zero, suc}
-use borrow.Author.Tests.{ne_eqb}
-use Rattle.logic.specs.Rules.{Rule, noRule, rule_number, rule_of}
+use mathlib.Core.Path.{◌≡◌, refl, sym, ap, ◌∙◌}
+use mathlib.Core.Bool.{Bool, true, false, cond}
+use Prim.Native.Nat.{ℕ}
+use lib.Dec.{eqb}
+use borrow.Author.Tests.{eqb-true}
+use Rattle.logic.specs.Rules.{Rule, REFL, CONG, TRANS, BIND, LET, SKO_EXISTS, SKO_FOR_ALL, noRule, rule_number, rule_of}
 
-pub number_of_rule : (n : ℕ) (r : Rule) → rule_of n ≡ r → (r ≡ noRule → ⊥) → n ≡ rule_number r
-unfolding rule_of
-number_of_rule zero r e some = absurd (some (sym e))
-number_of_rule (suc zero) r e some = ap rule_number e
-number_of_rule (suc (suc zero)) r e some = ap rule_number e
-number_of_rule (suc (suc (suc zero))) r e some = ap rule_number e
-number_of_rule (suc (suc (suc (suc zero)))) r e some = ap rule_number e
-number_of_rule (suc (suc (suc (suc (suc zero))))) r e some = ap rule_number e
-number_of_rule (suc (suc (suc (suc (suc (suc n)))))) r e some =
-    let m = suc (suc (suc (suc (suc (suc n))))) in
-    let none : rule_of m ≡ noRule =
-    rw (
-      ne_eqb m 1 (λ z. omega arith),
-      ne_eqb m 2 (λ z. omega arith),
-      ne_eqb m 3 (λ z. omega arith),
-      ne_eqb m 4 (λ z. omega arith),
-      ne_eqb m 5 (λ z. omega arith),
-    ) in
-    absurd (some (sym e ∙ none))
+module _ (n : ℕ) (r : Rule) where
+  -- n is the number of the rule ρ, or else that of r
+  next : (ρ : Rule) {rest : Rule} → (rest ≡ r → n ≡ rule_number r) → cond (eqb n (rule_number ρ)) ρ rest ≡ r → n ≡ rule_number r
+  next ρ {rest} later = go (eqb n (rule_number ρ)) refl
+    where
+      go : (p : Bool) → eqb n (rule_number ρ) ≡ p → cond p ρ rest ≡ r → n ≡ rule_number r
+      go true is e = eqb-true n (rule_number ρ) is ∙ ap rule_number e
+      go false is e = later e
+
+  pub number_of_rule : rule_of n ≡ r → (r ≡ noRule → ⊥) → n ≡ rule_number r
+  unfolding rule_of
+  number_of_rule e some =
+      next REFL (next CONG (next TRANS (next BIND (next LET (next SKO_EXISTS (next SKO_FOR_ALL (λ none. absurd (some (sym none))))))))) e

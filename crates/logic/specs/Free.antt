@@ -9,7 +9,7 @@ use Rattle.logic.specs.Lists.{Among}
 use Rattle.logic.specs.Table.{table}
 use Rattle.logic.specs.Terms.{Term, Terms, Kind, kind_of, var, app, bind, let_in, none, more, variable, application, binder, letting, other}
 
--- The free variables of a variable term are its variable; of an application, those of its arguments; of a quantifier, those of its body but
+-- The free variables of a variable term are its variable; of an application, those of its arguments; of a binder, those of its body but
 -- its own variable; of a let, those of its bound terms, and those of its body but the let's own.
 unfoldable mutual
   unfolding has

@@ -4,12 +4,13 @@ use Rattle.std.specs.Prelude.{ℕ, ◌≤◌, ◌≡◌, ◌⊎◌, List, [], �
 use Rattle.bundle.specs.Bundle.{Bundle, Step, context_of, step_of}
 use Rattle.bundle.specs.Links.{items}
 use Rattle.logic.specs.Lists.{All, Number}
-use Rattle.logic.specs.Terms.{Binder, Term, Terms, var, app, bind, let_in, none, more, gather, tree}
+use Rattle.logic.specs.Symbols.{not_symbol}
+use Rattle.logic.specs.Terms.{Binder, forAll, exists, choice, Term, Terms, var, app, bind, let_in, none, more, gather, tree}
 use Rattle.logic.specs.Free.{Free}
 use Rattle.logic.specs.Contexts.{image_tree, Settled, InScope}
 use Rattle.logic.specs.Replacement.{Replacement}
 use Rattle.logic.specs.ReflWalk.{refl_walk, pair_limit}
-use Rattle.logic.specs.Rules.{Rule, REFL, CONG, TRANS, BIND, LET, rule_of}
+use Rattle.logic.specs.Rules.{Rule, REFL, CONG, TRANS, BIND, LET, SKO_EXISTS, SKO_FOR_ALL, rule_of}
 use Rattle.logic.specs.WellFormed.{StartsList, Lower}
 
 -- step p says: in context Γ, l is r
@@ -40,6 +41,10 @@ pub record Replaces (b : Bundle) (Δ : ℕ) (xs : List ℕ) (ts : Terms) (Γ : �
   pub terms : gather (tree b) (items b (context_of b Δ).b) ≡ ts
   pub parent : (context_of b Δ).parent ≡ Γ
 
+-- not(φ)
+abbrev pub negated : Term → Term
+negated φ = app not_symbol (more φ none)
+
 -- In context Γ, left is right, by a rule from premises.
 pub data Instance (b : Bundle) (rule : Rule) (Γ : ℕ) (left right : Term) (premises : List ℕ) : Type 0 where
   -- REFL: right is the capture-avoiding replacement of left, each free variable by its image, up to the names of binders inside left (Req 04).
@@ -51,7 +56,7 @@ pub data Instance (b : Bundle) (rule : Rule) (Γ : ℕ) (left right : Term) (pre
   -- TRANS: left to middle, middle to right, same context; the middle is settled.
   by_trans : rule ≡ TRANS → (p q : ℕ) (middle : Term) → premises ≡ p ∷ q ∷ [] → Says b p Γ left middle → Says b q Γ middle right
       → Settled b Γ middle → Instance b rule Γ left right premises
-  -- BIND, from Qx.φ to Qy.ψ, same quantifier: the premise is φ to ψ in a context that replaces x alone by y, whose parent fixes y, whose
+  -- BIND, from Qx.φ to Qy.ψ, same binder: the premise is φ to ψ in a context that replaces x alone by y, whose parent fixes y, whose
   -- parent is the step's context. Sides: y is not free in Qx.φ, and y is not free in the image, in the step's context, of any free variable
   -- of Qx.φ.
   by_bind : rule ≡ BIND → (Q : Binder) (x y : ℕ) (φ ψ : Term) (p Δ Θ : ℕ) → left ≡ bind Q x φ → right ≡ bind Q y ψ → premises ≡ p ∷ []
@@ -61,6 +66,13 @@ pub data Instance (b : Bundle) (rule : Rule) (Γ : ℕ) (left right : Term) (pre
   -- replaces the let's variables by those s, in order, with the step's context as parent.
   by_let : rule ≡ LET → (xs : List ℕ) (rs ss : Terms) (t : Term) (ps : List ℕ) (p Δ : ℕ) → left ≡ let_in xs rs t → premises ≡ ps ++ (p ∷ [])
       → SayAll b Γ rs ss ps → Says b p Δ t right → Replaces b Δ xs ss Γ → Instance b rule Γ left right premises
+  -- SKO∃, from ∃x.φ: the premise is φ to the right side in a context that replaces x alone by εx.φ, with the step's context as parent. (In every
+  -- replacing context the terms are settled in the parent: check 11.)
+  by_sko_exists : rule ≡ SKO_EXISTS → (x : ℕ) (φ : Term) (p Δ : ℕ) → left ≡ bind exists x φ → premises ≡ p ∷ [] → Says b p Δ φ right
+      → Replaces b Δ (x ∷ []) (more (bind choice x φ) none) Γ → Instance b rule Γ left right premises
+  -- SKO∀, from ∀x.φ: the same with εx.not(φ).
+  by_sko_for_all : rule ≡ SKO_FOR_ALL → (x : ℕ) (φ : Term) (p Δ : ℕ) → left ≡ bind forAll x φ → premises ≡ p ∷ [] → Says b p Δ φ right
+      → Replaces b Δ (x ∷ []) (more (bind choice x (negated φ)) none) Γ → Instance b rule Γ left right premises
 
 -- each of the terms is settled in context Γ: the paper's Γ(s) = s
 abbrev pub AllSettled : Bundle → ℕ → Terms → Type 0

@@ -13,13 +13,13 @@
 --     Contexts     images, moved variables, settled terms; checks 10 and 11
 --     Readings     what the tests of a step read besides the records
 --     ReflWalk     the walk of whole-term REFL over pairs of records, with the number of pairs that it visits
---     Rules        the five rules as tests on record numbers; checks 12, 21, 13 and 14
+--     Rules        the seven rules as tests on record numbers; checks 12, 22, 21, 13 and 14
 --     Named        kinds, entries and rules as the code names them
 --     WellFormed   what document 01 says of the header, the tables and the contexts, in propositions
 --     Nameless     terms without the names of their binders
 --     Replacement  CAPTURE-AVOIDING REPLACEMENT, up to the names of binders; terms that are the same up to names
---     Instance     THE RULES AS PRINTED: steps that are instances of REFL, CONG, TRANS, BIND or LET
---     Values       worlds, valuations, and the value of a term
+--     Instance     THE RULES AS PRINTED: steps that are instances of REFL, CONG, TRANS, BIND, LET or one of the two SKO
+--     Values       worlds and their picks, valuations, and the value of a term
 --     Meanings     what values mean: document 01's sentences, and that worlds exist, as types
 --     Longer       bundles with records appended
 --     Lookup       terms looked up

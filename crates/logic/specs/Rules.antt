@@ -1,4 +1,4 @@
--- The five rules as tests on record numbers, and checks 12, 22, 21, 13 and 14 of a step. A test whose name ends in `By` is over a reading, of which it
+-- The seven rules as tests on record numbers, and checks 12, 22, 21, 13 and 14 of a step. A test whose name ends in `By` is over a reading, of which it
 -- takes what it needs; under the plain name stands the same test at the bundle's own reading.
 use Rattle.std.specs.Prelude.{ℕ, zero, suc, ◌+◌, ◌-◌, Bool, true, false, cond, not, ◌&&◌, ◌||◌, List, [], ◌∷◌, ◌++◌, length, eqb, leb}
 use Rattle.bundle.specs.Bundle.{Bundle, Step, term_of, context_of, step_of}
@@ -9,16 +9,17 @@ use Rattle.logic.specs.declared.Walk.{Walk}
 use Rattle.logic.specs.declared.Image.{Image}
 use Rattle.logic.specs.declared.Image.TheVariants.{Own, Gives}
 use Rattle.logic.specs.Tests.{passed, up_to, Test, test, first_failing, first_fault}
-use Rattle.logic.specs.Terms.{is_binder}
+use Rattle.logic.specs.Symbols.{not_symbol}
+use Rattle.logic.specs.Terms.{Binder, forAll, exists, choice, application, binder, number_of, is_binder}
 use Rattle.logic.specs.Free.{free_at}
 use Rattle.logic.specs.Checks.{starts_list}
 use Rattle.logic.specs.Contexts.{image, is_variable, settled, in_scope}
 use Rattle.logic.specs.Readings.{Reading, reading_of}
 use Rattle.logic.specs.ReflWalk.{pair_walk_by, refl_walk_by, pair_limit}
 
--- Rules: 1 REFL, 2 CONG, 3 TRANS, 4 BIND, 5 LET.
+-- Rules: 1 REFL, 2 CONG, 3 TRANS, 4 BIND, 5 LET, 6 SKO for exists, 7 SKO for for-all.
 pub data Rule : Type 0 where
-  REFL CONG TRANS BIND LET noRule : Rule
+  REFL CONG TRANS BIND LET SKO_EXISTS SKO_FOR_ALL noRule : Rule
 
 -- a rule's number; no rule has 0
 abbrev pub rule_number : Rule → ℕ
@@ -27,10 +28,19 @@ rule_number CONG = 2
 rule_number TRANS = 3
 rule_number BIND = 4
 rule_number LET = 5
+rule_number SKO_EXISTS = 6
+rule_number SKO_FOR_ALL = 7
 rule_number noRule = 0
 
 unfoldable pub rule_of : ℕ → Rule
-rule_of k = cond (eqb k 1) REFL (cond (eqb k 2) CONG (cond (eqb k 3) TRANS (cond (eqb k 4) BIND (cond (eqb k 5) LET noRule))))
+rule_of k =
+    cond (eqb k 1) REFL
+    (cond (eqb k 2) CONG
+    (cond (eqb k 3) TRANS
+    (cond (eqb k 4) BIND
+    (cond (eqb k 5) LET
+    (cond (eqb k 6) SKO_EXISTS
+    (cond (eqb k 7) SKO_FOR_ALL noRule))))))
 
 -- a step carries l to r in context c
 abbrev pub carries : Step → ℕ → ℕ → ℕ → Bool
@@ -165,7 +175,7 @@ unfoldable pub trans_side : Bundle → Step → Bool
 unfolding trans_side_by settled items
 trans_side b = trans_side_by (settled b) (step_of b) b
 
--- ---- BIND, from Qx.φ to Qy.ψ, same quantifier: the premise is φ to ψ in a context that replaces x alone by y, whose parent fixes y, whose
+-- ---- BIND, from Qx.φ to Qy.ψ, same binder: the premise is φ to ψ in a context that replaces x alone by y, whose parent fixes y, whose
 -- parent is the step's context.
 
 -- the premise, its context, and that one's parent
@@ -271,15 +281,66 @@ unfoldable pub let_tests : Bundle → Step → List Bool
 unfolding let_tests_by last_of items same_list walk_by
 let_tests b = let_tests_by (step_of b) b
 
+-- ---- SKO, from ∃x.φ or ∀x.φ: the premise carries φ to the right side in a context that replaces x alone, by the choice of x in φ for an exists, by
+-- the choice of x in not(φ) for a for-all; its parent is the step's context.
+
+-- term t is the choice of x in the term u
+unfoldable pub is_choice : Bundle → ℕ → ℕ → ℕ → Bool
+unfolding passed
+is_choice b t x u = passed (eqb (term_of b t).kind (number_of (binder choice)) ∷ eqb (term_of b t).a x ∷ eqb (term_of b t).b u ∷ [])
+
+-- term t is "not" over the term u
+unfoldable pub is_negation : Bundle → ℕ → ℕ → Bool
+unfolding passed single items
+is_negation b t u =
+    passed (
+    eqb (term_of b t).kind (number_of application)
+    ∷ eqb (term_of b t).a not_symbol
+    ∷ single (items b (term_of b t).b)
+    ∷ eqb (first_of (items b (term_of b t).b)) u
+    ∷ []
+    )
+
+-- term t is the choice that takes the place of x where a quantifier q binds x in the term u. (No rule takes a choice away.)
+unfoldable pub is_witness : Binder → Bundle → ℕ → ℕ → ℕ → Bool
+unfolding is_choice is_negation
+is_witness forAll b t x u = is_choice b t x (term_of b t).b && is_negation b (term_of b t).b u
+is_witness exists b t x u = is_choice b t x u
+is_witness choice b t x u = false
+
+-- the term that the context of the premise puts in
+abbrev pub put_in_by : (ℕ → Step) → Bundle → Step → ℕ
+put_in_by step b s = first_of (items b (context_of b (inner_by step b s)).b)
+
+unfoldable pub sko_tests_by : Binder → (ℕ → Step) → Bundle → Step → List Bool
+unfolding items single is_witness
+sko_tests_by q step b s =
+    eqb (term_of b s.left).kind (number_of (binder q))
+    ∷ eqb (premise_by step b s).left (term_of b s.left).b
+    ∷ eqb (premise_by step b s).right s.right
+    ∷ eqb (context_of b (inner_by step b s)).kind 2
+    ∷ single (items b (context_of b (inner_by step b s)).a)
+    ∷ eqb (first_of (items b (context_of b (inner_by step b s)).a)) (term_of b s.left).a
+    ∷ single (items b (context_of b (inner_by step b s)).b)
+    ∷ is_witness q b (put_in_by step b s) (term_of b s.left).a (term_of b s.left).b
+    ∷ eqb (context_of b (inner_by step b s)).parent s.context
+    ∷ []
+
+unfoldable pub sko_tests : Binder → Bundle → Step → List Bool
+unfolding sko_tests_by items single is_witness
+sko_tests q b = sko_tests_by q (step_of b) b
+
 -- ---- the checks of a step
 
--- 12: a step's rule or reference, or premise count of REFL, TRANS, BIND
+-- 12: a step's rule or reference, or premise count of REFL, TRANS, BIND, SKO
 unfoldable pub count_fits : Rule → ℕ → Bool
 count_fits REFL n = eqb n 0
 count_fits CONG n = true
 count_fits TRANS n = eqb n 2
 count_fits BIND n = eqb n 1
 count_fits LET n = true
+count_fits SKO_EXISTS n = eqb n 1
+count_fits SKO_FOR_ALL n = eqb n 1
 count_fits noRule n = false
 
 -- the tests of a step s, where `earlier` says whether its premises are earlier steps
@@ -322,6 +383,8 @@ suffices_by g b CONG s = true
 suffices_by g b TRANS s = true
 suffices_by g b BIND s = true
 suffices_by g b LET s = true
+suffices_by g b SKO_EXISTS s = true
+suffices_by g b SKO_FOR_ALL s = true
 suffices_by g b noRule s = true
 
 unfoldable pub suffices_as : Bundle → Rule → Step → Bool
@@ -334,16 +397,18 @@ suffices b k = suffices_as b (rule_of (step_of b k).rule) (step_of b k)
 
 -- 13: any other mismatch with its rule
 unfoldable pub matches_by : Reading → Bundle → Rule → Step → Bool
-unfolding refl_matches_by cong_tests_by trans_tests_by bind_terms_by bind_contexts_by let_tests_by passed
+unfolding refl_matches_by cong_tests_by trans_tests_by bind_terms_by bind_contexts_by let_tests_by sko_tests_by passed
 matches_by g b REFL s = refl_matches_by g b s
 matches_by g b CONG s = passed (cong_tests_by g.step b s)
 matches_by g b TRANS s = passed (trans_tests_by g.step b s)
 matches_by g b BIND s = passed (bind_terms_by g.step b s) && passed (bind_contexts_by g.step b s)
 matches_by g b LET s = passed (let_tests_by g.step b s)
+matches_by g b SKO_EXISTS s = passed (sko_tests_by exists g.step b s)
+matches_by g b SKO_FOR_ALL s = passed (sko_tests_by forAll g.step b s)
 matches_by g b noRule s = false
 
 unfoldable pub matches_as : Bundle → Rule → Step → Bool
-unfolding matches_by is_binder refl_matches cong_tests trans_tests bind_terms bind_contexts let_tests passed
+unfolding matches_by is_binder refl_matches cong_tests trans_tests bind_terms bind_contexts let_tests sko_tests passed
 matches_as b = matches_by (reading_of b) b
 
 unfoldable pub matches : Bundle → ℕ → Bool
@@ -358,6 +423,8 @@ sides_by g b CONG s = true
 sides_by g b TRANS s = trans_side_by g.settled g.step b s
 sides_by g b BIND s = bind_sides_by g.free g.image b s
 sides_by g b LET s = true
+sides_by g b SKO_EXISTS s = true
+sides_by g b SKO_FOR_ALL s = true
 sides_by g b noRule s = true
 
 unfoldable pub sides_as : Bundle → Rule → Step → Bool

@@ -6,11 +6,12 @@ ghost use Rattle.logic.specs.Named.{binder_in, kind_in, kind_named, entry_in, en
 
 // ---- Terms
 
-// What binds one variable in a body: two things by name, and nothing that may be missing.
+// What binds one variable in a body: things by name, and nothing that may be missing.
 #[derive(Clone, Copy, Debug, PartialEq, Eq)]
 pub enum Binder {
     ForAll,
     Exists,
+    Choice,
 }
 
 impl Binder {
@@ -21,6 +22,7 @@ impl Binder {
         match self {
             Binder::ForAll => 3,
             Binder::Exists => 4,
+            Binder::Choice => 6,
         }
     }
 }
@@ -35,7 +37,7 @@ pub enum Kind {
 
 impl Kind {
     // How many numbers stand for kinds, from 1 on.
-    pub const COUNT: usize = 5;
+    pub const COUNT: usize = 6;
 
     // The kind that a number stands for. No `TryFrom`: nobody would read its error. So in `Entry` and `Rule`.
     #[tactic(auto, unfolding(crate::specs::Terms::kind_of))]
@@ -48,6 +50,7 @@ impl Kind {
             3 => Some(Kind::Binder(Binder::ForAll)),
             4 => Some(Kind::Binder(Binder::Exists)),
             5 => Some(Kind::Let),
+            6 => Some(Kind::Binder(Binder::Choice)),
             _ => None,
         }
     }

@@ -10,11 +10,13 @@ pub enum Rule {
     Trans,
     Bind,
     Let,
+    SkoExists,
+    SkoForAll,
 }
 
 impl Rule {
     // How many numbers stand for rules, from 1 on.
-    pub const COUNT: usize = 5;
+    pub const COUNT: usize = 7;
 
     // The rule that a number stands for.
     #[tactic(auto, unfolding(crate::specs::Rules::rule_of))]
@@ -27,6 +29,8 @@ impl Rule {
             3 => Some(Rule::Trans),
             4 => Some(Rule::Bind),
             5 => Some(Rule::Let),
+            6 => Some(Rule::SkoExists),
+            7 => Some(Rule::SkoForAll),
             _ => None,
         }
     }
@@ -41,6 +45,8 @@ impl Rule {
             Rule::Trans => 3,
             Rule::Bind => 4,
             Rule::Let => 5,
+            Rule::SkoExists => 6,
+            Rule::SkoForAll => 7,
         }
     }
 }

@@ -1,22 +1,17 @@
 -- What is kept, as a function of the variable.
 --     kept_as   THE LAW: what is noted of the numbers up to the limit is the whole function
-use mathlib.Core.Path.{◌≡◌, sym, ap, ◌∙◌, subst, fun_ext}
+use mathlib.Core.Path.{◌≡◌, sym, fun_ext}
 use Prim.Native.Nat.{ℕ, ◌≤◌, ◌<◌}
-use mathlib.Core.Bool.{true, false, ◌&&◌, false≢true}
+use mathlib.Core.Bool.{false}
 use native.Mathlib.Omega.{arith}
 use native.Mathlib.Decide.{dec_le}
 use lib.ListN.{length}
-use lib.Dec.{eqb}
-use borrow.Author.Tests.{eqb-true}
 use Rattle.std.proofs.lemmas.Bool.{false_from_ne_true, lt-leb}
-use Rattle.bundle.specs.Bundle.{Bundle, TermRecord, term_of}
+use Rattle.bundle.specs.Bundle.{Bundle}
 use Rattle.bundle.specs.Limits.{limits}
-use Rattle.logic.specs.Lists.{Number}
-use Rattle.logic.specs.Terms.{Binder, forAll, exists, binder, number_of}
-use Rattle.logic.specs.WellFormed.{TermFormed, a_variable, an_application, a_binder, a_let, TablesFormed}
-use Rattle.logic.proofs.TermKinds.{binder_kind}
+use Rattle.logic.specs.WellFormed.{TablesFormed}
 use Rattle.expansion.specs.declared.Names.{Names}
-use Rattle.expansion.specs.Names.{BindsAt, keeps}
+use Rattle.expansion.specs.Names.{keeps}
 use Rattle.expansion.proofs.KeptNames.{kept_number}
 use Rattle.names.specs.declared.Kept.{Kept}
 use Rattle.names.specs.Marks.{kept_in}

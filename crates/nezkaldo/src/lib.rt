@@ -46,8 +46,8 @@ fn reply_number(reply: Result<usize, Failure>) -> u64
 }
 
 // Expands the lets of a job's rule: the file's length where it is written at the start of the output, else number · 2^32 + record of the first check that
-// fails. The scratch ends zero, and so do the bytes after the file; where the job is refused, all of the output. A quantifier's variable is kept where one
-// term record of the job alone binds it and no let lists it; else the quantifier gets a new one.
+// fails. The scratch ends zero, and so do the bytes after the file; where the job is refused, all of the output. A binder's variable is kept where one
+// term record of the job alone binds it and no let lists it; else the binder gets a new one.
 pub fn nezkaldo_expand(job: &[u8], out: &mut [u8], words: &mut [u32], sets: &mut [u64]) -> u64
     ensures value { result ≡ packed_reply
         (expansion Keep job.now (length out.old) (length words.old) (length sets.old)).answer }
@@ -61,7 +61,7 @@ pub fn nezkaldo_expand(job: &[u8], out: &mut [u8], words: &mut [u32], sets: &mut
     reply_number(reply)
 }
 
-// The same with every quantifier renamed: each gets a new variable.
+// The same with every binder renamed: each gets a new variable.
 pub fn nezkaldo_expand_renamed(
     job: &[u8],
     out: &mut [u8],

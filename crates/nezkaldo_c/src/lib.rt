@@ -20,8 +20,8 @@ pub extern "C" fn nezkaldo_check(file: &[u8], free: &mut [u64]) -> u64
 }
 
 // Expands the lets of a job's rule: the file's length where it is written at the start of the output, else number · 2^32 + record of the first check that
-// fails. The scratch ends zero, and so do the bytes after the file; where the job is refused, all of the output. A quantifier's variable is kept where one
-// term record of the job alone binds it and no let lists it; else the quantifier gets a new one.
+// fails. The scratch ends zero, and so do the bytes after the file; where the job is refused, all of the output. A binder's variable is kept where one
+// term record of the job alone binds it and no let lists it; else the binder gets a new one.
 #[unsafe(no_mangle)]
 pub extern "C" fn nezkaldo_expand(
     job: &[u8],
@@ -40,7 +40,7 @@ pub extern "C" fn nezkaldo_expand(
     nezkaldo::nezkaldo_expand(job, out, words, sets)
 }
 
-// The same with every quantifier renamed: each gets a new variable.
+// The same with every binder renamed: each gets a new variable.
 #[unsafe(no_mangle)]
 pub extern "C" fn nezkaldo_expand_renamed(
     job: &[u8],

@@ -112,7 +112,7 @@ fn cross_lists(path: &mut Path<'_, '_>, first: usize, second: usize)
     }
 }
 
-// Takes the bodies of the quantifiers l and r up, inside their variables.
+// Takes the bodies of the binders l and r up, inside their variables.
 fn into_body(path: &mut Path<'_, '_>, l: usize, r: usize, left: usize) -> Result<Pair, Limited>
     requires { let b = path.old.sets.bundle in
         (length path.old.frames + 1 ≤ path.old.most) × (sorts_meet b (term_of b l).a (term_of b r).a ≡ true) }

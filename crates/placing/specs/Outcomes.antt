@@ -33,7 +33,7 @@ VisitOutcome v = Outcome v.bundle (record { result = v.result; step = v.step })
 abbrev pub VisitFits : Option Visited → Type 0
 VisitFits r = IfSome r (λ v. (v.result ≤ largest_word) × (v.step ≤ largest_word))
 
--- of a context, of a quantifier's opener, of a term that is placed, of a list of values that is appended
+-- of a context, of a binder's opener, of a term that is placed, of a list of values that is appended
 abbrev pub OpenOutcome : unlimited.OpenedContext → Bundle → Option ℕ → Type 0
 OpenOutcome o = Outcome o.bundle o.context
 

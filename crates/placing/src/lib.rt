@@ -29,7 +29,7 @@ pub struct Visited {
     pub step: usize,
 }
 
-// What the opener of a quantifier gives: the context of the body, and the variable that the result binds.
+// What the opener of a binder gives: the context of the body, and the variable that the result binds.
 #[derive(Clone, Copy)]
 pub struct Opened {
     pub context: usize,
@@ -218,7 +218,7 @@ fn place_fresh(filed: &mut Filed<'_>, x: usize) -> Option<usize>
     place_variable(filed, counts.variables + 1)
 }
 
-// Of the variable that a quantifier's result binds: x itself where it is kept, and else a new one.
+// Of the variable that a binder's result binds: x itself where it is kept, and else a new one.
 pub fn place_named(filed: &mut Filed<'_>, kept: bool, x: usize) -> Option<usize>
     requires { x ≤ largest_word }
     ensures { PlaceOutcome (named kept filed.old x) filed.new result }

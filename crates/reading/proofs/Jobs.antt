@@ -34,6 +34,7 @@ use Rattle.reading.specs.Records.{depth}
 use Rattle.reading.specs.Reader.{job_of}
 use Rattle.reading.specs.Answers.{ReadAs, filed_for, FitsLimits}
 use Rattle.reading.specs.Demands.{DeclarationsFormed, ReadWell, DeepNeverFits}
+use Rattle.grammar.proofs.Quantifiers.{reads_quantifiers}
 use Rattle.reading.proofs.TermSorts.{TermSorted, formula_sorted}
 use Rattle.reading.proofs.Records.{SameDeclared, file_declares, FiledAs, filed, depth_below}
 use Rattle.reading.proofs.SmallRecords.{term_small}
@@ -70,7 +71,9 @@ declared_version f d = d.header.version
 
 module _ (f text : List ℕ) (φ : Formula) (d : DeclarationsFormed f) (r : ReadAs (bundle_of f) text φ) where
   pub term_sorted : TermSorted (bundle_of f) (plain (bundle_of f) φ)
-  term_sorted = (formula_sorted (bundle_of f) φ truth_sort ((names_exactly (bundle_of f) (names φ [])).1 r.named.names) r.sorted).0
+  term_sorted =
+      (formula_sorted (bundle_of f) φ truth_sort (reads_quantifiers text φ r.named.reads)
+      ((names_exactly (bundle_of f) (names φ [])).1 r.named.names) r.sorted).0
 
   pub job_filed : FiledAs (bundle_of f) (plain (bundle_of f) φ) (filed_for (bundle_of f) φ)
   job_filed =

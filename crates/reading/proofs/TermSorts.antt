@@ -1,6 +1,6 @@
 -- Terms that are well sorted beside a bundle's declarations.
 --     TermSorted, TermsSorted     what is to hold of a term and of its parts
---     formula_sorted              THE LAW: the term of a well_sorted formula with declared names is well sorted, of the formula's sort
+--     formula_sorted              THE LAW: the term of a well_sorted formula with declared names and no choice is well sorted, of the formula's sort
 --     sort_in_lem, sorts_in           its sort is the same in a longer bundle
 use Prim.Native.Nat.{ℕ, zero, suc}
 use native.Mathlib.Omega.{arith}
@@ -10,13 +10,12 @@ use mathlib.Core.List.{List, [], ◌∷◌, map}
 use lib.ListN.{length}
 use lib.Dec.{eqb, ltb}
 use borrow.Author.Tests.{lt-ltb}
-use Rattle.logic.proofs.Trees.{truth_of_binder}
 use Rattle.bundle.specs.Bundle.{Bundle, sort_of_variable}
 use Rattle.logic.specs.declared.Signature.TheVariants.{Unknown}
 use Rattle.logic.specs.Lists.{All, Different, Number}
 use Rattle.logic.specs.Symbols.{truth_sort, symbol_kind, kind_of_symbol, signature, signature_of, argument_sorts, result_sort}
-use Rattle.logic.specs.Terms.{Binder, Term, Terms, var, app, bind, let_in, none, more}
-use Rattle.logic.specs.Sorts.{sort}
+use Rattle.logic.specs.Terms.{Binder, forAll, exists, choice, Term, Terms, var, app, bind, let_in, none, more}
+use Rattle.logic.specs.Sorts.{binder_sort, sort}
 use Rattle.logic.specs.Longer.{Longer}
 use Rattle.logic.proofs.Tests.{and_left, and_right}
 use Rattle.logic.proofs.Images.{sorts_of}
@@ -25,6 +24,7 @@ use Rattle.grammar.specs.Bytes.{Connective, conjunction, disjunction, implicatio
 use Rattle.grammar.specs.Grammar.{SortedVariable, declares, Formula, called, truth, bracketed, Bracketed, denies, connects, applies, quantifies, lets}
 use Rattle.grammar.specs.Grammar.{Formulas, no_formula, and_formula, Bindings, no_binding, and_binding}
 use Rattle.grammar.specs.Names.{either, symbolOnly, variableOnly, Name, variable_names, names, names_inside, names_of_all, names_bound, all_known}
+use Rattle.grammar.proofs.Quantifiers.{Quantifies, QuantifiesInside, QuantifiesAll, QuantifiesBound}
 use Rattle.reading.specs.Called.{variable_called, symbol_called, known_as, known_in}
 use Rattle.reading.specs.Typing.{connective_symbol, nested}
 use Rattle.reading.specs.Local.{alone_term, head_sort, bound_names, plain, plain_inside, plain_all, plain_bound}
@@ -60,7 +60,7 @@ module _ {b b' : Bundle} (longer : Longer b b') where
     pub sort_in_lem : (t : Term) → TermSorted b t → sort b' t ≡ sort b t
     sort_in_lem (var x) h = variable_kept longer x h.1
     sort_in_lem (app f ts) h = result_kept longer f h.0
-    sort_in_lem (bind q x t) h = truth_of_binder q _ ∙ sym (truth_of_binder q _)
+    sort_in_lem (bind q x t) h = ap (binder_sort q) (variable_kept longer x h.0.1)
     sort_in_lem (let_in vs ts t) h = sort_in_lem t h.5
 
     pub sorts_in : (ts : Terms) → TermsSorted b ts → sorts_of b' ts ≡ sorts_of b ts
@@ -149,37 +149,42 @@ module _ (b : Bundle) where
       let (vs, k) = variables_known xs rest (known_rest _ (variable_names xs rest) e) in
       ((variable_due x (known_first _ (variable_names xs rest) e), vs), k)
 
-  quantified : (q : Binder) (xs : List SortedVariable) (t : Term) → VariablesDeclared xs → Of t truth_sort → Of (nested b q xs t) truth_sort
+  truth_of_quantifier : (q : Binder) (s : ℕ) → (q ≡ choice → ⊥) → binder_sort q s ≡ truth_sort
+  truth_of_quantifier forAll s n = refl
+  truth_of_quantifier exists s n = refl
+  truth_of_quantifier choice s n = absurd (n refl)
+
+  quantified : (q : Binder) (xs : List SortedVariable) (t : Term) → (q ≡ choice → ⊥) → VariablesDeclared xs → Of t truth_sort → Of (nested b q xs t) truth_sort
   unfolding nested sort
-  quantified q [] t vs h = h
-  quantified q (declares x s ∷ xs) t vs h =
-      let inner = quantified q xs t vs.1 h in
-      ((vs.0, inner.1, inner.0), truth_of_binder q _)
+  quantified q [] t n vs h = h
+  quantified q (declares x s ∷ xs) t n vs h =
+      let inner = quantified q xs t n vs.1 h in
+      ((vs.0, inner.1, inner.0), truth_of_quantifier q _ n)
 
   mutual
     unfolding plain names names_inside sort sorts_of bound_names
 
-    formula_of : (φ : Formula) (s : ℕ) (rest : List Name) → Known (names φ rest) → WellSorted b φ s → Of (plain b φ) s × Known rest
-    formula_of (called w) s rest e h = (name_alone w s (known_first _ rest e) h, known_rest _ rest e)
-    formula_of (truth v) s rest e h = (((constant_of v).0, (constant_of v).1 ∙ sym h), e)
-    formula_of (bracketed φ) s rest e h = inside_of φ s rest e h
+    formula_of : (φ : Formula) (s : ℕ) (rest : List Name) → Quantifies φ → Known (names φ rest) → WellSorted b φ s → Of (plain b φ) s × Known rest
+    formula_of (called w) s rest p e h = (name_alone w s (known_first _ rest e) h, known_rest _ rest e)
+    formula_of (truth v) s rest p e h = (((constant_of v).0, (constant_of v).1 ∙ sym h), e)
+    formula_of (bracketed φ) s rest p e h = inside_of φ s rest p e h
 
-    inside_of : (φ : Bracketed) (s : ℕ) (rest : List Name) → Known (names_inside φ rest) → InsideSorted b φ s → Of (plain_inside b φ) s × Known rest
-    inside_of (denies φ) s rest e h =
-        let (t, k) = formula_of φ truth_sort rest e h.0 in
+    inside_of : (φ : Bracketed) (s : ℕ) (rest : List Name) → QuantifiesInside φ → Known (names_inside φ rest) → InsideSorted b φ s → Of (plain_inside b φ) s × Known rest
+    inside_of (denies φ) s rest p e h =
+        let (t, k) = formula_of φ truth_sort rest p e h.0 in
         let n = negated (plain b φ) t in
         ((n.0, n.1 ∙ sym h.1), k)
-    inside_of (connects c φ ψ) s rest e h =
-        let (t, k) = formula_of φ h.0 (names ψ rest) e h.2 in
-        let (u, l) = formula_of ψ h.0 rest k h.3 in
+    inside_of (connects c φ ψ) s rest p e h =
+        let (t, k) = formula_of φ h.0 (names ψ rest) p.0 e h.2 in
+        let (u, l) = formula_of ψ h.0 rest p.1 k h.3 in
         let is : h.0 ≡ head_sort b φ = (sorted_fine b φ h.0 h.2).1 in
         let parts : Terms = more (plain b φ) (more (plain b ψ) none) in
         let j = subst (λ (v : ℕ). Of (app (connective_symbol c v) parts) truth_sort) is (joined c h.0 (plain b φ) (plain b ψ) h.1 t u) in
         ((j.0, j.1 ∙ sym h.4), l)
-    inside_of (applies f φ φs) s rest e h =
+    inside_of (applies f φ φs) s rest p e h =
         let k₀ = known_rest _ (names φ (names_of_all φs rest)) e in
-        let (t, k) = formula_of φ h.0 (names_of_all φs rest) k₀ h.3 in
-        let (ts, l) = all_of φs h.1 rest k h.4 in (
+        let (t, k) = formula_of φ h.0 (names_of_all φs rest) p.0 k₀ h.3 in
+        let (ts, l) = all_of φs h.1 rest p.1 k h.4 in (
           (
             (
               symbol_due f (known_first _ (names φ (names_of_all φs rest)) e),
@@ -190,16 +195,16 @@ module _ (b : Bundle) where
           ),
           l,
         )
-    inside_of (quantifies q x xs φ) s rest e h =
+    inside_of (quantifies q x xs φ) s rest p e h =
         let (vs, k) = variables_known (x ∷ xs) (names φ rest) e in
-        let (t, l) = formula_of φ truth_sort rest k h.1 in
-        let n = quantified q (x ∷ xs) (plain b φ) vs t in
+        let (t, l) = formula_of φ truth_sort rest p.1 k h.1 in
+        let n = quantified q (x ∷ xs) (plain b φ) p.0 vs t in
         ((n.0, n.1 ∙ sym h.2), l)
-    inside_of (lets x φ xs ψ) s rest e h =
+    inside_of (lets x φ xs ψ) s rest p e h =
         let later = names φ (names_bound xs (names ψ rest)) in
-        let (t, k) = formula_of φ (sort_of_variable b (variable_called b x)) (names_bound xs (names ψ rest)) (known_rest _ later e) h.1 in
-        let (vs, ts, sorts, l) = bound_of xs (names ψ rest) k h.2 in
-        let (u, m) = formula_of ψ s rest l h.3 in (
+        let (t, k) = formula_of φ (sort_of_variable b (variable_called b x)) (names_bound xs (names ψ rest)) p.0 (known_rest _ later e) h.1 in
+        let (vs, ts, sorts, l) = bound_of xs (names ψ rest) p.1 k h.2 in
+        let (u, m) = formula_of ψ s rest p.2 l h.3 in (
           (
             (
               (variable_due x (known_first _ later e), vs),
@@ -214,25 +219,25 @@ module _ (b : Bundle) where
           m,
         )
 
-    all_of : (φs : Formulas) (ss : List ℕ) (rest : List Name) → Known (names_of_all φs rest) → AllSorted b φs ss → AllOf (plain_all b φs) ss × Known rest
-    all_of no_formula [] rest e h = ((tt, refl), e)
-    all_of no_formula (s ∷ ss) rest e h = absurd h
-    all_of (and_formula φ φs) [] rest e h = absurd h
-    all_of (and_formula φ φs) (s ∷ ss) rest e h =
-        let (t, k) = formula_of φ s (names_of_all φs rest) e h.0 in
-        let (ts, l) = all_of φs ss rest k h.1 in
+    all_of : (φs : Formulas) (ss : List ℕ) (rest : List Name) → QuantifiesAll φs → Known (names_of_all φs rest) → AllSorted b φs ss → AllOf (plain_all b φs) ss × Known rest
+    all_of no_formula [] rest p e h = ((tt, refl), e)
+    all_of no_formula (s ∷ ss) rest p e h = absurd h
+    all_of (and_formula φ φs) [] rest p e h = absurd h
+    all_of (and_formula φ φs) (s ∷ ss) rest p e h =
+        let (t, k) = formula_of φ s (names_of_all φs rest) p.0 e h.0 in
+        let (ts, l) = all_of φs ss rest p.1 k h.1 in
         (((t.0, ts.0), ap₂ (λ (u : ℕ) (us : List ℕ). u ∷ us) t.1 ts.1), l)
 
-    bound_of : (xs : Bindings) (rest : List Name) → Known (names_bound xs rest) → BoundSorted b xs
+    bound_of : (xs : Bindings) (rest : List Name) → QuantifiesBound xs → Known (names_bound xs rest) → BoundSorted b xs
         → All (Number (length b.variables)) (bound_names b xs)
         × TermsSorted b (plain_bound b xs)
         × (map (sort_of_variable b) (bound_names b xs) ≡ sorts_of b (plain_bound b xs))
         × Known rest
-    bound_of no_binding rest e h = (tt, tt, refl, e)
-    bound_of (and_binding x φ xs) rest e h =
+    bound_of no_binding rest p e h = (tt, tt, refl, e)
+    bound_of (and_binding x φ xs) rest p e h =
         let later = names φ (names_bound xs rest) in
-        let (t, k) = formula_of φ (sort_of_variable b (variable_called b x)) (names_bound xs rest) (known_rest _ later e) h.0 in
-        let (vs, ts, sorts, l) = bound_of xs rest k h.1 in (
+        let (t, k) = formula_of φ (sort_of_variable b (variable_called b x)) (names_bound xs rest) p.0 (known_rest _ later e) h.0 in
+        let (vs, ts, sorts, l) = bound_of xs rest p.1 k h.1 in (
           (variable_due x (known_first _ later e), vs),
           (t.0, ts),
           ap₂ (λ (u : ℕ) (us : List ℕ). u ∷ us) (sym t.1) sorts,
@@ -240,6 +245,6 @@ module _ (b : Bundle) where
         )
 
   -- THE LAW
-  pub formula_sorted : (φ : Formula) (s : ℕ) → all_known (known_in b) (names φ []) ≡ true → WellSorted b φ s
+  pub formula_sorted : (φ : Formula) (s : ℕ) → Quantifies φ → all_known (known_in b) (names φ []) ≡ true → WellSorted b φ s
       → TermSorted b (plain b φ) × (sort b (plain b φ) ≡ s)
-  formula_sorted φ s e h = (formula_of φ s [] e h).0
+  formula_sorted φ s p e h = (formula_of φ s [] p e h).0

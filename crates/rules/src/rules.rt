@@ -1,4 +1,4 @@
-// The five rules, one function each; CONG and LET share their walk.
+// REFL, TRANS, BIND, CONG and LET, one function each; CONG and LET share their walk.
 ghost use Rattle.std.specs.Prelude.{MatchOption, ◌≡◌, true, false, ◌+◌, ◌*◌, ◌≤◌, length};
 ghost use Rattle.bundle.specs.Limits.{limits};
 ghost use Rattle.logic.specs.Tests.{passed};
@@ -87,7 +87,7 @@ pub fn trans_side(sets: &TermSets, scopes: &[u64], bed: &[u32], s: StepWords) ->
 
 // ---- BIND
 
-// The terms: quantifiers of one kind, and a premise that carries the one body to the other.
+// The terms: binders of one kind, and a premise that carries the one body to the other.
 pub fn bind_terms(taken: &Taken, s: StepWords) -> bool
     ensures { result ≡ passed (bind_terms_by (step_in taken.now.bundle taken.now.bed) taken.now.bundle (as_step s)) }
 {

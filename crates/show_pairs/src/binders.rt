@@ -5,7 +5,7 @@ use bundle::Bundle;
 use free_variables::term_sets::TermSets;
 use logic::kinds::Kind;
 
-// Whether term t, a quantifier or a let, binds variable x.
+// Whether term t, a binder or a let, binds variable x.
 fn binds(bundle: &Bundle, t: usize, x: usize) -> bool {
     let kind = bundle.term_field(t, 0);
     let first = bundle.term_field(t, 1);

@@ -13,7 +13,7 @@ use logic::kinds::Kind;
 // Why two terms differ.
 #[derive(Clone, Copy)]
 pub enum Reason {
-    // Terms of different kinds, for-all and exists too.
+    // Terms of different kinds, for-all, exists and choice too.
     Kind,
     Symbol,
     // Different numbers of arguments.

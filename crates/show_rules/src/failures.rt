@@ -1,8 +1,9 @@
 // What a refusal by 13, 14 or 21 means: a step that is no instance of its rule, a side that fails, or a REFL whose walk is too long.
 // Each function goes through the tests of its rule, up to the first that fails; where only one is left, it is that one.
 
+use super::skolem::false_sko;
 use bundle::Bundle;
-use logic::kinds::{Kind, is_binder};
+use logic::kinds::{Binder, Kind, is_binder};
 use logic::rules::Rule;
 use show_text::out;
 use show_walks::sentences::{failed_walk, spent_walk};
@@ -35,7 +36,7 @@ fn false_bind(bundle: &Bundle, context: usize, left: usize, right: usize) {
         ));
     } else {
         out::print(format_args!(
-            " is BIND, and t{left} and t{right} are not two for-alls or two exists"
+            " is BIND, and t{left} and t{right} are not two for-alls, two exists or two choices"
         ));
     }
 }
@@ -62,6 +63,8 @@ pub fn false_step(bundle: &Bundle, k: usize) {
         Some(Rule::Cong) => false_cong(bundle, context, left, right),
         Some(Rule::Bind) => false_bind(bundle, context, left, right),
         Some(Rule::Let) => false_let(bundle, context, left, right),
+        Some(Rule::SkoExists) => false_sko(bundle, k, Binder::Exists),
+        Some(Rule::SkoForAll) => false_sko(bundle, k, Binder::ForAll),
         Some(Rule::Trans) | None => out::print(format_args!(
             " is TRANS, and its premises do not carry t{left} to a middle term and that to t{right}, both in c{context}"
         )),

@@ -2,5 +2,6 @@
 #![tactic(auto)]
 
 pub mod failures; // failures.rt: steps that are no instance of their rule, sides that fail, walks that are too long
+pub mod skolem; // skolem.rt: what a step by SKO lacks
 pub mod chains; // chains.rt: the entries of a context, up to the empty one
 pub mod strays; // strays.rt: variables that no entry mentions

@@ -13,12 +13,21 @@ use show_text::out;
 
 // ---- 12: steps
 
+fn takes(rule: usize, premises: &[u8]) {
+    out::text(b" is ");
+    out::rule(rule);
+    out::text(b", which takes ");
+    out::text(premises);
+}
+
 // A table of words.
 fn wrong_count(rule: usize) {
     match Rule::of(rule) {
-        Some(Rule::Refl) => out::text(b" is REFL, which takes no premises"),
-        Some(Rule::Trans) => out::text(b" is TRANS, which takes two premises"),
-        Some(Rule::Bind) => out::text(b" is BIND, which takes one premise"),
+        Some(Rule::Refl) => takes(rule, b"no premises"),
+        Some(Rule::Trans) => takes(rule, b"two premises"),
+        Some(Rule::Bind) | Some(Rule::SkoExists) | Some(Rule::SkoForAll) => {
+            takes(rule, b"one premise")
+        }
         Some(Rule::Cong) | Some(Rule::Let) | None => not_to(b" has rule ", rule, Rule::COUNT),
     }
 }
@@ -37,7 +46,7 @@ fn bad_premises(bundle: &Bundle, k: usize, rule: usize, list: usize) {
     }
 }
 
-// 12: a step's rule or reference, or premise count of REFL, TRANS, BIND.
+// 12: a step's rule or reference, or premise count of REFL, TRANS, BIND, SKO.
 fn bad_step(bundle: &Bundle, k: usize) {
     let rule = bundle.step_field(k, 0);
     let context = bundle.step_field(k, 1);

@@ -3,7 +3,7 @@
 
 use bundle::Bundle;
 use duplicates::same_term;
-use logic::kinds::Kind;
+use logic::kinds::{Binder, Kind};
 use show_tables::tables::{before, is_number, no_list, not_lower, not_to};
 use show_text::out;
 use sorting::sorts::{is_known, signature_of};
@@ -35,14 +35,22 @@ fn bad_application(bundle: &Bundle, i: usize, f: usize, list: usize) {
     }
 }
 
-fn bad_quantifier(bundle: &Bundle, i: usize, v: usize, body: usize) {
+fn unused_field(binder: Binder) {
+    match binder {
+        Binder::ForAll | Binder::Exists => out::text(b" is a quantifier"),
+        Binder::Choice => out::text(b" is a choice"),
+    }
+    out::text(b", and the field that it does not use is not 0");
+}
+
+fn bad_binder(bundle: &Bundle, i: usize, binder: Binder, v: usize, body: usize) {
     if !is_number(v, bundle.variables()) {
         not_to(b" binds variable ", v, bundle.variables());
     } else if !is_number(body, before(i)) {
         out::name(b": its body, t", body);
         not_lower(b",", i);
     } else {
-        out::text(b" is a quantifier, and the field that it does not use is not 0");
+        unused_field(binder);
     }
 }
 
@@ -79,7 +87,7 @@ pub fn bad_term(bundle: &Bundle, i: usize) {
     match Kind::of(kind) {
         Some(Kind::Variable) => bad_variable_term(bundle, first),
         Some(Kind::Application) => bad_application(bundle, i, first, second),
-        Some(Kind::Binder(_)) => bad_quantifier(bundle, i, first, second),
+        Some(Kind::Binder(binder)) => bad_binder(bundle, i, binder, first, second),
         Some(Kind::Let) => bad_let(bundle, i, first, second, third),
         None => not_to(b" has kind ", kind, Kind::COUNT),
     }

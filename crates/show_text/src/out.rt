@@ -75,6 +75,8 @@ pub fn rule(r: usize) {
         Some(Rule::Trans) => text(b"TRANS"),
         Some(Rule::Bind) => text(b"BIND"),
         Some(Rule::Let) => text(b"LET"),
+        Some(Rule::SkoExists) => text(b"SKO exists"),
+        Some(Rule::SkoForAll) => text(b"SKO for-all"),
         None => name(b"rule ", r),
     }
 }

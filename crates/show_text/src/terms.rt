@@ -1,5 +1,6 @@
 // Terms in SMT-LIB 2. Terms are trees: a shared one is written again wherever it stands. So a budget of parts goes down and what is left of it comes
 // back, and a part for which none is left is written as its number, t7; as is one that is not lower than its term, in a file where terms are damaged.
+// SMT-LIB has no choice: one is written as a quantifier is.
 
 use super::out;
 use bundle::Bundle;
@@ -12,10 +13,11 @@ fn open_application(f: usize) {
 }
 
 // `(forall ((v1 Item)) `, up to the body.
-fn open_quantifier(bundle: &Bundle, binder: Binder, variable: usize) {
+fn open_binder(bundle: &Bundle, binder: Binder, variable: usize) {
     match binder {
         Binder::ForAll => out::text(b"(forall ((v"),
         Binder::Exists => out::text(b"(exists ((v"),
+        Binder::Choice => out::text(b"(choice ((v"),
     }
     out::number(variable);
     out::space();
@@ -123,7 +125,7 @@ pub fn term(bundle: &Bundle, t: usize, budget: usize) -> usize {
             after
         }
         Some(Kind::Binder(binder)) => {
-            open_quantifier(bundle, binder, first);
+            open_binder(bundle, binder, first);
             let after = part(bundle, t, second, budget);
             out::close();
             after

@@ -1,6 +1,6 @@
 -- The set that a term's record asks for, by its kind; and from the sets below t to those below t + 1.
 --     Ready, ready_room     what the code has once it has read a term's record and cleared its set
---     by_variable, by_unknown, by_application, by_quantifier, by_let, by_other     what it writes then, and the list that is left, are what the record asks for
+--     by_variable, by_unknown, by_application, by_binder, by_let, by_other     what it writes then, and the list that is left, are what the record asks for
 --     both_parts            with the sets of the list's terms added, it is the term's set
 --     SoFar, so_on          the sets below t are the free variables; so are those below t + 1, once that of t is written
 use mathlib.Core.Path.{◌≡◌, refl, sym, ap, ◌∙◌, fun_ext}
@@ -88,10 +88,10 @@ module _ {b : Bundle} {m : ℕ} {w v : List ℕ} {n t at k a y z : ℕ} (ready :
   unfolding own_by list_of
   by_application e = rw (same, e) (refl, record { kept = none.kept; members = empty })
 
-  pub by_quantifier : (q : Binder) (u p : List ℕ) → kind_of k ≡ binder q
+  pub by_binder : (q : Binder) (u p : List ℕ) → kind_of k ≡ binder q
       → Put v u n at (λ x. member v at n x || set_below v n t y x) → p ≡ removed u at n a → Own p 0
   unfolding own_by list_of
-  by_quantifier q u p e put rem =
+  by_binder q u p e put rem =
       let upto-u : Kept w u n at = kept_trans w v u n at none.kept put.kept in
       let over : Put u p n at (λ x. not (eqb x a) && member u at n x) = remove_put u p n at a (omega (arith, ready.room.room, upto-u.long)) rem in
       rw (same, e) (

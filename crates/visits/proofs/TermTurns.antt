@@ -2,7 +2,7 @@
 --     Reads                                         the term's record, as the code reads it
 --     term_kind                                     its kind
 --     term_words_lem, term_variable                 a variable
---     scope_closed, scope_asks, scope_full, ..      a quantifier
+--     scope_closed, scope_asks, scope_full, ..      a binder
 --     args_asks, args_full, args_ready              the list of arguments or of bound terms
 --     apply_done                                    an application
 --     let_closed, body_asks, body_full, ..          a let
@@ -111,7 +111,7 @@ stands_number b t (node n f ns) k = k.1
 stands_number b t (scope n q x u) k = k.1
 stands_number b t (block n s vs ns u) k = k.1
 
--- the variable of a quantifier's result is a word
+-- the variable of a binder's result is a word
 name_word : (kept : Bool) (b : Bundle) (x : ℕ) → x ≤ largest_word → Within (own_counts b) → name_of kept b x ≤ largest_word
 name_word true b x low k = low
 name_word false b x low k = omega (arith, k.variables)
@@ -137,10 +137,10 @@ module _ {b : Bundle} {s : List ℕ} {Γ h t : ℕ} (asks : TermAsks b s Γ h t)
       words = fits;
     }
 
-    -- ---- a quantifier
+    -- ---- a binder
 
     -- keeps says which variables are kept, and kept whether this one's is
-    module _ (keeps : ℕ → Bool) {q : Binder} (quantifies : kind_of w.kind ≡ binder q) {kept : Bool} (kept_is : kept ≡ keeps w.first) {b1 : Bundle}
+    module _ (keeps : ℕ → Bool) {q : Binder} (binds : kind_of w.kind ≡ binder q) {kept : Bool} (kept_is : kept ≡ keeps w.first) {b1 : Bundle}
         {r : Option Opened} (opened : BinderOutcome (open_binder kept b w.first Γ) b1 r) where
       scope_opened : BinderOutcome (open_binder (keeps w.first) b w.first Γ) b1 r
       scope_opened = subst (λ (p : Bool). BinderOutcome (open_binder p b w.first Γ) b1 r) kept_is opened
@@ -149,7 +149,7 @@ module _ {b : Bundle} {s : List ℕ} {Γ h t : ℕ} (asks : TermAsks b s Γ h t)
       pub scope_closed : r ≡ None → TermGives keeps b s Γ h t b1 s None
       scope_closed e = record {
         kept = below_same s h;
-        outcome = binder_only reads (λ τ. VisitOutcome (visit keeps τ Γ b) b1 None) quantifies (λ u low k.
+        outcome = binder_only reads (λ τ. VisitOutcome (visit keeps τ Γ b) b1 None) binds (λ u low k.
             full_on scope_opened e (longer_trans (visit_longer keeps u _ _) (scope_longer keeps t Γ b q w.first u)));
         words = tt;
       }
@@ -163,7 +163,7 @@ module _ {b : Bundle} {s : List ℕ} {Γ h t : ℕ} (asks : TermAsks b s Γ h t)
 
         -- the call for the body
         pub scope_asks : TermAsks b1 s o.context h w.second × (w.second < t)
-        scope_asks = binder_only reads (λ τ. TermAsks b1 s o.context h w.second × (w.second < t)) quantifies (λ u low k. (
+        scope_asks = binder_only reads (λ τ. TermAsks b1 s o.context h w.second × (w.second < t)) binds (λ u low k. (
           record {
             pending = record { places = asks.pending.places; height = omega (arith, asks.pending.height, (sizes scope_longer_lem).steps) };
             context = omega (arith, ap (λ (x : Opened). x.context) scope_open.value, open_context (keeps w.first) b w.first Γ, ap (λ (B : Bundle). length B.contexts) scope_open.bundle);
@@ -184,23 +184,23 @@ module _ {b : Bundle} {s : List ℕ} {Γ h t : ℕ} (asks : TermAsks b s Γ h t)
               subst (λ (v : Visit). VisitOutcome v b2 r2) (λ i. visit keeps u (scope_open.value i).context (scope_open.bundle i))
               (gave.outcome u (stands_on scope_longer_lem u w.second k))
 
-          -- the body's visit was full: so is the quantifier's
+          -- the body's visit was full: so is the binder's
           pub scope_full : r2 ≡ None → TermGives keeps b s Γ h t b2 s2 None
           scope_full e = record {
             kept = gave.kept;
-            outcome = binder_only reads (λ τ. VisitOutcome (visit keeps τ Γ b) b2 None) quantifies (λ u low k.
+            outcome = binder_only reads (λ τ. VisitOutcome (visit keeps τ Γ b) b2 None) binds (λ u low k.
                 full_on (scope_body u k) e (scope_longer keeps t Γ b q w.first u));
             words = tt;
           }
 
-          -- a quantifier's visit, from the body's and what closed it
+          -- a binder's visit, from the body's and what closed it
           pub scope_done : {x : Visited} → r2 ≡ Some x → {b3 : Bundle} {r3 : Option Visited}
               → VisitOutcome (close_binder Γ t q o.variable (record { bundle = b2; result = x.result; step = x.step })) b3 r3
               → VisitFits r3 → TermGives keeps b s Γ h t b3 s2 r3
           unfolding visit
           scope_done {x} told2 {b3} {r3} g fits = record {
             kept = gave.kept;
-            outcome = binder_only reads (λ τ. VisitOutcome (visit keeps τ Γ b) b3 r3) quantifies (λ u low k.
+            outcome = binder_only reads (λ τ. VisitOutcome (visit keeps τ Γ b) b3 r3) binds (λ u low k.
                 let d = visit_done (scope_body u k) told2 in
                 subst (λ (v : Visit). VisitOutcome v b3 r3)
                 (λ j. close_binder Γ t q (scope_open.value j).variable (record { bundle = d.bundle j; result = d.result j; step = d.step j })) g);

@@ -3,9 +3,7 @@ ghost use Rattle.names.specs.Marks.{kept_in};
 ghost use Rattle.placing.specs.Outcomes.{TermAsks, TermGives, ListAsks, ListGives};
 
 use bundle::Bundle;
-use closers::{
-    close_application, close_quantifier, close_variable, conclude, open_let, open_quantifier,
-};
+use closers::{close_application, close_binder, close_variable, conclude, open_binder, open_let};
 use filing::Filed;
 use logic::kinds::Kind;
 use logic::rules::Rule;
@@ -13,7 +11,7 @@ use names::Kept;
 use placing::Visited;
 use scratch::pairs::pack;
 
-// Visits a term in a context: its parts in order, then its result and its step. A quantifier's variable is kept where `kept` says so. The stack is a
+// Visits a term in a context: its parts in order, then its result and its step. A binder's variable is kept where `kept` says so. The stack is a
 // slice with a height: words that C lends, with a place for each step, where pass_terms' `Stack` has an array of its own. It is written in two places.
 #[cycle(visit_list_visit_term)]
 pub fn visit_term(
@@ -42,9 +40,9 @@ pub fn visit_term(
             close_application(filed, context, term, first, &stack[height..top])
         }
         Some(Kind::Binder(q)) => {
-            let opened = open_quantifier(filed, kept.keeps(first), first, context)?;
+            let opened = open_binder(filed, kept.keeps(first), first, context)?;
             let body = visit_term(filed, stack, kept, opened.context, height, second)?;
-            close_quantifier(filed, context, term, q, opened.variable, body)
+            close_binder(filed, context, term, q, opened.variable, body)
         }
         Some(Kind::Let) => {
             let top = visit_list(filed, stack, kept, context, height, term, second)?;

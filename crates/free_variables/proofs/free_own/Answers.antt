@@ -6,7 +6,7 @@ use lib.ListN.{length}
 use Rattle.bundle.specs.Bundle.{Bundle, term_of}
 use Rattle.sets.specs.Sets.{cleared}
 use Rattle.unions.specs.Put.{SetRoom}
-use Rattle.unions.proofs.ByKind.{Ready, by_variable, by_unknown, by_application, by_quantifier, by_let, by_other}
+use Rattle.unions.proofs.ByKind.{Ready, by_variable, by_unknown, by_application, by_binder, by_let, by_other}
 use Rattle.logic.specs.Named.{kind_in, binder_in}
 use Rattle.free_variables.proofs.free_own.Goals as goal
 
@@ -39,7 +39,7 @@ returns-else-first-variables c =
 
 pub returns-in-Some-Binder : goal.returns-in-Some-Binder
 returns-in-Some-Binder c =
-    by_quantifier (ready c.args.bundle.now c.requires.1 c.requires.0 c.term_field-kind.ensures c.term_field-first.ensures
+    by_binder (ready c.args.bundle.now c.requires.1 c.requires.0 c.term_field-kind.ensures c.term_field-first.ensures
     c.term_field-second.ensures c.term_field-third.ensures c.clear.ensures) (binder_in c.in-Some-Binder.field-0-0) c.unite_term.new.area c.remove.new.area (c.in-Some-Binder.ensures ∙ ap kind_in c.in-Some-Binder.field-0-is) c.unite_term.ensures c.remove.ensures
 
 pub returns-in-Some-Let : goal.returns-in-Some-Let

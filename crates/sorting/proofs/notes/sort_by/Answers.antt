@@ -1,5 +1,4 @@
 -- `notes::sort_by` meets its contract: the definition, by the kind.
-use Rattle.logic.proofs.Trees.{truth_of_binder}
 use Rattle.logic.specs.Sorts.{sort_as, sort_by}
 use Rattle.sorting.proofs.SortOf.{signature_is}
 use Rattle.sorting.proofs.notes.sort_by.Goals as goal
@@ -29,7 +28,8 @@ returns-in-Some-Let c =
 
 pub returns-in-Some-Binder : goal.returns-in-Some-Binder
 unfolding sort_by sort_as
-returns-in-Some-Binder c = rw (← c.term_field-kind.ensures, c.of.ensures, c.in-Some-Binder.is, c.in-Some-Binder.field-0-is, truth_of_binder)
+returns-in-Some-Binder c =
+    rw (← c.term_field-kind.ensures, c.of.ensures, c.in-Some-Binder.is, c.in-Some-Binder.field-0-is, ← c.term_field-in-Some-Binder.ensures) c.binder_sort.ensures
 
 pub returns-in-None : goal.returns-in-None
 unfolding sort_by sort_as

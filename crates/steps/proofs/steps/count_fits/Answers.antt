@@ -2,10 +2,13 @@
 use mathlib.Core.Path.{◌≡◌, ap, ◌∙◌}
 use mathlib.Core.Bool.{true}
 use Prim.Native.Nat.{ℕ}
-use mathlib.Core.Logic.{⊎_elim}
+use mathlib.Core.Logic.{◌⊎◌, ⊎_elim}
+use lib.Dec.{eqb}
 use Rattle.bundle.proofs.Walks.{walk_start, walk_start_le}
+use Rattle.logic.specs.declared.rules.Rule.{Rule as RuleName}
+use Rattle.logic.specs.declared.rules.Rule.TheVariants as name
 use Rattle.logic.specs.Named.{rule_in}
-use Rattle.logic.specs.Rules.{Rule, CONG, LET, count_fits}
+use Rattle.logic.specs.Rules.{count_fits}
 use Rattle.bundle.proofs.ListPlaces.{none_is, single_length}
 use Rattle.steps.proofs.steps.count_fits.Goals as goal
 
@@ -17,25 +20,23 @@ returns-in-Refl c =
     rw (c.in-Some.ensures ∙ ap rule_in c.in-Refl.is, walk_start a.bundle.now a.premises r.result r.ensures)
     (none_is a.bundle.now r.result (walk_start_le a.bundle.now a.premises r.result r.ensures))
 
-cong_fits : {r : Rule} (n : ℕ) → r ≡ CONG → true ≡ count_fits r n
+any_count : (x : RuleName) (n : ℕ) → (x ≡ name.Cong) ⊎ (x ≡ name.Let) → true ≡ count_fits (rule_in x) n
 unfolding count_fits
-cong_fits n e = rw e
-
-let_fits : {r : Rule} (n : ℕ) → r ≡ LET → true ≡ count_fits r n
-unfolding count_fits
-let_fits n e = rw e
+any_count x n = ⊎_elim (λ e. rw e) (λ e. rw e)
 
 pub returns-in-Cong : goal.returns-in-Cong
-returns-in-Cong c =
-    ⊎_elim (λ e. cong_fits _ (c.in-Some.ensures ∙ ap rule_in e)) (λ e. let_fits _ (c.in-Some.ensures ∙ ap rule_in e)) c.in-Cong.is
+returns-in-Cong c = rw c.in-Some.ensures (any_count _ _ c.in-Cong.is)
 
 pub returns-in-Trans : goal.returns-in-Trans
 unfolding count_fits
 returns-in-Trans c = rw (c.in-Some.ensures ∙ ap rule_in c.in-Trans.is) c.is_pair.ensures
 
-pub returns-in-Bind : goal.returns-in-Bind
+one_premise : (x : RuleName) (n : ℕ) → (x ≡ name.Bind) ⊎ (x ≡ name.SkoExists) ⊎ (x ≡ name.SkoForAll) → eqb n 1 ≡ count_fits (rule_in x) n
 unfolding count_fits
-returns-in-Bind c = rw (c.in-Some.ensures ∙ ap rule_in c.in-Bind.is, ← single_length) c.is_single.ensures
+one_premise x n = ⊎_elim (λ e. rw e) (⊎_elim (λ e. rw e) (λ e. rw e))
+
+pub returns-in-Bind : goal.returns-in-Bind
+returns-in-Bind c = rw c.in-Some.ensures (c.is_single.ensures ∙ single_length _ ∙ one_premise _ _ c.in-Bind.is)
 
 pub returns-in_default : goal.returns-in_default
 unfolding count_fits

@@ -7,10 +7,10 @@ use Prim.Native.Nat.{ℕ}
 use Rattle.logic.specs.declared.Walk.{Walk}
 use Rattle.logic.specs.Named.{rule_in}
 use Rattle.logic.specs.Tests.{passed}
-use Rattle.logic.specs.Rules.{REFL, CONG, LET, cong_walk_by, trans_tests_by, let_tests_by, matches_by}
+use Rattle.logic.specs.Rules.{REFL, CONG, LET, cong_walk_by, let_tests_by, matches_by}
 use Rattle.logic.proofs.RuleNumbers.{number_of_rule}
 use Rattle.bundle.specs.RecordWords.{as_step}
-use Rattle.steps.proofs.RuleOf.{matches_cong, matches_trans, matches_bind, matches_let}
+use Rattle.steps.proofs.RuleOf.{matches_cong, matches_let}
 use Rattle.steps.proofs.steps.step_matches.Goals as goal
 
 pub returns-in-Cong : goal.returns-in-Cong
@@ -28,16 +28,21 @@ returns-in-Cong c g same =
     ∙ matches_let g b s rule) i.is
 
 pub returns-in-Trans : goal.returns-in-Trans
-returns-in-Trans c g same =
-    let b = c.args.taken.now.bundle in
-    let s = as_step c.args.s in
-    c.trans_holds.ensures ∙ ap (λ (u : ℕ → Step). passed (trans_tests_by u b s)) (sym same)
-    ∙ matches_trans g b s (c.in-Some.ensures ∙ ap rule_in c.in-Trans.is)
+unfolding matches_by
+returns-in-Trans c g same = rw (c.in-Some.ensures ∙ ap rule_in c.in-Trans.is, same) c.trans_holds.ensures
 
 pub returns-in-Bind : goal.returns-in-Bind
+unfolding matches_by
 returns-in-Bind c g same =
-    rw (c.bind_terms-terms.ensures, c.bind_contexts-contexts.ensures, ← same)
-    (matches_bind g c.args.taken.now.bundle (as_step c.args.s) (c.in-Some.ensures ∙ ap rule_in c.in-Bind.is))
+    rw (c.in-Some.ensures ∙ ap rule_in c.in-Bind.is, same, c.bind_terms-terms.ensures, c.bind_contexts-contexts.ensures)
+
+pub returns-in-SkoExists : goal.returns-in-SkoExists
+unfolding matches_by
+returns-in-SkoExists c g same = rw (c.in-Some.ensures ∙ ap rule_in c.in-SkoExists.is, same) c.sko_holds.ensures
+
+pub returns-in-SkoForAll : goal.returns-in-SkoForAll
+unfolding matches_by
+returns-in-SkoForAll c g same = rw (c.in-Some.ensures ∙ ap rule_in c.in-SkoForAll.is, same) c.sko_holds-in-SkoForAll.ensures
 
 pub returns-in-Refl : goal.returns-in-Refl
 returns-in-Refl c g same = absurd (c.requires (number_of_rule c.args.s.rule REFL (c.in-Some.ensures ∙ ap rule_in c.in-Refl.is) (λ z. cc)))

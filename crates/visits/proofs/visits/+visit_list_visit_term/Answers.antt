@@ -95,43 +95,43 @@ visit_term-returns-in-Some-Variable t c =
     let read = arm (c.view.ensures ∙ c.scratch-scratch.ensures) c.term_words-words.ensures.0 c.of.ensures c.in-Some-Variable.is c.in-Some-Variable.field-0-is in
     term_variable c.requires read.0 read.1 c.close_variable.ensures.0 c.close_variable.ensures.1
 
--- ---- a quantifier
+-- ---- a binder
 
-pub visit_term-open_quantifier-requires : goal.visit_term-open_quantifier-requires
-visit_term-open_quantifier-requires t c =
+pub visit_term-open_binder-requires : goal.visit_term-open_binder-requires
+visit_term-open_binder-requires t c =
     let k = term_words_lem c.requires (within c.scratch-scratch.ensures c.counts.ensures) in
     (c.term_words-words.ensures.1.first, k.0)
 
 pub visit_term-returns-in_err-opened-in-Some-Binder : goal.visit_term-returns-in_err-opened-in-Some-Binder
 visit_term-returns-in_err-opened-in-Some-Binder t c =
     let read = arm (c.view.ensures ∙ c.scratch-scratch.ensures) c.term_words-words.ensures.0 c.of.ensures c.in-Some-Binder.is c.in-Some-Binder.field-0-is in
-    rw c.from_residual-in_err-opened-in-Some-Binder.ensures (scope_closed c.requires read.0 (kept_in c.args.kept.now) read.1 c.keeps.ensures c.open_quantifier.ensures c.in_err-opened-in-Some-Binder.was)
+    rw c.from_residual-in_err-opened-in-Some-Binder.ensures (scope_closed c.requires read.0 (kept_in c.args.kept.now) read.1 c.keeps.ensures c.open_binder.ensures c.in_err-opened-in-Some-Binder.was)
 
 pub visit_term-visit_term-requires : goal.visit_term-visit_term-requires
 visit_term-visit_term-requires t c =
     let read = arm (c.view.ensures ∙ c.scratch-scratch.ensures) c.term_words-words.ensures.0 c.of.ensures c.in-Some-Binder.is c.in-Some-Binder.field-0-is in
-    let k = scope_asks c.requires read.0 (kept_in c.args.kept.now) read.1 c.keeps.ensures c.open_quantifier.ensures c.in_ok-opened-in-Some-Binder.was in
+    let k = scope_asks c.requires read.0 (kept_in c.args.kept.now) read.1 c.keeps.ensures c.open_binder.ensures c.in_ok-opened-in-Some-Binder.was in
     (omega (arith, c.decreases, k.1), k.0)
 
 pub visit_term-returns-in_err-body-in-Some-Binder : goal.visit_term-returns-in_err-body-in-Some-Binder
 visit_term-returns-in_err-body-in-Some-Binder t c =
     let read = arm (c.view.ensures ∙ c.scratch-scratch.ensures) c.term_words-words.ensures.0 c.of.ensures c.in-Some-Binder.is c.in-Some-Binder.field-0-is in
     rw c.from_residual-in_err-body-in-Some-Binder.ensures
-    (scope_full c.requires read.0 (kept_in c.args.kept.now) read.1 c.keeps.ensures c.open_quantifier.ensures c.in_ok-opened-in-Some-Binder.was c.visit_term.ensures c.in_err-body-in-Some-Binder.was)
+    (scope_full c.requires read.0 (kept_in c.args.kept.now) read.1 c.keeps.ensures c.open_binder.ensures c.in_ok-opened-in-Some-Binder.was c.visit_term.ensures c.in_err-body-in-Some-Binder.was)
 
-pub visit_term-close_quantifier-requires : goal.visit_term-close_quantifier-requires
-visit_term-close_quantifier-requires t c =
+pub visit_term-close_binder-requires : goal.visit_term-close_binder-requires
+visit_term-close_binder-requires t c =
     let read = arm (c.view.ensures ∙ c.scratch-scratch.ensures) c.term_words-words.ensures.0 c.of.ensures c.in-Some-Binder.is c.in-Some-Binder.field-0-is in
     let w = within c.scratch-scratch.ensures c.counts.ensures in
     let k = term_words_lem c.requires w in
     let fits = subst VisitFits c.in_ok-body-in-Some-Binder.was c.visit_term.ensures.words in
-    (k.0, k.1, scope_word c.requires read.0 (kept_in c.args.kept.now) read.1 c.keeps.ensures c.open_quantifier.ensures c.in_ok-opened-in-Some-Binder.was c.term_words-words.ensures.1.first w, fits.0, fits.1)
+    (k.0, k.1, scope_word c.requires read.0 (kept_in c.args.kept.now) read.1 c.keeps.ensures c.open_binder.ensures c.in_ok-opened-in-Some-Binder.was c.term_words-words.ensures.1.first w, fits.0, fits.1)
 
 pub visit_term-returns-in_ok-body-in-Some-Binder : goal.visit_term-returns-in_ok-body-in-Some-Binder
 visit_term-returns-in_ok-body-in-Some-Binder t c =
     let read = arm (c.view.ensures ∙ c.scratch-scratch.ensures) c.term_words-words.ensures.0 c.of.ensures c.in-Some-Binder.is c.in-Some-Binder.field-0-is in
-    scope_done c.requires read.0 (kept_in c.args.kept.now) read.1 c.keeps.ensures c.open_quantifier.ensures c.in_ok-opened-in-Some-Binder.was c.visit_term.ensures c.in_ok-body-in-Some-Binder.was c.close_quantifier.ensures.0
-    c.close_quantifier.ensures.1
+    scope_done c.requires read.0 (kept_in c.args.kept.now) read.1 c.keeps.ensures c.open_binder.ensures c.in_ok-opened-in-Some-Binder.was c.visit_term.ensures c.in_ok-body-in-Some-Binder.was c.close_binder.ensures.0
+    c.close_binder.ensures.1
 
 -- ---- an application
 

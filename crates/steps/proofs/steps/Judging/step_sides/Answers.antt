@@ -2,10 +2,12 @@
 use mathlib.Core.Path.{◌≡◌, ap, ◌∙◌}
 use mathlib.Core.Bool.{true}
 use Rattle.bundle.specs.Bundle.{Bundle, Step}
-use mathlib.Core.Logic.{⊎_elim}
+use mathlib.Core.Logic.{◌⊎◌, ⊎_elim}
+use Rattle.logic.specs.declared.rules.Rule.{Rule as RuleName}
+use Rattle.logic.specs.declared.rules.Rule.TheVariants as name
 use Rattle.logic.specs.Named.{rule_in}
 use Rattle.logic.specs.Readings.{Reading}
-use Rattle.logic.specs.Rules.{Rule, REFL, CONG, LET, sides_by}
+use Rattle.logic.specs.Rules.{sides_by}
 use Rattle.images.specs.LentReading.{reading_in}
 use Rattle.steps.proofs.steps.Judging.step_sides.Goals as goal
 
@@ -20,24 +22,13 @@ returns-in-Bind c =
     rw (← c.self.view_is, c.in-Some.ensures ∙ ap rule_in c.in-Bind.is, c.bind_sides.ensures, c.sets-in-Bind.ensures.0, c.images.ensures.0)
 
 -- the other rules have none
-module _ (g : Reading) (b : Bundle) (s : Step) {r : Rule} where
-  refl_none : r ≡ REFL → true ≡ sides_by g b r s
-  unfolding sides_by
-  refl_none e = rw e
-
-  cong_none : r ≡ CONG → true ≡ sides_by g b r s
-  unfolding sides_by
-  cong_none e = rw e
-
-  let_none : r ≡ LET → true ≡ sides_by g b r s
-  unfolding sides_by
-  let_none e = rw e
+no_side : (g : Reading) (b : Bundle) (s : Step) (x : RuleName)
+    → (x ≡ name.Refl) ⊎ (x ≡ name.Cong) ⊎ (x ≡ name.Let) ⊎ (x ≡ name.SkoExists) ⊎ (x ≡ name.SkoForAll) → true ≡ sides_by g b (rule_in x) s
+unfolding sides_by
+no_side g b s x = ⊎_elim (λ e. rw e) (⊎_elim (λ e. rw e) (⊎_elim (λ e. rw e) (⊎_elim (λ e. rw e) (λ e. rw e))))
 
 pub returns-in-Refl : goal.returns-in-Refl
-returns-in-Refl c =
-    let rule = c.in-Some.ensures in
-    ⊎_elim (λ e. refl_none _ _ _ (rule ∙ ap rule_in e))
-    (⊎_elim (λ e. cong_none _ _ _ (rule ∙ ap rule_in e)) (λ e. let_none _ _ _ (rule ∙ ap rule_in e))) c.in-Refl.is
+returns-in-Refl c = rw c.in-Some.ensures (no_side _ _ _ c.in-Some.rule c.in-Refl.is)
 
 pub returns-in_default : goal.returns-in_default
 unfolding sides_by

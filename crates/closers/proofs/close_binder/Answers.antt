@@ -1,4 +1,4 @@
--- `close_quantifier` meets its contract: the term and its step are words.
+-- `close_binder` meets its contract: the term and its step are words.
 use mathlib.Core.Path.{subst}
 use mathlib.Core.List.{[], ◌∷◌}
 use Prim.Native.Nat.{ℕ}
@@ -10,7 +10,7 @@ use Rattle.placing.specs.Outcomes.{VisitOutcome}
 use Rattle.placing.proofs.OutcomeFacts.{outcome_done}
 use Rattle.placing.proofs.Placings.{binder_asks, list_word}
 use Rattle.closers.proofs.Closings.{concluded_is, concluded_fits}
-use Rattle.closers.proofs.close_quantifier.Goals as goal
+use Rattle.closers.proofs.close_binder.Goals as goal
 
 pub add_step-requires : goal.add_step-requires
 add_step-requires c =

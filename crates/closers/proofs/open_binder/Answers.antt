@@ -1,6 +1,6 @@
--- `closers::open_quantifier` meets its contract: the variable and its term are words.
+-- `closers::open_binder` meets its contract: the variable and its term are words.
 use Rattle.placing.proofs.Placings.{named_asks}
-use Rattle.closers.proofs.open_quantifier.Goals as goal
+use Rattle.closers.proofs.open_binder.Goals as goal
 
 pub open_renaming-requires : goal.open_renaming-requires
 open_renaming-requires c =
