@@ -1,5 +1,6 @@
 // The checks by name, in the order of their numbers; and which one fails.
-ghost use Rattle.std.specs.Prelude.{◌≡◌};
+ghost use Rattle.std.specs.Prelude.{◌≡◌, None, IfSome};
+ghost use Rattle.logic.specs.declared.checks.Check.{Check};
 ghost use Rattle.logic.specs.Failures.{check_number};
 
 // Where a check says what is wrong, it fails at the first record of which that is true.
@@ -52,6 +53,38 @@ pub enum Check {
 }
 
 impl Check {
+    // The check that has a number.
+    pub fn of(number: usize) -> Option<Check>
+        ensures some { IfSome result (λ c. check_number c ≡ number) }
+        ensures none { result ≡ None → (c : Check) → check_number c ≡ number → ⊥ }
+    {
+        match number {
+            1 => Some(Check::Length),
+            2 => Some(Check::Version),
+            3 => Some(Check::Limits),
+            4 => Some(Check::Area),
+            5 => Some(Check::Next),
+            6 => Some(Check::Declared),
+            7 => Some(Check::Refers),
+            8 => Some(Check::Sorted),
+            9 => Some(Check::New),
+            10 => Some(Check::Context),
+            11 => Some(Check::Settled),
+            12 => Some(Check::Step),
+            13 => Some(Check::Matches),
+            14 => Some(Check::Side),
+            15 => Some(Check::Claim),
+            16 => Some(Check::Room),
+            17 => Some(Check::Closed),
+            18 => Some(Check::Job),
+            19 => Some(Check::Text),
+            20 => Some(Check::Name),
+            21 => Some(Check::Pairs),
+            22 => Some(Check::Scope),
+            _ => None,
+        }
+    }
+
     // Its number.
     pub fn number(self) -> usize
         ensures { result ≡ check_number self }

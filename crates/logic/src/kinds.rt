@@ -1,7 +1,7 @@
 // The kinds of terms and the entries of contexts by name, with the numbers that records have for them.
-ghost use Rattle.std.specs.Prelude.{◌≡◌};
-ghost use Rattle.logic.specs.Terms.{number_of, kind_of, binds, is_binder, binder};
-ghost use Rattle.logic.specs.Contexts.{entry_number, entry_of};
+ghost use Rattle.std.specs.Prelude.{◌≡◌, [], ◌∷◌, map};
+ghost use Rattle.logic.specs.Terms.{number_of, kind_of, kinds, binds, is_binder, binder};
+ghost use Rattle.logic.specs.Contexts.{entry_number, entry_of, fixing, replacing};
 ghost use Rattle.logic.specs.Named.{binder_in, kind_in, kind_named, entry_in, entry_named};
 
 // ---- Terms
@@ -38,6 +38,13 @@ pub enum Kind {
 impl Kind {
     // How many numbers stand for kinds, from 1 on.
     pub const COUNT: usize = 6;
+
+    // Ties their count to the kinds in specs/.
+    fn numbers() -> [usize; Kind::COUNT]
+        ensures { result ≡ map number_of kinds }
+    {
+        [1, 2, 3, 4, 5, 6]
+    }
 
     // The kind that a number stands for. No `TryFrom`: nobody would read its error. So in `Entry` and `Rule`.
     #[tactic(auto, unfolding(crate::specs::Terms::kind_of))]
@@ -103,6 +110,14 @@ pub enum Entry {
 impl Entry {
     // How many numbers stand for entries, from 1 on.
     pub const COUNT: usize = 2;
+
+    // Ties their count to the entries in specs/.
+    #[tactic(auto, unfolding(crate::specs::Contexts::entry_of))]
+    fn numbers() -> [usize; Entry::COUNT]
+        ensures { map entry_of result ≡ fixing ∷ replacing ∷ [] }
+    {
+        [1, 2]
+    }
 
     // The entry that a number stands for.
     #[tactic(auto, unfolding(crate::specs::Contexts::entry_of))]

@@ -1,6 +1,6 @@
 // The rules by name, with the numbers that steps have for them.
-ghost use Rattle.std.specs.Prelude.{◌≡◌};
-ghost use Rattle.logic.specs.Rules.{rule_number, rule_of};
+ghost use Rattle.std.specs.Prelude.{◌≡◌, [], ◌∷◌, map};
+ghost use Rattle.logic.specs.Rules.{rule_number, rule_of, REFL, CONG, TRANS, BIND, LET, SKO_EXISTS, SKO_FOR_ALL};
 ghost use Rattle.logic.specs.Named.{rule_in, rule_named};
 
 #[derive(Clone, Copy, Debug, PartialEq, Eq)]
@@ -17,6 +17,14 @@ pub enum Rule {
 impl Rule {
     // How many numbers stand for rules, from 1 on.
     pub const COUNT: usize = 7;
+
+    // Ties their count to the rules in specs/.
+    #[tactic(auto, unfolding(crate::specs::Rules::rule_of))]
+    fn numbers() -> [usize; Rule::COUNT]
+        ensures { map rule_of result ≡ REFL ∷ CONG ∷ TRANS ∷ BIND ∷ LET ∷ SKO_EXISTS ∷ SKO_FOR_ALL ∷ [] }
+    {
+        [1, 2, 3, 4, 5, 6, 7]
+    }
 
     // The rule that a number stands for.
     #[tactic(auto, unfolding(crate::specs::Rules::rule_of))]

@@ -55,6 +55,13 @@ impl<'a> Text<'a> {
         Text { bytes, at: 0 }
     }
 
+    // What is left.
+    pub fn left(&self) -> &'a [u8]
+        ensures { result.now ≡ self.now }
+    {
+        &self.bytes[self.at..]
+    }
+
     // Whether nothing is left.
     pub fn is_empty(&self) -> bool
         ensures { result ≡ eqb (length self.now) 0 }
