@@ -2,7 +2,7 @@
 #![tactic(auto)]
 
 ghost use Rattle.std.specs.Prelude.{◌≡◌, ◌≤◌, length};
-ghost use Rattle.expansion.specs.Answer.{answer_in};
+ghost use Rattle.expansion.specs.Answer.{Written, answer_in};
 ghost use Rattle.expansion.specs.Expansion.{long_enough};
 ghost use Rattle.expansion.specs.AreasAfter.{kept, Zeroed};
 
@@ -25,6 +25,16 @@ pub fn long_enough(out: usize, words: usize, sets: usize) -> usize
     output + scratch + stack
 }
 
+// Zeros after the first `end` bytes of the output, and in the scratch and the stack.
+pub fn zero_after(end: usize, out: &mut [u8], words: &mut [u32], sets: &mut [u64])
+    requires { end ≤ length out.old }
+    ensures { Zeroed (Written end) out.old words.old sets.old out.new words.new sets.new }
+{
+    words.fill(0);
+    sets::clear(sets, 0, sets.len());
+    out[end..].fill(0);
+}
+
 // The end of every call that writes a file: zeros after the file, or in all of the output where there is none, and in the scratch and the stack.
 // The three areas are no struct: C lends them apart, and each has its own use inside, where a struct would be taken apart again.
 pub fn close(
@@ -38,8 +48,6 @@ pub fn close(
         sets.new }
 {
     let end = answer.unwrap_or(0);
-    words.fill(0);
-    sets::clear(sets, 0, sets.len());
-    out[end..].fill(0);
+    zero_after(end, out, words, sets);
     answer
 }

@@ -77,9 +77,7 @@ fn late_fault_in<'a>(
     Ok(pairs)
 }
 
-// The same with room of its own: PLACES places for rows, and WORDS words for sets. Each size is a function that stands apart: inlined side by side, their
-// rooms would add up in one frame, and a file would pay for rooms that it has no use for.
-#[inline(never)]
+// The same with room of its own: PLACES places for rows, and WORDS words for sets.
 fn late_fault_within<const PLACES: usize, const WORDS: usize>(
     sorted: &SortedBundle,
     free: &[u64],

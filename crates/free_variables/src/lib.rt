@@ -114,7 +114,9 @@ const ALL_WORDS: usize = Bundle::SET_WORDS * (Bundle::LINKS + 1);
 
 const ALL_MARKS: usize = Bundle::LINKS + 1;
 
-// The same with room of one of three sizes, for files with many variables. Two places call this: so the compiler keeps it, and its room, apart.
+// The same with room of one of three sizes, for files with many variables. It is kept apart, and its room with it: inlined, every file would pay for it in
+// stack.
+#[inline(never)]
 fn fitting_wide(bundle: &Bundle, area: &mut [u64], n: usize)
     requires { (1 ≤ n) × (n ≤ set_words) × (n * length bundle.now.terms ≤ length area.old) × (length bundle.now.variables ≤ 64 * n) }
     ensures { (length area.new ≡ length area.old)

@@ -55,6 +55,13 @@ impl<'a> Rows<'a> {
         }
     }
 
+    // What was lent, given back.
+    pub fn into_parts(self) -> (&'a mut [u16], &'a mut [u64])
+        ensures { (result.0.now ≡ self.entry.images) × (result.1.now ≡ self.entry.scopes) }
+    {
+        (self.images, self.scopes)
+    }
+
     pub fn images(&self) -> &[u16]
         ensures { result.now ≡ self.now.images }
     {

@@ -147,6 +147,13 @@ impl<'a> Uniting<'a> {
         }
     }
 
+    // What was lent, given back: the invariant still holds of it.
+    pub fn into_parts(self) -> (&'a mut [u64], &'a mut [u16])
+        ensures { Unions self.entry.bundle self.entry.n self.entry.t result.0.now result.1.now }
+    {
+        (self.lists, self.marks)
+    }
+
     pub fn bundle(&self) -> &'a Bundle<'a>
         ensures { result.now ≡ self.now.bundle }
     {

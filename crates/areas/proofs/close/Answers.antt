@@ -1,53 +1,35 @@
--- `areas::close` meets its contract: zeros in scratch and stack, then in the output from where the answer says.
+-- `areas::close` meets its contract: zeros from the end that the answer says, which is how many bytes are kept.
 use Rattle.std.proofs.Common.{rules}
-use Prim.Native.Nat.{ℕ, ◌-◌}
-use mathlib.Core.List.{List, [], ◌++◌, append-nil}
-use lib.ListN.{length, take, drop, replicate, length-drop}
-use Rattle.std.proofs.lemmas.List.{drop_all}
+use Prim.Native.Nat.{ℕ}
 use mathlib.Core.Path.{◌≡◌, refl, ◌∙◌}
 use native.Mathlib.Omega.{arith}
-use Rattle.std.specs.Prelude.{Result, Ok, Err}
+use Rattle.std.specs.Prelude.{Result, Ok, Err, List}
 use Rattle.std.specs.Result.{result_unwrap_or}
-use Rattle.sets.proofs.Cleared.{all_cleared}
 use Rattle.logic.specs.declared.checks.Failure.{Failure}
-use Rattle.expansion.specs.Answer.{answer_in}
-use Rattle.expansion.specs.AreasAfter.{kept}
+use Rattle.expansion.specs.Answer.{Written, answer_in}
+use Rattle.expansion.specs.AreasAfter.{kept, Zeroed}
 use Rattle.areas.proofs.close.Goals as goal
-
--- how many bytes are kept, as the code says it
-kept_is : (a : Result ℕ Failure) → result_unwrap_or a 0 ≡ kept (answer_in a)
-unfolding kept
-kept_is (Ok n) = refl
-kept_is (Err f) = refl
 
 -- where the zeros begin
 end_is : (a : Result ℕ Failure) {n : ℕ} → n ≡ result_unwrap_or a 0 → n ≡ kept (answer_in a)
-end_is a e = e ∙ kept_is a
+unfolding kept
+end_is (Ok n) e = e
+end_is (Err f) e = e
 
--- zeros from place n on
-tail_zeros : (out ys : List ℕ) (n : ℕ) → ys ≡ replicate (length out - n) 0
-    → take n out ++ (ys ++ drop (length out - n) (drop n out)) ≡ take n out ++ replicate (length out - n) 0
-tail_zeros out ys n e =
-    let past : drop (length out - n) (drop n out) ≡ [] = drop_all (length out - n) (drop n out) (omega (arith, length-drop n out)) in
-    rw (past, e, append-nil)
+-- zeros from one end on, by its other name
+moved : {n m : ℕ} {out words sets out' words' sets' : List ℕ} → n ≡ m → Zeroed (Written n) out words sets out' words' sets'
+    → Zeroed (Written m) out words sets out' words' sets'
+moved e z = rw (← e) z
 
-pub slice_bounds-fill-count : goal.slice_bounds-fill-count
-slice_bounds-fill-count c = omega (arith, end_is c.args.answer c.unwrap_or-end.ensures, c.requires)
+-- zeros after an end are those that the answer asks for
+zeroed : (a : Result ℕ Failure) {n : ℕ} {out words sets out' words' sets' : List ℕ} → n ≡ result_unwrap_or a 0 → Zeroed (Written n) out words sets out' words' sets'
+    → Zeroed (answer_in a) out words sets out' words' sets'
+unfolding kept
+zeroed (Ok n) e z = moved e z
+zeroed (Err f) e z = let at_none = moved e z in record { output = at_none.output; scratch = at_none.scratch; stack = at_none.stack }
 
-pub slice_bounds-fill-start : goal.slice_bounds-fill-start
-slice_bounds-fill-start c = omega (arith, end_is c.args.answer c.unwrap_or-end.ensures, c.requires)
+pub zero_after-requires : goal.zero_after-requires
+zero_after-requires c = omega (arith, end_is c.args.answer c.unwrap_or-end.ensures, c.requires)
 
 pub returns : goal.returns
-returns c = (
-  refl,
-  record {
-    output =
-        let n = c.unwrap_or-end.result in
-        let out = c.args.out.now in
-        let e = end_is c.args.answer c.unwrap_or-end.ensures in
-        let zeros : c.fill-2.new.self ≡ replicate (length out - n) 0 = search rules in
-        rw (← e) (tail_zeros out c.fill-2.new.self n zeros);
-    scratch = search rules;
-    stack = c.clear.ensures ∙ all_cleared _;
-  },
-)
+returns c = (refl, zeroed c.args.answer c.unwrap_or-end.ensures c.zero_after.ensures)
