@@ -1,6 +1,6 @@
 // What the binders crossed on the path say of a variable.
-ghost use Rattle.std.specs.Prelude.{◌≡◌, true, IfSome};
-ghost use Rattle.show_pairs.specs.Levels.{EndsWith};
+ghost use Rattle.std.specs.Prelude.{◌≡◌, IfSome};
+ghost use Rattle.show_pairs.specs.Levels.{term_on, word_on, binds_in, Crossed, EndsWith};
 
 use super::contexts::beside;
 use super::path::{Level, Side};
@@ -9,7 +9,9 @@ use free_variables::term_sets::TermSets;
 use logic::kinds::Kind;
 
 // Whether term t, a binder or a let, binds variable x.
-fn binds(bundle: &Bundle, t: usize, x: usize) -> bool {
+fn binds(bundle: &Bundle, t: usize, x: usize) -> bool
+    ensures { result ≡ binds_in bundle.now t x }
+{
     let kind = bundle.term_field(t, 0);
     let first = bundle.term_field(t, 1);
     match Kind::of(kind) {
@@ -26,7 +28,7 @@ pub fn nearest<'a>(
     side: Side,
     x: usize,
 ) -> Option<(Level, &'a [Level])>
-    ensures { IfSome result (λ r. EndsWith levels.now r.0 r.1.now × (r.0.in_body ≡ true)) }
+    ensures { IfSome result (λ r. EndsWith levels.now r.0 r.1.now × Crossed bundle.now r.0 (term_on side r.0) x) }
 {
     let k = levels.iter().rposition(|level| level.in_body && binds(bundle, level.term(side), x))?;
     Some((levels[k], &levels[k + 1..]))
@@ -39,7 +41,7 @@ pub fn nearest_by_number<'a>(
     side: usize,
     x: usize,
 ) -> Option<(Level, &'a [Level])>
-    ensures { IfSome result (λ r. EndsWith levels.now r.0 r.1.now × (r.0.in_body ≡ true)) }
+    ensures { IfSome result (λ r. EndsWith levels.now r.0 r.1.now × Crossed bundle.now r.0 (word_on side r.0) x) }
 {
     let place = levels.iter().rposition(|level| level.in_body
         && binds(bundle, level.word(side), x))?;

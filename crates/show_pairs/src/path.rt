@@ -2,7 +2,7 @@
 // are terms.
 ghost use Rattle.std.specs.Prelude.{◌≡◌, [], ◌∷◌, ◌++◌, ◌-◌, cond, length, take, ltb, slice_get};
 ghost use Rattle.bundle.specs.Limits.{limits};
-ghost use Rattle.show_pairs.specs.Levels.{term_on, word_at};
+ghost use Rattle.show_pairs.specs.Levels.{term_on, word_on};
 
 use arrayvec::ArrayVec;
 use bundle::Bundle;
@@ -37,8 +37,9 @@ impl Level {
     }
 
     // A word of it: its terms by their sides' numbers, the links, then 1 where the walk is in the bodies. None other is there.
+    #[tactic(auto, unfolding(crate::specs::Levels::word_on))]
     pub fn word(&self, place: usize) -> usize
-        ensures { result ≡ word_at place self.now }
+        ensures { result ≡ word_on place self.now }
     {
         match place {
             0 => self.left,
