@@ -1,3 +1,3 @@
 -- What the contracts cite.
---     Levels   the terms of a level
+--     Levels   the terms of a level, its words, what it binds, and where it stands
 pub mod Levels

@@ -1,4 +1,7 @@
 // What the binders crossed on the path say of a variable.
+ghost use Rattle.std.specs.Prelude.{◌≡◌, IfSome};
+ghost use Rattle.show_pairs.specs.Levels.{term_on, word_on, binds_in, Crossed, EndsWith};
+
 use super::contexts::beside;
 use super::path::{Level, Side};
 use bundle::Bundle;
@@ -6,7 +9,9 @@ use free_variables::term_sets::TermSets;
 use logic::kinds::Kind;
 
 // Whether term t, a binder or a let, binds variable x.
-fn binds(bundle: &Bundle, t: usize, x: usize) -> bool {
+fn binds(bundle: &Bundle, t: usize, x: usize) -> bool
+    ensures { result ≡ binds_in bundle.now t x }
+{
     let kind = bundle.term_field(t, 0);
     let first = bundle.term_field(t, 1);
     match Kind::of(kind) {
@@ -22,9 +27,25 @@ pub fn nearest<'a>(
     levels: &'a [Level],
     side: Side,
     x: usize,
-) -> Option<(Level, &'a [Level])> {
+) -> Option<(Level, &'a [Level])>
+    ensures { IfSome result (λ r. EndsWith levels.now r.0 r.1.now × Crossed bundle.now r.0 (term_on side r.0) x) }
+{
     let k = levels.iter().rposition(|level| level.in_body && binds(bundle, level.term(side), x))?;
     Some((levels[k], &levels[k + 1..]))
+}
+
+// The same by the side's number, 0 for the left and 1 for the right. Another has the word of a level that `Level::word` says taken for a term.
+pub fn nearest_by_number<'a>(
+    bundle: &Bundle,
+    levels: &'a [Level],
+    side: usize,
+    x: usize,
+) -> Option<(Level, &'a [Level])>
+    ensures { IfSome result (λ r. EndsWith levels.now r.0 r.1.now × Crossed bundle.now r.0 (word_on side r.0) x) }
+{
+    let place = levels.iter().rposition(|level| level.in_body
+        && binds(bundle, level.word(side), x))?;
+    Some((levels[place], &levels[place + 1..]))
 }
 
 // The variable on the right of a level that matches x, bound there on the left; `None` where a let lists none beside it.

@@ -2,7 +2,7 @@
 // are terms.
 ghost use Rattle.std.specs.Prelude.{◌≡◌, [], ◌∷◌, ◌++◌, ◌-◌, cond, length, take, ltb, slice_get};
 ghost use Rattle.bundle.specs.Limits.{limits};
-ghost use Rattle.show_pairs.specs.Levels.{term_on};
+ghost use Rattle.show_pairs.specs.Levels.{term_on, word_on};
 
 use arrayvec::ArrayVec;
 use bundle::Bundle;
@@ -33,6 +33,21 @@ impl Level {
         match side {
             Side::Left => self.left,
             Side::Right => self.right,
+        }
+    }
+
+    // A word of it: its terms by their sides' numbers, the links, then 1 where the walk is in the bodies. None other is there.
+    #[tactic(auto, unfolding(crate::specs::Levels::word_on))]
+    pub fn word(&self, place: usize) -> usize
+        ensures { result ≡ word_on place self.now }
+    {
+        match place {
+            0 => self.left,
+            1 => self.right,
+            2 => self.left_link,
+            3 => self.right_link,
+            4 => usize::from(self.in_body),
+            _ => 0,
         }
     }
 }

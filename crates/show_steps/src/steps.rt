@@ -104,3 +104,15 @@ pub fn sentence(bundle: &Bundle, left: usize, right: usize, failure: Failure) {
         _ => out::text(b"the area lent to the checker is too short"),
     }
 }
+
+// The same by number. One of no check has the sentence of 4.
+pub fn sentence_by_number(
+    bundle: &Bundle,
+    left: usize,
+    right: usize,
+    number: usize,
+    record: usize,
+) {
+    let check = Check::of(number).unwrap_or(Check::Area);
+    sentence(bundle, left, right, Failure { check, record });
+}

@@ -1,8 +1,9 @@
 // What a refusal by 22 means: a variable that is free in a side of a step, and that no entry of its context mentions.
+ghost use Rattle.std.specs.Prelude.{◌≡◌, None};
 
 use bundle::Bundle;
 use show_rules::chains::chain_of;
-use show_rules::strays::find;
+use show_rules::strays::{Stray, find};
 use show_text::out;
 
 // Where the context ends, and that no entry up to there mentions x.
@@ -35,15 +36,24 @@ fn advice(context: usize, t: usize, x: usize) {
     }
 }
 
+// Where no variable is stray the sentence names v0 and the right side.
+fn none_in(right: usize) -> Stray
+    ensures { (result.variable ≡ 0) × (result.term ≡ right) × (result.replacer ≡ None) }
+{
+    Stray {
+        variable: 0,
+        term: right,
+        replacer: None,
+    }
+}
+
 // 22: a free variable of a side that no entry mentions. Where 22 is the first check that fails, there is one.
 pub fn stray_step(bundle: &Bundle, k: usize) {
     let context = bundle.step_field(k, 1);
     let left = bundle.step_field(k, 2);
     let right = bundle.step_field(k, 3);
+    let stray = find(bundle, context, left, right).unwrap_or(none_in(right));
     out::name(b"step ", k);
-    let Some(stray) = find(bundle, context, left, right) else {
-        return;
-    };
     let x = stray.variable;
     let t = stray.term;
     let side = if t == left { "left" } else { "right" };

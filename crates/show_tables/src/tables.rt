@@ -29,6 +29,11 @@ pub fn word(check: Check) {
     }
 }
 
+// The same by number. One of no check has 15's word.
+pub fn word_by_number(number: usize) {
+    word(Check::of(number).unwrap_or(Check::Claim));
+}
+
 // ---- sentences of one shape: the numbers after a slice of words are what is printed, no length of the slice
 
 // `WHAT n, not 1 to most`.

@@ -1,5 +1,5 @@
 // How a line is shown around a byte: at most 60 bytes before it and 40 after it, control bytes as '?', and under it a line with a mark.
-ghost use Rattle.std.specs.Prelude.{◌≡◌, ◌+◌, ◌++◌, [], ◌∷◌, ◌≤◌, length, map};
+ghost use Rattle.std.specs.Prelude.{◌≡◌, ◌+◌, ◌++◌, [], ◌∷◌, ◌≤◌, length, take, map};
 ghost use Rattle.text_places.specs.Shown.{goes_on, shown_byte, under_byte, under};
 
 // A part that is shown has at most so many bytes before the mark's byte, and in all. Where it starts and stops is said by places in the text, since a byte's
@@ -64,15 +64,26 @@ fn shown_byte(b: u8) -> u8
     b
 }
 
-// A part of a line as it is shown, in an area.
-pub fn shown_line<'a>(part: &[u8], line: &'a mut [u8; 128]) -> &'a [u8]
+// A part of a line as it is shown, into an area. Gives the number of its bytes.
+pub fn shown_length(part: &[u8], line: &mut [u8; 128]) -> usize
     requires { length part.now ≤ 100 }
-    ensures { result.now ≡ map shown_byte part.now }
+    ensures few { result ≤ 128 }
+    ensures room { length line.new ≡ 128 }
+    ensures bytes { take result line.new ≡ map shown_byte part.now }
 {
     for (n, b) in part.iter().enumerate() {
         line[n] = shown_byte(*b);
     }
-    &line[..part.len()]
+    part.len()
+}
+
+// The same, and gives these bytes: what the area then holds is said above.
+pub fn shown_line<'a>(part: &[u8], line: &'a mut [u8; 128]) -> &'a [u8]
+    requires { length part.now ≤ 100 }
+    ensures { result.now ≡ map shown_byte part.now }
+{
+    let n = shown_length(part, line);
+    &line[..n]
 }
 
 // What stands under a character.
@@ -85,11 +96,13 @@ fn under_byte(b: u8) -> u8
     b' '
 }
 
-// What stands under a part, and then the mark, in an area: tabs as tabs, a space for any other character.
+// What stands under a part, and then the mark, into an area: tabs as tabs, a space for any other character. Gives the number of these bytes.
 #[tactic(auto, using(crate::proofs::ShownLaws::marking_more, crate::proofs::ShownLaws::marking_on), unfolding(crate::specs::Shown::under))]
-pub fn mark_line<'a>(part: &[u8], line: &'a mut [u8; 128]) -> &'a [u8]
+pub fn mark_length(part: &[u8], line: &mut [u8; 128]) -> usize
     requires { length part.now ≤ 60 }
-    ensures { result.now ≡ under part.now ++ (94 ∷ []) }
+    ensures few { result ≤ 128 }
+    ensures room { length line.new ≡ 128 }
+    ensures bytes { take result line.new ≡ under part.now ++ (94 ∷ []) }
 {
     let mut n = 0;
     for b in part {
@@ -99,5 +112,14 @@ pub fn mark_line<'a>(part: &[u8], line: &'a mut [u8; 128]) -> &'a [u8]
         }
     }
     line[n] = b'^';
-    &line[..n + 1]
+    n + 1
+}
+
+// The same, and gives these bytes.
+pub fn mark_line<'a>(part: &[u8], line: &'a mut [u8; 128]) -> &'a [u8]
+    requires { length part.now ≤ 60 }
+    ensures { result.now ≡ under part.now ++ (94 ∷ []) }
+{
+    let n = mark_length(part, line);
+    &line[..n]
 }

@@ -1,7 +1,7 @@
 // What a refusal says on standard error: a line with the numbers and what they mean; for a refused byte also its line and column, the text's line and a mark.
 #![tactic(auto)]
 
-ghost use Rattle.std.specs.Prelude.{◌≤◌, ◌<◌, length};
+ghost use Rattle.std.specs.Prelude.{◌+◌, ◌≤◌, ◌<◌, length};
 
 use bundle::Bundle;
 use logic::checks::{Check, Failure};
@@ -113,14 +113,14 @@ fn put_if(is_due: bool, words: &[u8]) {
     }
 }
 
-// A part of a line, with dots where more stands before or after it, and a mark under the byte that follows `before`, the part's start.
-fn show_part(part: &[u8], before: &[u8], is_cut_before: bool, is_cut_after: bool)
-    requires { (length part.now ≤ 100) × (length before.now ≤ 60) }
+// A part of a line, with dots where more stands before or after it, and a mark under its byte `at`.
+fn show_part(part: &[u8], at: usize, is_cut_before: bool, is_cut_after: bool)
+    requires { (at ≤ length part.now) × (at ≤ 60) × (length part.now ≤ at + 40) }
 {
     let mut line = [0u8; 128];
     let mut under = [0u8; 128];
     let shown = shown_line(part, &mut line);
-    let mark = mark_line(before, &mut under);
+    let mark = mark_line(&part[..at], &mut under);
     put_if(is_cut_before, b"...");
     put(shown);
     put_if(is_cut_after, b"...");
@@ -139,7 +139,7 @@ fn show_line(text: &[u8], at: usize)
     let end = line_end(text, at);
     let from = shown_from(text, start, at);
     let to = shown_to(text, at, end);
-    show_part(&text[from..to], &text[from..at], start < from, to < end);
+    show_part(&text[from..to], at - from, start < from, to < end);
 }
 
 // `line 1, column 13: `.
@@ -180,10 +180,32 @@ fn in_text(declarations: &[u8], text: &[u8], failure: Failure) {
     }
 }
 
-pub fn refusal(declarations: &[u8], text: &[u8], failure: Failure) {
-    print(format_args!("refused {} {}: ", failure.check.number(), failure.record));
+// The checks of a text are the last; 21 and 22, which it is not asked, are told as 19.
+fn tell(declarations: &[u8], text: &[u8], number: usize, failure: Failure) {
+    print(format_args!("refused {number} {}: ", failure.record));
     match failure.check {
-        Check::Text | Check::Name => in_text(declarations, text, failure),
+        Check::Text | Check::Name | Check::Pairs | Check::Scope => {
+            in_text(declarations, text, failure)
+        }
         _ => whole(failure),
     }
+}
+
+pub fn refusal(declarations: &[u8], text: &[u8], failure: Failure) {
+    tell(declarations, text, failure.check.number(), failure);
+}
+
+// The same by number. One of no check is told as 4 below the text's checks, and as 19 above.
+pub fn refusal_by_number(declarations: &[u8], text: &[u8], number: usize, record: usize) {
+    let check = match Check::of(number) {
+        Some(check) => check,
+        None => {
+            if number < Check::Text.number() {
+                Check::Area
+            } else {
+                Check::Text
+            }
+        }
+    };
+    tell(declarations, text, number, Failure { check, record });
 }

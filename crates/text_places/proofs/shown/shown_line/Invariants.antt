@@ -1,6 +1,0 @@
--- `shown::shown_line` meets its contract. The invariant: the bytes before the next are in the area, as they are shown.
-use Rattle.text_places.proofs.ShownLaws.{Showing}
-use Rattle.text_places.proofs.shown.shown_line.Given as goal
-
-abbrev pub invariant-loop-n : goal.invariant-loop-n
-invariant-loop-n l = Showing l.part l.line l.n
