@@ -9,6 +9,7 @@ use bundle::words::counts;
 use logic::checks::Check;
 
 // The file as a bundle; or what is wrong with it as a whole, or with an area of `lent` words where `required` are required.
+#[inline(always)]
 pub fn opened(file: &[u8], lent: usize, required: usize) -> Result<Bundle<'_>, Check>
     ensures number { number_in result ≡ header_fault file.now lent required }
     ensures bundle { IfOk result (λ b. b ≡ bundle_of file.now) }

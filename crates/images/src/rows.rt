@@ -12,13 +12,15 @@ use bundle::Bundle;
 use logic::kinds::Entry;
 use std::marker::Model;
 
-// Copies `count` places to others further on. Not by `copy_within`, with which whole checks took 31 % more instructions.
+// Copies `count` places to others further on. One by one, as rows are short: `copy_within` took 31 % more instructions of whole checks, and a copy between two
+// slices is a call of the C library's `memmove`, which the library for C would need then.
 fn copy_up<T: Copy>(places: &mut [T], from: usize, to: usize, count: usize)
     requires { (from + count ≤ to) × (to + count ≤ length places.old) }
     ensures { (length places.new ≡ length places.old) × CopiedTo places.old places.new from to count × SameBelow places.old places.new to }
 {
-    let (below, own) = places.split_at_mut(to);
-    own[..count].copy_from_slice(&below[from..from + count]);
+    for k in 0..count {
+        places[to + k] = places[from + k];
+    }
 }
 
 // The table of images and the two sets of each context, n words a set, in lent words.
