@@ -1,6 +1,6 @@
 // The walk of a REFL over pairs of terms, left to right and parent before child, to the first difference. This is for what show says: nothing is proved of
 // its result, and the checker's own walk is another.
-ghost use Rattle.std.specs.Prelude.{IfSome, ◌≤◌};
+ghost use Rattle.std.specs.Prelude.{IfSome, ◌≡◌, ◌≤◌, ◌<◌};
 
 use super::area::free_sets;
 use bundle::Bundle;
@@ -90,6 +90,13 @@ fn next_turn(bundle: &Bundle, level: &mut Level) -> Turn {
     }
 }
 
+// A pair to visit, where left is a number of a term: 0 is of none.
+fn pair_of(left: usize, right: usize) -> Option<(usize, usize)>
+    ensures { IfSome result (λ p. (0 < p.0) × (p.0 ≡ left) × (p.1 ≡ right)) }
+{
+    if left == 0 { None } else { Some((left, right)) }
+}
+
 // The walk, over the free sets of all terms.
 fn walk(sets: &TermSets, context: usize, left: usize, right: usize) -> End {
     let bundle = sets.bundle();
@@ -99,7 +106,7 @@ fn walk(sets: &TermSets, context: usize, left: usize, right: usize) -> End {
         reason: None,
     };
     let mut path = Path::new();
-    let mut pair = Some((left, right));
+    let mut pair = pair_of(left, right);
     let mut visited = 0;
     for _ in 0..TURNS {
         if let Some((l, r)) = pair {
@@ -125,7 +132,7 @@ fn walk(sets: &TermSets, context: usize, left: usize, right: usize) -> End {
         pair = match next_turn(bundle, &mut level) {
             Turn::Visit { left: l, right: r } => {
                 path.push(level);
-                Some((l, r))
+                pair_of(l, r)
             }
             Turn::Leave => None,
             Turn::Differ => {
