@@ -27,10 +27,11 @@ use std::marker::Model;
 pub const PLACES: usize = DIGESTS + Bundle::TERMS + 1;
 
 // A scratch of which all terms are filed by a digest, made of what terms are looked up by. A clause sees the bundle.
+// The index is lent: as a field of its own it would be moved with the struct, 6 KB by a call of the C library's `memcpy` each time.
 #[derive(Drop)]
 pub struct Filed<'a> {
     scratch: Scratch<'a>,
-    index: [u16; PLACES],
+    index: &'a mut [u16; PLACES],
 }
 
 impl<'a> Model for Filed<'a> {
@@ -41,7 +42,7 @@ impl<'a> Model for Filed<'a> {
 
     ghost view = { λ f. f.scratch };
 
-    ghost invariant = { λ f. Indexed f.scratch f.index };
+    ghost invariant = { λ f. Indexed f.scratch f.index.now };
 }
 
 // The same, lent for reading alone: terms are looked up in it. A type beside `Filed`, as `View` beside `Scratch`.
@@ -92,19 +93,19 @@ pub fn file_terms(scratch: &View<'_>, index: &mut [u16; PLACES])
 }
 
 impl<'a> Filed<'a> {
-    // Files all terms of a scratch.
-    pub fn of(scratch: Scratch<'a>) -> Filed<'a>
+    // Files all terms of a scratch in an index, whatever stood in it.
+    pub fn of(scratch: Scratch<'a>, index: &'a mut [u16; PLACES]) -> Filed<'a>
         requires { TablesFormed scratch }
         ensures { result ≡ scratch.entry }
     {
-        let mut index = [0u16; PLACES];
-        file_terms(&scratch.view(), &mut index);
+        *index = [0u16; PLACES];
+        file_terms(&scratch.view(), index);
         Filed::with(scratch, index)
     }
 
     // A scratch with the index of its terms, which is at hand.
-    pub fn with(scratch: Scratch<'a>, index: [u16; PLACES]) -> Filed<'a>
-        requires { Indexed scratch index }
+    pub fn with(scratch: Scratch<'a>, index: &'a mut [u16; PLACES]) -> Filed<'a>
+        requires { Indexed scratch index.old }
         ensures { result ≡ scratch.entry }
     {
         Filed { scratch, index }
@@ -120,7 +121,8 @@ impl<'a> Filed<'a> {
     pub fn index(&self) -> &[u16; PLACES]
         ensures { Indexed self.now result.now }
     {
-        &self.index
+        let index = &*self.index;
+        index
     }
 
     // The scratch given back.
@@ -134,7 +136,7 @@ impl<'a> Filed<'a> {
     pub fn view(&self) -> FiledView<'_>
         ensures { result ≡ self.now }
     {
-        FiledView::of(self.scratch.view(), &self.index)
+        FiledView::of(self.scratch.view(), self.index)
     }
 
     // ---- One record appended to a section that has room: as the scratch does, and a term is filed.
@@ -153,7 +155,7 @@ impl<'a> Filed<'a> {
     {
         let t = self.scratch.terms() + 1;
         self.scratch.append_term(term);
-        file_term(&mut self.index, d, t);
+        file_term(self.index, d, t);
     }
 }
 

@@ -6,7 +6,7 @@ ghost use Rattle.reader.specs.Storing.{Cleared, TextStored};
 use bundle::Bundle;
 use files::copies::copy_job;
 use files::stores::store_file;
-use filing::Filed;
+use filing::{Filed, PLACES};
 use formulas::texts::read_records;
 use logic::checks::{Check, Failure};
 use pass_formulas::texts::pass_text;
@@ -22,7 +22,8 @@ pub fn store_passed(
     ensures { (length out.new ≡ length out.old) × (length words.new ≡ length words.old)
         × IfSome result (λ n. TextStored bundle.now text.now out.old words.old out.new words.new (Written n)) }
 {
-    let mut filed = Filed::of(copy_job(bundle, words));
+    let mut index = [0u16; PLACES];
+    let mut filed = Filed::of(copy_job(bundle, words), &mut index);
     let term = pass_text(bundle, text, &mut filed)?;
     Some(store_file(&filed.scratch().view(), term, 0, out))
 }
@@ -38,7 +39,8 @@ pub fn store_checked(
     ensures { TextStored bundle.now text.now out.old words.old out.new words.new (answer_in result) }
 {
     super::texts::text_fault(bundle, text, out)?;
-    let mut filed = Filed::of(copy_job(bundle, words));
+    let mut index = [0u16; PLACES];
+    let mut filed = Filed::of(copy_job(bundle, words), &mut index);
     let read = read_records(bundle, text, &mut filed).ok_or(Check::Room)?;
     Ok(store_file(&filed.scratch().view(), read.term, 0, out))
 }

@@ -11,7 +11,7 @@ ghost use Rattle.expansion.specs.AreasAfter.{Left, Stored};
 use expansion::Names;
 use files::copies::copy_job;
 use files::stores::store_file;
-use filing::Filed;
+use filing::{Filed, PLACES};
 use logic::checks::{Check, Failure};
 use names::Kept;
 use visits::visits::visit_term;
@@ -34,7 +34,8 @@ fn store_job(
     jobs::job_fault(&bundle, sets)?;
     let left = bundle.claim_left();
     let kept = Kept::of(&bundle, names);
-    let mut filed = Filed::of(copy_job(&bundle, words));
+    let mut index = [0u16; PLACES];
+    let mut filed = Filed::of(copy_job(&bundle, words), &mut index);
     let visited = visit_term(&mut filed, sets, &kept, 0, 0, left).ok_or(Check::Room)?;
     Ok(store_file(&filed.scratch().view(), left, visited.result, out))
 }
