@@ -23,7 +23,7 @@ extern "C" {
  * always enough. It may hold anything before. Accepted: words 4*(i-1) to 4*(i-1)+3 are the free variables of term i, variables 1 to 64 in the first of
  * them and so on: bit (v-1)%64 of word 4*(i-1)+(v-1)/64 is set exactly where variable v is free in term i; the rest is zero. Refused: all zero.
  *
- * It takes at most 288 KB of stack, whatever the file; 128 KB where the file has at most 64 variables.
+ * It takes at most 288 KB of stack, whatever the file; 112 KB where the file has at most 64 variables.
  *
  * Both pointers are never null; with length 0 they may point anywhere that is aligned. The areas do not overlap. */
 uint64_t nezkaldo_check(const uint8_t *file, size_t file_length, uint64_t *free, size_t free_length);
